@@ -1,8 +1,8 @@
 pub mod Prefix
 pub mod Write
 pub mod Parse
-pub mod Answers
 pub mod PrefixLaws
 pub mod WriteLaws
 pub mod ParseLaws
+pub mod RoundTrip
 pub mod Cases

@@ -16,6 +16,16 @@ use native.Mathlib.Decide.{ℕ-discrete}
 use Rattle.atom.specs.Prefix.{least, mark}
 use Rattle.atom.specs.Parse.{ones, Size, sized, bad-size, one-byte, size-of, decode-size, Parse, blob, refused, whole, parse, moved-by, parse-at, blob-of}
 
+-- ---- leading ones
+
+pub no-one : (k b : ℕ) → b < 2 ^ k → ones (suc k) b ≡ 0
+unfolding ones
+no-one k b h = cond-true _ _ _ (lt-ltb b (2 ^ k) h)
+
+pub one-more : (k b : ℕ) → 2 ^ k ≤ b → ones (suc k) b ≡ suc (ones k (b - 2 ^ k))
+unfolding ones
+one-more k b h = cond-false _ _ _ (le-ltb b (2 ^ k) h)
+
 -- ---- the byte of a prefix that carries 1
 
 module _ (s : List ℕ) (p w : ℕ) where
@@ -67,6 +77,10 @@ module _ (w : ℕ) (s : List ℕ) where
 
 -- ---- an atom
 
+pub parse-nil : parse [] ≡ refused 14
+unfolding parse
+parse-nil = refl
+
 pub parse-single : (b : ℕ) (bs : List ℕ) → b < 0x80 → parse (b ∷ bs) ≡ blob 0 1
 unfolding parse
 parse-single b bs h = cond-true _ _ _ (lt-ltb b 0x80 h)
@@ -89,6 +103,25 @@ module _ (input : List ℕ) (p : ℕ) where
     unfolding parse-at
     at-prefixed l =
         rw (← length-drop p input, drop-cons input p 0 h) (ap (moved-by p) (parse-prefixed (getD input p 0) (drop (suc p) input) l))
+
+-- ---- the part that an atom is
+
+module _ (input : List ℕ) (start end : ℕ) where
+  pub blob-backward : end < start → blob-of input (blob start end) ≡ []
+  unfolding blob-of
+  blob-backward h = rw (lt-leb start end h)
+
+  pub blob-beyond : start ≤ end → length input < end → blob-of input (blob start end) ≡ []
+  unfolding blob-of
+  blob-beyond h k = rw (le-leb start end h, lt-leb end (length input) k)
+
+  pub blob-there : start ≤ end → end ≤ length input → blob-of input (blob start end) ≡ take (end - start) (drop start input)
+  unfolding blob-of part
+  blob-there h k = rw (le-leb start end h, le-leb end (length input) k)
+
+pub blob-refused : (input : List ℕ) (n : ℕ) → blob-of input (refused n) ≡ []
+unfolding blob-of
+blob-refused input n = refl
 
 -- ---- what an accepted prefix says
 

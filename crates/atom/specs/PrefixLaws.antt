@@ -110,6 +110,17 @@ none-on (suc n) w size k h = let m : 2 ^ size-bits w ≤ 2 ^ 34 = pow-mono {i = 
 pub width-none : (size : ℕ) → 2 ^ 34 ≤ size → width size ≡ none
 width-none size h = none-on 5 1 size (omega arith) h
 
+none-size : (n w size : ℕ) → w + suc n ≡ 6 → first-width (suc n) w size ≡ none → 2 ^ 34 ≤ size
+none-size zero w size k e =
+    by-lt size (2 ^ size-bits w) (λ q. absurd (Option·none-ne-some w (sym e ∙ first-here 0 w size q))) (λ q. let five : w ≡ 5 = omega arith in rw five at q)
+none-size (suc n) w size k e =
+    by-lt size (2 ^ size-bits w) (λ q. absurd (Option·none-ne-some w (sym e ∙ first-here (suc n) w size q)))
+    (λ q. none-size n (suc w) size (omega arith) (sym (first-on (suc n) w size q) ∙ e))
+
+-- Every size below 2^34 has a width.
+pub width-some : (size : ℕ) → size < 2 ^ 34 → width size ≡ none → ⊥
+width-some size h e = omega (arith, none-size 4 1 size (omega arith) e)
+
 -- ---- an atom's width
 
 pub single-one : (atom : List ℕ) → length atom ≡ 1 → single atom ≡ ltb (getD atom 0 0) 0x80

@@ -24,9 +24,12 @@ module _ (atom : List ℕ) where
   width-of-single e = cond-true _ _ _ e
 
   module _ (other : single atom ≡ false) where
-    pub width-of-large : 2 ^ 34 ≤ length atom → prefix-width atom ≡ none
+    pub width-of-none : width (length atom) ≡ none → prefix-width atom ≡ none
     unfolding prefix-width
-    width-of-large h = cond-false _ _ _ other ∙ width-none (length atom) h
+    width-of-none e = cond-false _ _ _ other ∙ e
+
+    pub width-of-large : 2 ^ 34 ≤ length atom → prefix-width atom ≡ none
+    width-of-large h = width-of-none (width-none (length atom) h)
 
     pub width-of-sized : (w : ℕ) → width (length atom) ≡ some w → prefix-width atom ≡ some w
     unfolding prefix-width

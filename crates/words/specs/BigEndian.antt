@@ -67,7 +67,7 @@ pub big-endian-number : (bs : List ℕ) → Bytes bs → big-endian (length bs) 
 unfolding big-endian
 big-endian-number bs h = ap (λ (j : ℕ). big-endian j (number bs)) (sym (zero-add (length bs))) ∙ big-endian-after 0 0 bs h
 
-number-after-bound : (a : ℕ) (bs : List ℕ) → Bytes bs → number-after a bs < (a + 1) * 256 ^ length bs
+pub number-after-bound : (a : ℕ) (bs : List ℕ) → Bytes bs → number-after a bs < (a + 1) * 256 ^ length bs
 unfolding number-after
 number-after-bound a [] h = omega arith
 number-after-bound a (b ∷ bs) h =
@@ -75,6 +75,16 @@ number-after-bound a (b ∷ bs) h =
     let j : (a * 256 + b + 1) * 256 ^ length bs ≤ (a + 1) * 256 * 256 ^ length bs = mul-le-mul-right (256 ^ length bs) (omega (arith, h .0)) in
     let e : (a + 1) * 256 ^ suc (length bs) ≡ (a + 1) * 256 * 256 ^ length bs =
     ap (λ (x : ℕ). (a + 1) * x) (pow-succ' 256 (length bs)) ∙ sym (mul-assoc (a + 1) 256 (256 ^ length bs)) in
+    omega arith
+
+-- The bytes only add to what stands before them.
+pub number-after-low : (a : ℕ) (bs : List ℕ) → a * 256 ^ length bs ≤ number-after a bs
+unfolding number-after
+number-after-low a [] = omega arith
+number-after-low a (b ∷ bs) =
+    let i : (a * 256 + b) * 256 ^ length bs ≤ number-after (a * 256 + b) bs = number-after-low (a * 256 + b) bs in
+    let j : a * 256 * 256 ^ length bs ≤ (a * 256 + b) * 256 ^ length bs = mul-le-mul-right (256 ^ length bs) (omega arith) in
+    let e : a * 256 ^ suc (length bs) ≡ a * 256 * 256 ^ length bs = ap (λ (x : ℕ). a * x) (pow-succ' 256 (length bs)) ∙ sym (mul-assoc a 256 (256 ^ length bs)) in
     omega arith
 
 pub number-bound : (bs : List ℕ) → Bytes bs → number bs < 256 ^ length bs

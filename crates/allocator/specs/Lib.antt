@@ -1,0 +1,5 @@
+pub mod Handle
+pub mod HandleLaws
+pub mod SmallAtom
+pub mod SmallAtomLaws
+pub mod Cases

@@ -1,0 +1,5 @@
+pub mod Aligning
+pub mod Building
+pub mod Counting
+pub mod Marked
+pub mod Smear

@@ -1,0 +1,9 @@
+pub mod BitSet
+pub mod BitSetLaws
+pub mod Bytes
+pub mod BytesLaws
+pub mod Measure
+pub mod Traverse
+pub mod TraverseLaws
+pub mod Builder
+pub mod BuilderLaws

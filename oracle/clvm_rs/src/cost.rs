@@ -1,0 +1,1 @@
+pub type Cost = u64;

@@ -1,0 +1,858 @@
+//! Cases of 01's "Corners, file by file" and of its questions, each run on the
+//! unchanged Rust and compared with what 01 says.
+
+use crate::hex;
+use crate::leaves::{parse_blob, path_of_bits};
+use crate::node::{NIL, PAIR, SMALL, handle};
+use crate::plain::{self, Interner};
+use crate::reading::{self, ReadAnswer};
+use crate::session::{self, MAX_OUTPUT, SessionAnswer, SessionFile, Step};
+use bumpalo::Bump;
+use clvm_rs::serde::{ChildPos, PathBuilder};
+
+/// A case's name and, where it differs, what came out.
+pub type Case = (String, Result<(), String>);
+
+struct Cases(Vec<Case>);
+
+impl Cases {
+    fn equal<T: PartialEq + std::fmt::Debug>(&mut self, name: &str, got: T, expected: T) {
+        let result = if got == expected {
+            Ok(())
+        } else {
+            Err(format!("got {got:?}, 01 says {expected:?}"))
+        };
+        self.0.push((name.to_string(), result));
+    }
+
+    /// The number, and for 0 the tree in full.
+    fn read(&mut self, name: &str, input: &str, number: u32, in_full: &str) {
+        let input = hex::bytes(input);
+        let r = reading::read(&input);
+        let tree = match plain::read(&input) {
+            Ok(p) if r.number == 0 => {
+                let mut i = Interner::default();
+                if i.reading(&r) == i.tree(&p.forest, p.root) {
+                    let bytes = p.forest.in_full(p.root, 1000);
+                    bytes.map_or("too large".to_string(), |b| hex::encode(&b))
+                } else {
+                    "another tree than the plain reader's".to_string()
+                }
+            }
+            _ => String::new(),
+        };
+        let expected = hex::encode(&hex::bytes(in_full));
+        self.equal(name, (r.number, tree), (number, expected));
+        if number != 0 {
+            self.equal(
+                &format!("{name}: nothing is given"),
+                r,
+                ReadAnswer::refused(number),
+            );
+        }
+    }
+
+    fn session(&mut self, name: &str, s: &SessionFile, number: u32, words: &[u32], output: &str) {
+        self.limited(name, s, MAX_OUTPUT, number, words, output);
+    }
+
+    fn limited(
+        &mut self,
+        name: &str,
+        s: &SessionFile,
+        output_length: usize,
+        number: u32,
+        words: &[u32],
+        output: &str,
+    ) {
+        let r = session::run(&s.to_bytes(), output_length, true);
+        self.equal(
+            name,
+            (r.number, r.words, hex::encode(&r.output)),
+            (number, words.to_vec(), hex::encode(&hex::bytes(output))),
+        );
+    }
+}
+
+/// A file made by hand: foobar is atom 0, the sentinel small atom 7.
+struct File(SessionFile);
+
+const S: u32 = SMALL << 26 | 7;
+const FOOBAR: u32 = 1 << 26;
+
+fn small(v: u32) -> u32 {
+    handle(SMALL, v)
+}
+
+impl File {
+    fn new() -> Self {
+        Self(SessionFile {
+            atoms: vec![b"foobar".to_vec()],
+            sentinel: Some(S),
+            ..SessionFile::default()
+        })
+    }
+
+    fn pair(&mut self, left: u32, right: u32) -> u32 {
+        self.0.pairs.push((left, right));
+        handle(PAIR, self.0.pairs.len() as u32 - 1)
+    }
+
+    fn adds(mut self, handles: &[u32]) -> SessionFile {
+        self.0.steps = handles.iter().map(|h| Step::Add(*h)).collect();
+        self.0
+    }
+
+    fn steps(mut self, steps: Vec<Step>) -> SessionFile {
+        self.0.steps = steps;
+        self.0
+    }
+}
+
+fn run(s: &SessionFile) -> SessionAnswer {
+    session::run(&s.to_bytes(), MAX_OUTPUT, true)
+}
+
+fn parse_atom(c: &mut Cases) {
+    c.read("81 7f gets 15", "817f", 15, "");
+    c.read("81 80 is the atom 80", "8180", 0, "8180");
+    c.read("81 alone gets 14", "81", 14, "");
+    let atom63 = "61".repeat(63);
+    let atom64 = "61".repeat(64);
+    c.read(
+        "c0 3f and 63 bytes gets 15",
+        &format!("c03f{atom63}"),
+        15,
+        "",
+    );
+    c.read(
+        "c0 40 and 64 bytes is accepted",
+        &format!("c040{atom64}"),
+        0,
+        &format!("c040{atom64}"),
+    );
+    c.read("fc 00 00 00 00 00 gets 15", "fc0000000000", 15, "");
+    c.read("fc 04 00 00 00 00 gets 14", "fc0400000000", 14, "");
+    let mut six = vec![];
+    for first in [0xfc, 0xfd_u8] {
+        for b in 0..=255_u8 {
+            for rest in [[0; 4], [0xff; 4], [0, 0, 0, 1]] {
+                let mut p = vec![first, b];
+                p.extend(rest);
+                p.extend([0x80; 70]);
+                six.push(parse_blob(&p));
+                six.push(parse_blob(&p[..6]));
+            }
+        }
+    }
+    c.equal(
+        "a six-byte prefix is never accepted",
+        six.iter().filter(|r| r.is_ok()).count(),
+        0,
+    );
+    // the least size of each width, and one less
+    for (name, blob, expected) in [
+        ("least size of width 2", "c040", Err(14)),
+        ("below width 2", "c03f", Err(15)),
+        ("least size of width 3", "e02000", Err(14)),
+        ("below width 3", "e01fff", Err(15)),
+        ("least size of width 4", "f0100000", Err(14)),
+        ("below width 4", "f00fffff", Err(15)),
+        ("least size of width 5", "f808000000", Err(14)),
+        ("below width 5", "f807ffffff", Err(15)),
+        ("seven ones", "fe000000000000", Err(14)),
+        ("eight ones", "ff", Err(14)),
+    ] {
+        c.equal(name, parse_blob(&hex::bytes(blob)), expected);
+    }
+}
+
+fn de_br(c: &mut Cases) {
+    c.read("empty input gets 14", "", 14, "");
+    c.read("80 80 gets 14", "8080", 14, "");
+    c.read("fe 01 alone is nil", "fe01", 0, "80");
+    c.read("fe 80 alone is nil", "fe80", 0, "80");
+    c.read("an all-zero path is nil", "ff01fe00", 0, "ff0180");
+    c.read(
+        "an all-zero path of two bytes is nil",
+        "ff01fe820000",
+        0,
+        "ff0180",
+    );
+    c.read("fe 02 alone gets 16", "fe02", 16, "");
+    c.read(
+        "ff 01 fe 01 is the whole stack",
+        "ff01fe01",
+        0,
+        "ff01ff0180",
+    );
+    c.read("ff 01 fe 03 is (1 . nil)", "ff01fe03", 0, "ff0180");
+    c.read("ff 01 fe 04 gets 16", "ff01fe04", 16, "");
+    c.read(
+        "leading zero bytes are skipped",
+        "ff01fe820003",
+        0,
+        "ff0180",
+    );
+    c.read("leading zero bytes, then 16", "ff01fe83000004", 16, "");
+    // a path's atom before its walk, bytes left over last
+    c.read("15 of a path before its walk", "fe8102", 15, "");
+    c.read("16 before bytes left over", "fe0280", 16, "");
+    c.read("16 before a later 15", "fffe02817f", 16, "");
+    c.read("15 before a later 16", "ff817ffe02", 15, "");
+    // nothing of the cached list outlives its value
+    c.read(
+        "the stack again after a cons",
+        "ffff01fe01fe01",
+        0,
+        "ffff01ff0180ffff01ff018080",
+    );
+}
+
+fn tree_cache(c: &mut Cases) {
+    // abc is small atom 616263
+    let mut f = File::new();
+    let p = f.pair(small(0x616263), small(0x616263));
+    c.session("(abc . abc)", &f.adds(&[p]), 0, &[15], "ff83616263fe02");
+
+    let mut f = File::new();
+    let p = f.pair(small(0x6162), small(0x6162));
+    c.session("(ab . ab)", &f.adds(&[p]), 0, &[15], "ff826162826162");
+
+    let mut f = File::new();
+    let p = f.pair(NIL, NIL);
+    c.session("(nil . nil)", &f.adds(&[p]), 0, &[7], "ff8080");
+
+    // P = (S . foobar) is written, filled and written again: never a reference
+    let mut f = File::new();
+    let p = f.pair(S, FOOBAR);
+    let a = f.pair(p, S);
+    let s = f.adds(&[a, small(1), p, small(1)]);
+    c.session(
+        "length 0 stays after filling",
+        &s,
+        0,
+        &[4, 20, 22, 29],
+        "ffff0186666f6f626172ff01fe0d",
+    );
+
+    // 70 doublings: the sum of lengths stops at 2^64 - 1
+    for levels in [60_u32, 61, 62, 63, 70] {
+        let mut f = File::new();
+        let mut d = FOOBAR;
+        for _ in 0..levels {
+            d = f.pair(d, d);
+        }
+        let s = f.adds(&[d]);
+        let expected = format!(
+            "{}86666f6f626172{}",
+            "ff".repeat(levels as usize),
+            "fe02".repeat(levels as usize)
+        );
+        let size = 3 * levels + 7;
+        c.session(
+            &format!("{levels} doublings"),
+            &s,
+            0,
+            &[size * 2 + 1],
+            &expected,
+        );
+    }
+    let mut f = File::new();
+    let mut d = FOOBAR;
+    let mut e = small(0x616263);
+    for _ in 0..70 {
+        d = f.pair(d, d);
+        e = f.pair(e, e);
+    }
+    let p = f.pair(d, e);
+    let q = f.pair(d, e);
+    let r = f.pair(p, q);
+    let s = f.adds(&[r]);
+    let back = reading::read(&run(&s).output);
+    let filling = plain::fill(&s).expect("no undo");
+    let mut i = Interner::default();
+    c.equal(
+        "sums stop at 2^64 - 1, read back",
+        (back.number, i.reading(&back)),
+        (0, i.tree(&filling.forest, filling.root)),
+    );
+
+    // parents: P0 = (foobar . nil) is foobar's first parent; chain pair i has
+    // entry 7 + i, with foobar left or right
+    let chain_case = |n: u32, right: bool| {
+        let mut f = File::new();
+        let p0 = f.pair(FOOBAR, NIL);
+        let a = f.pair(p0, S);
+        let d = f.pair(FOOBAR, small(2));
+        let mut chain = small(1);
+        for _ in 0..n {
+            chain = if right {
+                f.pair(chain, FOOBAR)
+            } else {
+                f.pair(FOOBAR, chain)
+            };
+        }
+        let b = f.pair(d, chain);
+        let r = run(&f.adds(&[a, b]));
+        // after ff ff 86 foobar 80 and B's ff ff: foobar in D
+        hex::encode(&r.output[12..14])
+    };
+    c.equal(
+        "parents, left: slot 0 kept",
+        chain_case(192, false),
+        "fe04".to_string(),
+    );
+    c.equal(
+        "parents, left: slot 0 overwritten",
+        chain_case(193, false),
+        "8666".to_string(),
+    );
+    c.equal(
+        "parents, right: slot 0 kept",
+        chain_case(191, true),
+        "fe04".to_string(),
+    );
+    c.equal(
+        "parents, right: slot 0 overwritten",
+        chain_case(192, true),
+        "8666".to_string(),
+    );
+    c.equal(
+        "parents: 100 are kept",
+        chain_case(98, false),
+        "fe04".to_string(),
+    );
+    c.equal(
+        "parents: the next go to other slots",
+        chain_case(150, false),
+        "fe04".to_string(),
+    );
+
+    // the sentinel's parent moves to the end of foobar's list
+    let moved_case = |n: u32, twins: bool| {
+        let mut f = File::new();
+        let p0 = f.pair(FOOBAR, NIL);
+        let mut chain = small(1);
+        for _ in 0..n {
+            chain = f.pair(FOOBAR, chain);
+        }
+        if twins {
+            // n handles of (foobar . 1), in a list
+            f.0.pairs.truncate(1);
+            let all: Vec<u32> = (0..n).map(|_| f.pair(FOOBAR, small(1))).collect();
+            chain = all.iter().fold(NIL, |t, p| f.pair(*p, t));
+        }
+        let rest = f.pair(S, chain);
+        let a = f.pair(p0, rest);
+        let r = run(&f.adds(&[a, FOOBAR]));
+        hex::encode(&r.output[11..13])
+    };
+    c.equal(
+        "moved parent: the list holds 100",
+        moved_case(98, false),
+        "fe04".to_string(),
+    );
+    c.equal(
+        "moved parent: the front is dropped",
+        moved_case(99, false),
+        "8666".to_string(),
+    );
+    c.equal(
+        "second handles add parents, 100",
+        moved_case(98, true),
+        "fe04".to_string(),
+    );
+    c.equal(
+        "second handles add parents, 101",
+        moved_case(99, true),
+        "8666".to_string(),
+    );
+
+    // search: distance on the stack, limits
+    let list_case = |x: &[u8], between: usize| {
+        let mut f = File::new();
+        f.0.sentinel = None;
+        f.0.atoms = vec![x.to_vec()];
+        let mut t = FOOBAR;
+        for i in 0..between {
+            t = f.pair(small(i as u32 % 100 + 1), t);
+        }
+        let t = f.pair(FOOBAR, t);
+        let r = run(&f.adds(&[t]));
+        let written = x.len() + if x.len() < 64 { 1 } else { 2 };
+        let at = 1 + written + 2 * between;
+        hex::encode(&r.output[at..])
+    };
+    let x = b"\x80bcd";
+    c.equal(
+        "distance 0 on the stack",
+        list_case(x, 0),
+        "fe02".to_string(),
+    );
+    c.equal(
+        "distance 2 on the stack",
+        list_case(x, 2),
+        "fe0b".to_string(),
+    );
+    let four = b"\x80bc";
+    c.equal("a path of 7 bits", list_case(four, 5), "fe5f".to_string());
+    c.equal("a path of 8 bits", list_case(four, 6), "fe81bf".to_string());
+    c.equal(
+        "a path of 16 bits, as long as the atom",
+        list_case(four, 14),
+        "fe82bfff".to_string(),
+    );
+    c.equal(
+        "a path of 17 bits isn't used",
+        list_case(four, 15),
+        "83806263".to_string(),
+    );
+    let mut long = vec![0x80; 140];
+    long[1] = 0x33;
+    let reference = list_case(&long, 1022);
+    c.equal(
+        "1,024 visits: a path of 1,024 bits",
+        reference,
+        format!("fec080bf{}", "ff".repeat(127)),
+    );
+    c.equal(
+        "visit 1,025 ends the search",
+        list_case(&long, 1023),
+        format!("c08c{}", hex::encode(&long)),
+    );
+}
+
+/// x at the bottom of the stack, `far` values above it, then x again: what is
+/// written for it.
+fn far_case(size: usize, far: usize) -> String {
+    let mut f = File::new();
+    f.0.atoms = vec![vec![0x80; size]];
+    let mut adds = vec![f.pair(FOOBAR, S)];
+    let mut chain = vec![S];
+    for i in 0..1023 {
+        let p = f.pair(small(1), chain[i]);
+        chain.push(p);
+    }
+    let mut left = far;
+    while left > 0 {
+        let n = left.min(1023);
+        adds.push(chain[n]);
+        left -= n;
+    }
+    adds.push(FOOBAR);
+    let r = run(&f.adds(&adds));
+    assert_eq!((r.number, r.words.last().map(|w| w % 2)), (0, Some(1)));
+    hex::encode(&r.output[1 + 2 + size + 2 * far..][..4])
+}
+
+fn path_builder(c: &mut Cases) {
+    c.equal(
+        "a path of 511 bytes counts 513: used for 514",
+        far_case(512, 4085),
+        "fec1ff5f".into(),
+    );
+    c.equal(
+        "a path of 511 bytes counts 513: not for 513",
+        far_case(511, 4085),
+        "c1ff8080".into(),
+    );
+    c.equal(
+        "a path of 512 bytes counts 515: used for 516",
+        far_case(514, 4092),
+        "fec2002f".into(),
+    );
+    c.equal(
+        "a path of 512 bytes counts 515: not for 515",
+        far_case(513, 4092),
+        "c2018080".into(),
+    );
+
+    let length_of = |first: u8| {
+        let bits = (0..8).map(|i| first >> (7 - i) & 1 == 1);
+        path_of_bits(bits)
+    };
+    c.equal("a full byte of 79", length_of(79), (8, 1, vec![79]));
+    c.equal(
+        "a full byte of 80, decimal",
+        length_of(80),
+        (8, 2, vec![80]),
+    );
+    c.equal("a full byte of 80", length_of(0x80), (8, 2, vec![0x80]));
+    c.equal("no bits", path_of_bits([].into_iter()), (0, 1, vec![]));
+    c.equal(
+        "seven bits",
+        path_of_bits([true; 7].into_iter()),
+        (7, 1, vec![0x7f]),
+    );
+    c.equal(
+        "right-aligned in bytes",
+        path_of_bits(
+            [
+                true, false, true, true, false, false, true, true, false, true,
+            ]
+            .into_iter(),
+        ),
+        (10, 3, vec![0x02, 0xcd]),
+    );
+
+    // prefix bytes counted for a path of so many bytes
+    let marks: [(u32, u32); 12] = [
+        (1, 1),
+        (2, 1),
+        (63, 1),
+        (64, 2),
+        (511, 2),
+        (512, 3),
+        (8191, 3),
+        (8192, 3),
+        (1_048_575, 3),
+        (1_048_576, 5),
+        (16_777_215, 5),
+        (16_777_216, 4),
+    ];
+    let arena = Bump::new();
+    let mut p = PathBuilder::default();
+    let mut bytes = 0;
+    for (n, prefix) in marks {
+        while bytes < n {
+            for _ in 0..8 {
+                p.push(&arena, ChildPos::Right);
+            }
+            bytes += 1;
+        }
+        c.equal(
+            &format!("serialized_length of {n} path bytes"),
+            p.serialized_length(),
+            n + prefix,
+        );
+    }
+}
+
+fn incremental(c: &mut Cases) {
+    // B = foobar, A = ((S . nil) . B), C = (B . nil)
+    let mut f = File::new();
+    let sn = f.pair(S, NIL);
+    let a = f.pair(sn, FOOBAR);
+    let cc = f.pair(FOOBAR, NIL);
+    let s = f.steps(vec![
+        Step::Add(a),
+        Step::Add(FOOBAR),
+        Step::Restore(1),
+        Step::Add(cc),
+    ]);
+    let bytes = "ffffff86666f6f6261728080fe04";
+    c.session("undo keeps moved parents", &s, 0, &[4, 25, 4, 29], bytes);
+    // ((C . nil) . C) with C = (foobar . nil)
+    let c_full = "ff86666f6f62617280";
+    c.read(
+        "undo's bytes read back",
+        bytes,
+        0,
+        &format!("ffff{c_full}80{c_full}"),
+    );
+
+    // after the restore before the first add the sentinel's entry is known:
+    // its parent moves to foobar, and the path leads into (1 . nil)
+    let mut f = File::new();
+    let a = f.pair(S, NIL);
+    let t = f.pair(a, S);
+    let t = f.pair(small(9), t);
+    let r = f.pair(FOOBAR, t);
+    let s = f.steps(vec![
+        Step::Add(a),
+        Step::Restore(0),
+        Step::Add(FOOBAR),
+        Step::Restore(0),
+        Step::Add(r),
+        Step::Add(small(1)),
+        Step::Add(FOOBAR),
+    ]);
+    c.session(
+        "undo before the first add: the sentinel is known",
+        &s,
+        0,
+        &[2, 0, 15, 0, 24, 28, 33],
+        "ff86666f6f626172ff09ffff0180fe04",
+    );
+    // without the first two steps the reference goes to foobar on the stack
+    let fresh = SessionFile {
+        steps: s.steps[2..].to_vec(),
+        ..s.clone()
+    };
+    c.session(
+        "the same from a fresh session",
+        &fresh,
+        0,
+        &[15, 0, 24, 28, 33],
+        "ff86666f6f626172ff09ffff0180fe0b",
+    );
+
+    let mut f = File::new();
+    let p = f.pair(FOOBAR, S);
+    let s = f.adds(&[S, p, S, S, FOOBAR]);
+    c.session(
+        "adding the sentinel writes nothing",
+        &s,
+        0,
+        &[0, 16, 16, 16, 21],
+        "ff86666f6f626172fe02",
+    );
+}
+
+fn session_file(c: &mut Cases) {
+    let whole = hex::bytes(
+        "42 52 53 00 01 00 01 00 06 66 6f 6f 62 61 72 00 02 08 00 00 00 08 00 00 00 04 00 00 00 \
+         00 00 00 00 00 00 00 00 01 00 00 00 01 01 04 00 00 00",
+    );
+    let r = session::run(&whole, MAX_OUTPUT, true);
+    c.equal(
+        "the whole case",
+        session::print(&r),
+        "1 8 0\n2 10 1\nff86666f6f626172fe02\n".to_string(),
+    );
+    for (length, number, size, steps) in [
+        (10, 0, 10, 2),
+        (9, 13, 8, 1),
+        (8, 13, 8, 1),
+        (7, 13, 1, 0),
+        (1, 13, 1, 0),
+        (0, 13, 0, 0),
+    ] {
+        let r = session::run(&whole, length, true);
+        c.equal(
+            &format!("the whole case in {length} bytes"),
+            (r.number, r.output.len(), r.words.len()),
+            (number, size, steps),
+        );
+    }
+    let s = session::parse(&whole).expect("the whole case");
+    c.equal("the whole case, premises", plain::premises(&s), Ok(()));
+    let filling = plain::fill(&s).expect("no undo");
+    c.equal(
+        "the whole case, filled",
+        filling
+            .forest
+            .in_full(filling.root, 100)
+            .map(|b| hex::encode(&b)),
+        Some("ff86666f6f62617286666f6f626172".to_string()),
+    );
+
+    // every cut: 3 below five bytes, then 4, until the steps begin
+    let number = |file: &[u8]| session::run(file, MAX_OUTPUT, true).number;
+    for cut in 0..whole.len() {
+        let expected = match cut {
+            0..5 => 3,
+            // before the first step, after it
+            37 | 42 => 0,
+            _ => 4,
+        };
+        c.equal(
+            &format!("cut after {cut} bytes"),
+            number(&whole[..cut]),
+            expected,
+        );
+    }
+
+    // questions in one file
+    let mut f = whole.clone();
+    f.extend([3]);
+    c.equal("an unknown code gets 8", number(&f), 8);
+    f.pop();
+    f.extend([1, 0x04, 0, 0, 1]);
+    c.equal("a step's atom that isn't listed gets 7", number(&f), 7);
+    let mut f = whole.clone();
+    f[17] = 0x0c;
+    c.equal("kind 3 gets 7", number(&f), 7);
+    let mut f = whole.clone();
+    f[17..21].copy_from_slice(&[0, 0, 0, 0]);
+    c.equal("a pair that names itself gets 7", number(&f), 7);
+    let mut f = whole.clone();
+    f[33..37].copy_from_slice(&[0xff; 4]);
+    c.equal("the sentinel may be none, then 9", number(&f), 9);
+    let mut f = whole.clone();
+    f[37 + 1..37 + 5].copy_from_slice(&[0xff; 4]);
+    c.equal("a step's handle may not be none", number(&f), 7);
+    let mut f = whole.clone();
+    f[8] = 1;
+    c.equal("an atom of one byte below 80 gets 6", number(&f), 6);
+
+    // 5 before 8 at a step's code; 4 before 5 at an atom
+    let s = SessionFile {
+        sentinel: Some(NIL),
+        steps: vec![Step::Add(NIL); 1024],
+        ..SessionFile::default()
+    };
+    let mut f = s.to_bytes();
+    c.equal("1,024 steps, 17 adds", number(&f), 10);
+    f.push(9);
+    c.equal("step 1,025 gets 5, whatever its code", number(&f), 5);
+    let mut f = session::MARK.to_vec();
+    f.extend([0, 1, 0xff, 0xff, 0x80]);
+    c.equal("a cut atom of 65,535 bytes gets 4", number(&f), 4);
+    f.resize(session::MARK.len() + 4 + 32_769, 0x80);
+    f[session::MARK.len() + 2..][..2].copy_from_slice(&[0x80, 0x01]);
+    c.equal("an atom of 32,769 bytes gets 5", number(&f), 5);
+    let mut f = session::MARK.to_vec();
+    f.extend([4, 1]);
+    c.equal("1,025 atoms get 5 at the count", number(&f), 5);
+    f.truncate(6);
+    c.equal("a cut count gets 4", number(&f), 4);
+    let mut f = session::MARK.to_vec();
+    f.extend([0, 0, 4, 1]);
+    c.equal("1,025 pairs get 5 at the count", number(&f), 5);
+    c.equal("65,535 bytes pass 2", number(&vec![0; 65_535]), 3);
+    c.equal("65,536 bytes get 2", number(&vec![0; 65_536]), 2);
+}
+
+fn steps(c: &mut Cases) {
+    let foobar = "86666f6f626172";
+    let f = File::new();
+    let s = f.steps(vec![Step::Add(FOOBAR), Step::Add(FOOBAR)]);
+    c.session("an add when finished gets 9", &s, 9, &[15], foobar);
+    let f = File::new();
+    let mut steps = vec![Step::Add(S); 15];
+    steps.extend([Step::Add(FOOBAR), Step::Add(FOOBAR)]);
+    let mut words = vec![0; 15];
+    words.push(15);
+    c.session("9 before 10", &f.steps(steps), 9, &words, foobar);
+    let f = File::new();
+    let s = f.steps(vec![Step::Add(S); 17]);
+    c.session("add 17 gets 10", &s, 10, &[0; 16], "");
+    let f = File::new();
+    let s = f.steps(vec![Step::Restore(0)]);
+    c.session("a restore with no add gets 11", &s, 11, &[], "");
+    let f = File::new();
+    let s = f.steps(vec![Step::Add(S), Step::Restore(1)]);
+    c.session("a restore of the count gets 11", &s, 11, &[0], "");
+    let f = File::new();
+    let s = f.steps(vec![Step::Add(FOOBAR), Step::Restore(0), Step::Restore(0)]);
+    c.session("restore 0 twice gets 11", &s, 11, &[15, 0], "");
+    let f = File::new();
+    let s = f.steps(vec![
+        Step::Add(FOOBAR),
+        Step::Restore(0),
+        Step::Add(small(1)),
+    ]);
+    c.session("a restore leaves it unfinished", &s, 0, &[15, 0, 3], "01");
+
+    // 4,096 open pairs: four chains of 1,024 that end in the sentinel
+    let chain = |last: u32| {
+        let mut f = File::new();
+        let mut t = S;
+        for _ in 0..1024 {
+            t = f.pair(t, small(1));
+        }
+        f.adds(&[t, t, t, t, last])
+    };
+    let ones = "ff".repeat(4096);
+    let words = [2048, 4096, 6144, 8192];
+    let pair = chain(handle(PAIR, 0));
+    c.session("a pair with 4,096 open gets 12", &pair, 12, &words, &ones);
+    c.limited("12 before 13", &pair, 4096, 12, &words, &ones);
+    c.limited("an atom gets 13", &chain(small(5)), 4096, 13, &words, &ones);
+    let done = [2048, 4096, 6144, 8192, (4096 + 1 + 4096) * 2 + 1];
+    let all = format!("{ones}05{}", "01".repeat(4096));
+    c.session("an atom with 4,096 open", &chain(small(5)), 0, &done, &all);
+    // 12 inside an add keeps the items before it
+    let mut f = File::new();
+    let mut t = S;
+    let mut handles = vec![];
+    for _ in 0..1023 {
+        t = f.pair(t, small(1));
+        handles.push(t);
+    }
+    let q = f.pair(S, small(1));
+    let s = f.adds(&[t, t, t, t, handles[2], handles[2], q]);
+    c.session(
+        "12 inside an add keeps its whole items",
+        &s,
+        12,
+        &[2046, 4092, 6138, 8184, 8190],
+        &ones,
+    );
+}
+
+/// Without demand 3's premises read-back fails: two cases.
+fn premises(c: &mut Cases) {
+    // P = (S . nil); P, (foobar . (1 . (2 . (P . foobar)))), 3
+    let mut f = File::new();
+    let p = f.pair(S, NIL);
+    let t = f.pair(p, FOOBAR);
+    let t = f.pair(small(2), t);
+    let t = f.pair(small(1), t);
+    let t = f.pair(FOOBAR, t);
+    let s = f.adds(&[p, t, small(3)]);
+    let r = run(&s);
+    c.equal(
+        "a pair above the sentinel again: finished",
+        r.words.last().map(|w| w % 2),
+        Some(1),
+    );
+    c.equal(
+        "a pair above the sentinel again: refused",
+        reading::read(&r.output).number,
+        16,
+    );
+    c.equal(
+        "a pair above the sentinel again: premises",
+        plain::premises(&s).is_err(),
+        true,
+    );
+
+    // X = (S . S); (X . foobar), (foobar . nil), (1 . 2)
+    let mut f = File::new();
+    let x = f.pair(S, S);
+    let a = f.pair(x, FOOBAR);
+    let b = f.pair(FOOBAR, NIL);
+    let d = f.pair(small(1), small(2));
+    let s = f.adds(&[a, b, d]);
+    let r = run(&s);
+    let back = reading::read(&r.output);
+    let filling = plain::fill(&s).expect("no undo");
+    let mut i = Interner::default();
+    c.equal(
+        "two places: finished",
+        r.words.last().map(|w| w % 2),
+        Some(1),
+    );
+    c.equal(
+        "two places: read back wrong",
+        (
+            back.number,
+            i.reading(&back) == i.tree(&filling.forest, filling.root),
+        ),
+        (0, false),
+    );
+    c.equal("two places: premises", plain::premises(&s).is_err(), true);
+}
+
+pub fn run_all() -> Vec<Case> {
+    let mut c = Cases(vec![]);
+    parse_atom(&mut c);
+    de_br(&mut c);
+    tree_cache(&mut c);
+    path_builder(&mut c);
+    incremental(&mut c);
+    session_file(&mut c);
+    steps(&mut c);
+    premises(&mut c);
+    c.0
+}
+
+/// The lines, and whether all are ok.
+pub fn print(cases: &[Case]) -> (String, bool) {
+    let mut s = String::new();
+    let mut differ = 0;
+    for (name, result) in cases {
+        match result {
+            Ok(()) => s += &format!("ok {name}\n"),
+            Err(what) => {
+                differ += 1;
+                s += &format!("DIFFERS {name}: {what}\n");
+            }
+        }
+    }
+    s += &format!("{} ok, {differ} differ\n", cases.len() - differ);
+    (s, differ == 0)
+}

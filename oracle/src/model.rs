@@ -1,0 +1,442 @@
+//! The session as 01's text says it, written from the text and not from the
+//! Rust: entries, parents, the search's steps, undo. Only questions 2 to 8 are
+//! shared with `session`. `selfcheck` compares it with the unchanged Rust, so a
+//! difference is one between 01 and the Rust.
+
+use crate::node::{ATOM, NIL, PAIR, index, kind};
+use crate::plain::{atom_in_full, small_bytes};
+use crate::session::{MAX_ADDS, MAX_OPEN, MAX_OUTPUT, SessionAnswer, SessionFile, Step, parse};
+use std::collections::HashMap;
+
+/// What the search and the parent lists met, to see what inputs reach.
+#[derive(Debug, Default, Clone)]
+pub struct Met {
+    pub searches: usize,
+    pub used: usize,
+    pub not_used: usize,
+    pub list_empty: usize,
+    pub pass_limit: usize,
+    pub visit_limit: usize,
+    pub seen_dropped: usize,
+    pub overwritten: usize,
+    pub moved: usize,
+    pub front_dropped: usize,
+    pub second_handles: usize,
+    pub longest_path: usize,
+    pub most_open: usize,
+    pub most_entries: usize,
+}
+
+impl Met {
+    pub fn add(&mut self, m: &Met) {
+        self.searches += m.searches;
+        self.used += m.used;
+        self.not_used += m.not_used;
+        self.list_empty += m.list_empty;
+        self.pass_limit += m.pass_limit;
+        self.visit_limit += m.visit_limit;
+        self.seen_dropped += m.seen_dropped;
+        self.overwritten += m.overwritten;
+        self.moved += m.moved;
+        self.front_dropped += m.front_dropped;
+        self.second_handles += m.second_handles;
+        self.longest_path = self.longest_path.max(m.longest_path);
+        self.most_open = self.most_open.max(m.most_open);
+        self.most_entries = self.most_entries.max(m.most_entries);
+    }
+}
+
+struct Entry {
+    length: u64,
+    /// parent and position, left 0, right 1
+    parents: Vec<(usize, usize)>,
+}
+
+#[derive(Clone, Copy)]
+enum Place {
+    Entry(usize, usize),
+    Stack(usize),
+}
+
+#[derive(Clone)]
+struct Path {
+    bits: Vec<bool>,
+    place: Place,
+}
+
+/// What undo takes back.
+#[derive(Clone)]
+struct State {
+    /// pairs begun: the handle, and whether its right side is under way
+    open: Vec<(u32, bool)>,
+    stack: Vec<usize>,
+    written: Vec<bool>,
+    size: usize,
+    finished: bool,
+}
+
+struct Model<'a> {
+    s: &'a SessionFile,
+    entries: Vec<Entry>,
+    by_handle: HashMap<u32, usize>,
+    by_atom: HashMap<Vec<u8>, usize>,
+    by_pair: HashMap<(usize, usize), usize>,
+    sentinel_entry: Option<usize>,
+    now: State,
+    output: Vec<u8>,
+    output_length: usize,
+    met: Met,
+}
+
+/// `serialized_length` of path_builder.rs, by the ranges that 01 gives.
+fn path_length(bits: &[bool]) -> u64 {
+    let bytes = bits.len().div_ceil(8) as u64;
+    match bytes {
+        0 => 1,
+        // decimal 80, for a full byte
+        1 if bits.len() == 8 && path_bytes(bits)[0] >= 80 => 2,
+        1 => 1,
+        2..64 => 1 + bytes,
+        64..512 => 2 + bytes,
+        512..1_048_576 => 3 + bytes,
+        _ => unreachable!("a search path has at most 5,120 bits"),
+    }
+}
+
+/// Bits right-aligned in bytes.
+fn path_bytes(bits: &[bool]) -> Vec<u8> {
+    bits.rchunks(8)
+        .rev()
+        .map(|c| c.iter().fold(0, |b, bit| b * 2 + u8::from(*bit)))
+        .collect()
+}
+
+impl Model<'_> {
+    fn bytes(&self, h: u32) -> Vec<u8> {
+        if kind(h) == ATOM {
+            self.s.atoms[index(h)].clone()
+        } else {
+            small_bytes(index(h) as u32)
+        }
+    }
+
+    fn entry(&mut self, length: u64) -> usize {
+        self.entries.push(Entry {
+            length,
+            parents: vec![],
+        });
+        self.entries.len() - 1
+    }
+
+    fn add_parent(&mut self, child: usize, parent: usize, position: usize) {
+        let parents = &mut self.entries[child].parents;
+        if parents.len() < 100 {
+            parents.push((parent, position));
+        } else {
+            self.met.overwritten += 1;
+            parents[(parent + position) % 100] = (parent, position);
+        }
+    }
+
+    fn enter(&mut self, h: u32) -> usize {
+        if Some(h) == self.s.sentinel {
+            let e = self.entry(0);
+            self.sentinel_entry = Some(e);
+            return e;
+        }
+        if let Some(e) = self.by_handle.get(&h) {
+            return *e;
+        }
+        let e = if kind(h) == PAIR {
+            let (left, right) = self.s.pairs[index(h)];
+            let l = self.enter(left);
+            let r = self.enter(right);
+            let e = match self.by_pair.get(&(l, r)) {
+                Some(e) => {
+                    self.met.second_handles += 1;
+                    *e
+                }
+                None => {
+                    let (a, b) = (self.entries[l].length, self.entries[r].length);
+                    let length = if a == 0 || b == 0 {
+                        0
+                    } else {
+                        a.saturating_add(b).saturating_add(1)
+                    };
+                    let e = self.entry(length);
+                    self.by_pair.insert((l, r), e);
+                    e
+                }
+            };
+            self.add_parent(l, e, 0);
+            self.add_parent(r, e, 1);
+            e
+        } else {
+            let bytes = self.bytes(h);
+            match self.by_atom.get(&bytes) {
+                Some(e) => *e,
+                None => {
+                    let e = self.entry(atom_in_full(&bytes).len() as u64);
+                    self.by_atom.insert(bytes, e);
+                    e
+                }
+            }
+        };
+        self.by_handle.insert(h, e);
+        e
+    }
+
+    fn update(&mut self, root: u32) {
+        let moved = match self.sentinel_entry {
+            Some(e) => std::mem::take(&mut self.entries[e].parents),
+            None => vec![],
+        };
+        let root = self.enter(root);
+        let parents = &mut self.entries[root].parents;
+        self.met.moved += moved.len();
+        parents.extend(moved);
+        let beyond = parents.len().saturating_sub(100);
+        self.met.front_dropped += beyond;
+        parents.drain(..beyond);
+        self.met.most_entries = self.met.most_entries.max(self.entries.len());
+        self.now.written.resize(self.entries.len(), false);
+    }
+
+    fn entry_of(&self, h: u32) -> usize {
+        self.by_handle[&h]
+    }
+
+    fn push(&mut self, h: u32) {
+        let e = self.entry_of(h);
+        if self.entries[e].length >= 4 {
+            self.now.written[e] = true;
+        }
+        self.now.stack.push(e);
+    }
+
+    /// The search's steps.
+    fn search(&mut self, start: usize) -> Option<Vec<bool>> {
+        let length = self.entries[start].length;
+        let limit = (length - 1).saturating_mul(8);
+        let mut seen = vec![false; self.entries.len()];
+        let mut visits = 0;
+        let mut list = vec![Path {
+            bits: vec![],
+            place: Place::Entry(start, 1),
+        }];
+        for pass in 0_u64.. {
+            if list.is_empty() {
+                self.met.list_empty += 1;
+                return None;
+            }
+            if pass > limit {
+                self.met.pass_limit += 1;
+                return None;
+            }
+            let mut slot = 0;
+            while slot < list.len() {
+                if list[slot].bits.len() as u64 > pass {
+                    slot += 1;
+                    continue;
+                }
+                match list[slot].place {
+                    Place::Stack(0) => return Some(list[slot].bits.clone()),
+                    Place::Stack(distance) => {
+                        list[slot].bits.push(true);
+                        list[slot].place = Place::Stack(distance - 1);
+                        slot += 1;
+                    }
+                    Place::Entry(e, _) if seen[e] => {
+                        self.met.seen_dropped += 1;
+                        list.swap_remove(slot);
+                    }
+                    Place::Entry(e, position) => {
+                        seen[e] = true;
+                        visits += 1;
+                        if visits == 1025 {
+                            self.met.visit_limit += 1;
+                            return None;
+                        }
+                        list[slot].bits.push(position == 1);
+                        let bits = list[slot].bits.clone();
+                        let mut first = true;
+                        for (parent, position) in &self.entries[e].parents {
+                            if seen[*parent] {
+                                continue;
+                            }
+                            let place = Place::Entry(*parent, *position);
+                            if first {
+                                list[slot].place = place;
+                                first = false;
+                            } else {
+                                list.push(Path {
+                                    bits: bits.clone(),
+                                    place,
+                                });
+                            }
+                        }
+                        if let Some(d) = self.now.stack.iter().rev().position(|v| *v == e) {
+                            let mut bits = bits;
+                            bits.push(false);
+                            list.push(Path {
+                                bits,
+                                place: Place::Stack(d),
+                            });
+                        }
+                        if first {
+                            list.swap_remove(slot);
+                        } else {
+                            slot += 1;
+                        }
+                    }
+                }
+            }
+        }
+        unreachable!()
+    }
+
+    fn find_path(&mut self, h: u32) -> Option<Vec<u8>> {
+        if h == NIL {
+            return None;
+        }
+        let e = self.entry_of(h);
+        if !self.now.written[e] || self.entries[e].length < 4 {
+            return None;
+        }
+        self.met.searches += 1;
+        let bits = self.search(e)?;
+        if path_length(&bits) >= self.entries[e].length {
+            self.met.not_used += 1;
+            return None;
+        }
+        self.met.used += 1;
+        self.met.longest_path = self.met.longest_path.max(bits.len());
+        Some(path_bytes(&bits))
+    }
+
+    fn put(&mut self, item: &[u8]) -> Result<(), u32> {
+        if self.output.len() + item.len() > self.output_length {
+            return Err(13);
+        }
+        self.output.extend_from_slice(item);
+        Ok(())
+    }
+
+    fn add(&mut self, root: u32) -> Result<(), u32> {
+        self.update(root);
+        let mut h = root;
+        loop {
+            // h stands at the next place
+            if Some(h) == self.s.sentinel {
+                return Ok(());
+            }
+            if let Some(path) = self.find_path(h) {
+                let mut item = vec![0xfe];
+                item.extend(atom_in_full(&path));
+                self.put(&item)?;
+                self.push(h);
+            } else if kind(h) == PAIR {
+                if self.now.open.len() >= MAX_OPEN {
+                    return Err(12);
+                }
+                self.put(&[0xff])?;
+                self.now.open.push((h, false));
+                self.met.most_open = self.met.most_open.max(self.now.open.len());
+                h = self.s.pairs[index(h)].0;
+                continue;
+            } else {
+                let item = atom_in_full(&self.bytes(h));
+                self.put(&item)?;
+                self.push(h);
+            }
+            // cons what is complete; then the right side of the last open pair
+            loop {
+                match self.now.open.last_mut() {
+                    None => {
+                        self.now.finished = true;
+                        return Ok(());
+                    }
+                    Some((pair, right)) if !*right => {
+                        *right = true;
+                        h = self.s.pairs[index(*pair)].1;
+                        break;
+                    }
+                    Some((pair, _)) => {
+                        let pair = *pair;
+                        self.now.open.pop();
+                        self.now.stack.pop();
+                        self.now.stack.pop();
+                        self.push(pair);
+                    }
+                }
+            }
+        }
+    }
+}
+
+pub fn run(file: &[u8], output_length: usize) -> (SessionAnswer, Met) {
+    let s = match parse(file) {
+        Ok(s) => s,
+        Err(number) => {
+            let refused = SessionAnswer {
+                number,
+                ..SessionAnswer::default()
+            };
+            return (refused, Met::default());
+        }
+    };
+    let mut m = Model {
+        s: &s,
+        entries: vec![],
+        by_handle: HashMap::new(),
+        by_atom: HashMap::new(),
+        by_pair: HashMap::new(),
+        sentinel_entry: None,
+        now: State {
+            open: vec![],
+            stack: vec![],
+            written: vec![],
+            size: 0,
+            finished: false,
+        },
+        output: vec![],
+        output_length: output_length.min(MAX_OUTPUT),
+        met: Met::default(),
+    };
+    let mut records: Vec<(State, Option<usize>)> = vec![];
+    let mut words = vec![];
+    let mut number = 0;
+    for step in &s.steps {
+        let result = match *step {
+            Step::Add(_) if m.now.finished => Err(9),
+            Step::Add(_) if records.len() >= MAX_ADDS => Err(10),
+            Step::Add(h) => {
+                m.now.size = m.output.len();
+                records.push((m.now.clone(), m.sentinel_entry));
+                m.add(h)
+            }
+            Step::Restore(k) if usize::from(k) >= records.len() => Err(11),
+            Step::Restore(k) => {
+                let (state, sentinel_entry) = records[usize::from(k)].clone();
+                records.truncate(usize::from(k));
+                m.output.truncate(state.size);
+                m.now = state;
+                if sentinel_entry.is_some() {
+                    m.sentinel_entry = sentinel_entry;
+                }
+                Ok(())
+            }
+        };
+        if let Err(n) = result {
+            number = n;
+            break;
+        }
+        words.push(m.output.len() as u32 * 2 + u32::from(m.now.finished));
+    }
+    let answer = SessionAnswer {
+        number,
+        words,
+        output: m.output,
+    };
+    (answer, m.met)
+}

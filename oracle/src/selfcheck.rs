@@ -1,0 +1,197 @@
+//! The rig against itself: the driver against `Serializer` and against 01's
+//! text (`model`), the reader against
+//! the plain reader and `node_from_bytes_backrefs_old`, and read-back.
+
+use crate::generate::exhaustive;
+use crate::model::Met;
+use crate::plain::{self, Interner};
+use crate::reading::{self, MAX_INPUT, ReadAnswer};
+use crate::rng::Rng;
+use crate::session::{self, MAX_OUTPUT};
+use crate::{generate, model, node};
+use clvm_rs::Allocator;
+use clvm_rs::serde::node_from_bytes_backrefs_old;
+
+#[derive(Debug, Default)]
+pub struct Counts {
+    pub sessions: usize,
+    pub finished: usize,
+    pub read_back: usize,
+    pub trees: usize,
+    pub accepted: usize,
+    pub references: usize,
+    /// how often each number was given
+    pub numbers: [usize; 17],
+    pub met: Met,
+}
+
+/// The same tree by the Rust's reader, its old reader and the plain one.
+pub fn check_tree(input: &[u8], counts: &mut Counts) -> Result<(), String> {
+    let r = reading::read(input);
+    counts.trees += 1;
+    counts.numbers[r.number as usize] += 1;
+    if input.len() > MAX_INPUT {
+        return if r == ReadAnswer::refused(2) {
+            Ok(())
+        } else {
+            Err("question 2".to_string())
+        };
+    }
+    let mut a = Allocator::new();
+    let old = match node_from_bytes_backrefs_old(&mut a, input) {
+        Ok(root) => reading::answer(&a, node::to_word(root)),
+        Err(e) => ReadAnswer::refused(reading::number_of(&e)),
+    };
+    let plain = plain::read(input);
+    let plain_number = plain.as_ref().err().copied().unwrap_or(0);
+    if r.number != old.number || r.number != plain_number {
+        return Err(format!(
+            "numbers: {} of the reader, {} of the old one, {plain_number} of the plain one",
+            r.number, old.number
+        ));
+    }
+    let Ok(plain) = plain else {
+        return Ok(());
+    };
+    counts.accepted += 1;
+    let mut interner = Interner::default();
+    let ours = interner.reading(&r);
+    if ours != interner.reading(&old) || ours != interner.tree(&plain.forest, plain.root) {
+        return Err("the trees read differ".to_string());
+    }
+    let made = r.pairs.len() + r.ghosts as usize;
+    if made != old.pairs.len() || made != plain.pairs || made > 131_072 {
+        return Err(format!(
+            "pairs and ghosts: {made}, the plain way makes {}",
+            plain.pairs
+        ));
+    }
+    Ok(())
+}
+
+pub fn check_session(file: &[u8], output_length: usize, counts: &mut Counts) -> Result<(), String> {
+    counts.sessions += 1;
+    // panics where the driver and Serializer differ
+    let r = session::run(file, output_length, true);
+    counts.numbers[r.number as usize] += 1;
+    let (by_text, met) = model::run(file, output_length);
+    counts.met.add(&met);
+    if by_text != r {
+        return Err(format!(
+            "01's text gives {} {:?} {}",
+            by_text.number,
+            by_text.words,
+            crate::hex::encode(&by_text.output)
+        ));
+    }
+    let parsed = session::parse(file);
+    if let Ok(s) = &parsed
+        && s.to_bytes() != file
+    {
+        return Err("the file isn't what its parts give".to_string());
+    }
+    let Ok(s) = parsed else {
+        return Ok(());
+    };
+    if !r.words.iter().any(|w| w % 2 == 1) {
+        return Ok(());
+    }
+    counts.finished += 1;
+    if plain::premises(&s).is_err() {
+        return Ok(());
+    }
+    let filling = plain::fill(&s).expect("no undo step");
+    if !filling.whole {
+        return Err("finished, and the plain filling is open".to_string());
+    }
+    let back = reading::read(&r.output);
+    if back.number != 0 {
+        return Err(format!("the finished bytes are refused: {}", back.number));
+    }
+    let mut interner = Interner::default();
+    if interner.reading(&back) != interner.tree(&filling.forest, filling.root) {
+        return Err("the tree read back isn't the plain filling".to_string());
+    }
+    let plain = plain::read(&r.output).map_err(|n| format!("the plain reader gives {n}"))?;
+    for reference in &plain.references {
+        if reference.bytes > reference.in_full {
+            return Err(format!("too long: {reference:?}"));
+        }
+    }
+    counts.references += plain.references.len();
+    counts.read_back += 1;
+    Ok(())
+}
+
+/// Every small session and tree (see `generate::exhaustive`); with `part` only
+/// each `part`th.
+pub fn run_exhaustive(part: usize) -> Result<Counts, String> {
+    let mut counts = Counts::default();
+    let mut failure = Ok(());
+    let mut i = 0_usize;
+    exhaustive::sessions(|file| {
+        i += 1;
+        if failure.is_ok() && i.is_multiple_of(part) {
+            failure = check_session(file, MAX_OUTPUT, &mut counts)
+                .map_err(|e| format!("{e}\n{}", crate::hex::encode(file)));
+        }
+    });
+    exhaustive::trees(|tree| {
+        i += 1;
+        if failure.is_ok() && i.is_multiple_of(part) {
+            failure = check_tree(tree, &mut counts)
+                .map_err(|e| format!("{e}\n{}", crate::hex::encode(tree)));
+        }
+    });
+    failure.map(|()| counts)
+}
+
+/// `n` sessions and `n` trees; the first failure with its input's kind.
+pub fn run(n: usize, seed: u64) -> Result<Counts, String> {
+    let mut rng = Rng::new(seed);
+    let mut counts = Counts::default();
+    for i in 0..n {
+        let (kind, file) = generate::any_session(&mut rng);
+        let length = if rng.percent(70) {
+            MAX_OUTPUT
+        } else {
+            let size = session::run(&file, MAX_OUTPUT, false).output.len();
+            generate::output_length(&mut rng, size)
+        };
+        check_session(&file, length, &mut counts)
+            .map_err(|e| format!("session {i} ({kind}): {e}\n{}", crate::hex::encode(&file)))?;
+        let (kind, tree) = generate::any_tree(&mut rng);
+        check_tree(&tree, &mut counts)
+            .map_err(|e| format!("tree {i} ({kind}): {e}\n{}", crate::hex::encode(&tree)))?;
+    }
+    Ok(counts)
+}
+
+pub fn print(c: &Counts) -> String {
+    let mut s = format!(
+        "sessions {}, finished {}, read back {} with {} references\ntrees {}, accepted {}\nnumbers",
+        c.sessions, c.finished, c.read_back, c.references, c.trees, c.accepted
+    );
+    for (n, count) in c.numbers.iter().enumerate() {
+        if n != 1 {
+            s += &format!(" {n}:{count}");
+        }
+    }
+    let m = &c.met;
+    s += &format!(
+        "\nsearches {}: used {}, not used {}, list empty {}, pass limit {}, visit limit {}; dropped as seen {}, longest path {}\n",
+        m.searches,
+        m.used,
+        m.not_used,
+        m.list_empty,
+        m.pass_limit,
+        m.visit_limit,
+        m.seen_dropped,
+        m.longest_path
+    );
+    s += &format!(
+        "parents overwritten {}, moved {}, front dropped {}; second handles {}; most open pairs {}, most entries {}\n",
+        m.overwritten, m.moved, m.front_dropped, m.second_handles, m.most_open, m.most_entries
+    );
+    s
+}

@@ -1,0 +1,404 @@
+//! A session file: questions 2 to 8, and the steps on the unchanged Rust with
+//! questions 9 to 13.
+
+use crate::node::{ATOM, INDEX_BITS, NONE, PAIR, SMALL, from_word, index, kind};
+use clvm_rs::allocator::fits_in_small_atom;
+use clvm_rs::serde::write_atom::write_atom;
+use clvm_rs::serde::{Serializer, TreeCache, TreeCacheCheckpoint, UndoState};
+use clvm_rs::{Allocator, NodePtr, SExp};
+use std::fmt::Write;
+
+pub const MARK: &[u8] = b"BRS\x00\x01";
+pub const MAX_FILE: usize = 65_535;
+pub const MAX_ATOMS: usize = 1024;
+pub const MAX_PAIRS: usize = 1024;
+pub const MAX_ATOM_BYTES: usize = 32_768;
+pub const MAX_STEPS: usize = 1024;
+pub const MAX_ADDS: usize = 16;
+pub const MAX_OPEN: usize = 4096;
+pub const MAX_OUTPUT: usize = 65_535;
+
+#[derive(Debug, Clone, Copy, PartialEq, Eq)]
+pub enum Step {
+    Add(u32),
+    Restore(u16),
+}
+
+#[derive(Debug, Default, Clone, PartialEq, Eq)]
+pub struct SessionFile {
+    pub atoms: Vec<Vec<u8>>,
+    pub pairs: Vec<(u32, u32)>,
+    pub sentinel: Option<u32>,
+    pub steps: Vec<Step>,
+}
+
+struct Fields<'a> {
+    file: &'a [u8],
+    at: usize,
+}
+
+impl<'a> Fields<'a> {
+    /// Question 4.
+    fn take(&mut self, n: usize) -> Result<&'a [u8], u32> {
+        let part = self.file[self.at..].get(..n).ok_or(4_u32)?;
+        self.at += n;
+        Ok(part)
+    }
+
+    fn word16(&mut self) -> Result<usize, u32> {
+        let b = self.take(2)?;
+        Ok(usize::from(b[0]) << 8 | usize::from(b[1]))
+    }
+
+    fn word32(&mut self) -> Result<u32, u32> {
+        let b = self.take(4)?;
+        Ok(u32::from_be_bytes([b[0], b[1], b[2], b[3]]))
+    }
+
+    /// Questions 4 and 7.
+    fn handle(&mut self, atoms: usize, pairs: usize, or_none: bool) -> Result<u32, u32> {
+        let h = self.word32()?;
+        let named = match kind(h) {
+            PAIR => index(h) < pairs,
+            ATOM => index(h) < atoms,
+            SMALL => true,
+            _ => or_none && h == NONE,
+        };
+        if named { Ok(h) } else { Err(7) }
+    }
+}
+
+/// Questions 2 to 8, or the number of the first that fails.
+pub fn parse(file: &[u8]) -> Result<SessionFile, u32> {
+    if file.len() > MAX_FILE {
+        return Err(2);
+    }
+    if !file.starts_with(MARK) {
+        return Err(3);
+    }
+    let mut f = Fields {
+        file,
+        at: MARK.len(),
+    };
+    let mut s = SessionFile::default();
+
+    let atom_count = f.word16()?;
+    if atom_count > MAX_ATOMS {
+        return Err(5);
+    }
+    let mut atom_bytes = 0;
+    for _ in 0..atom_count {
+        // length and bytes are one field
+        let length = f.word16()?;
+        let atom = f.take(length)?;
+        atom_bytes += length;
+        if atom_bytes > MAX_ATOM_BYTES {
+            return Err(5);
+        }
+        if fits_in_small_atom(atom).is_some() {
+            return Err(6);
+        }
+        s.atoms.push(atom.to_vec());
+    }
+
+    let pair_count = f.word16()?;
+    if pair_count > MAX_PAIRS {
+        return Err(5);
+    }
+    for i in 0..pair_count {
+        let left = f.handle(atom_count, i, false)?;
+        let right = f.handle(atom_count, i, false)?;
+        s.pairs.push((left, right));
+    }
+
+    let sentinel = f.handle(atom_count, pair_count, true)?;
+    s.sentinel = (sentinel != NONE).then_some(sentinel);
+
+    while f.at < file.len() {
+        let code = f.take(1)?[0];
+        if s.steps.len() == MAX_STEPS {
+            return Err(5);
+        }
+        s.steps.push(match code {
+            1 => Step::Add(f.handle(atom_count, pair_count, false)?),
+            2 => Step::Restore(f.word16()? as u16),
+            _ => return Err(8),
+        });
+    }
+    Ok(s)
+}
+
+impl SessionFile {
+    /// The file's bytes. Counts beyond 16 bits are the caller's error.
+    pub fn to_bytes(&self) -> Vec<u8> {
+        let mut out = MARK.to_vec();
+        out.extend_from_slice(&(self.atoms.len() as u16).to_be_bytes());
+        for a in &self.atoms {
+            out.extend_from_slice(&(a.len() as u16).to_be_bytes());
+            out.extend_from_slice(a);
+        }
+        out.extend_from_slice(&(self.pairs.len() as u16).to_be_bytes());
+        for (left, right) in &self.pairs {
+            out.extend_from_slice(&left.to_be_bytes());
+            out.extend_from_slice(&right.to_be_bytes());
+        }
+        out.extend_from_slice(&self.sentinel.unwrap_or(NONE).to_be_bytes());
+        for step in &self.steps {
+            match step {
+                Step::Add(h) => {
+                    out.push(1);
+                    out.extend_from_slice(&h.to_be_bytes());
+                }
+                Step::Restore(k) => {
+                    out.push(2);
+                    out.extend_from_slice(&k.to_be_bytes());
+                }
+            }
+        }
+        out
+    }
+
+    /// A store whose atom i and pair i are the file's.
+    pub fn allocator(&self) -> Allocator {
+        let mut a = Allocator::new();
+        for (i, atom) in self.atoms.iter().enumerate() {
+            let n = a.new_atom(atom).expect("new_atom");
+            assert_eq!(n, from_word(ATOM << INDEX_BITS | i as u32));
+        }
+        for (i, (left, right)) in self.pairs.iter().enumerate() {
+            let n = a
+                .new_pair(from_word(*left), from_word(*right))
+                .expect("new_pair");
+            assert_eq!(n, from_word(i as u32));
+        }
+        a
+    }
+}
+
+/// With 2 to 8 `words` and `output` are empty. The count of finished steps is
+/// `words.len()`, the size `output.len()`.
+#[derive(Debug, Default, Clone, PartialEq, Eq)]
+pub struct SessionAnswer {
+    pub number: u32,
+    pub words: Vec<u32>,
+    pub output: Vec<u8>,
+}
+
+#[derive(PartialEq, Eq, Clone)]
+enum ReadOp {
+    Parse,
+    Cons(NodePtr),
+}
+
+/// `Serializer` as incremental.rs has it, on the unchanged `TreeCache`, with
+/// questions 12 and 13 asked before each item.
+pub struct Driver<'a> {
+    a: &'a Allocator,
+    read_op_stack: Vec<ReadOp>,
+    write_stack: Vec<NodePtr>,
+    tree_cache: TreeCache,
+    output: Vec<u8>,
+    output_length: usize,
+    /// Cons ops in `read_op_stack`
+    open: usize,
+}
+
+#[derive(Clone)]
+pub struct DriverState {
+    read_op_stack: Vec<ReadOp>,
+    write_stack: Vec<NodePtr>,
+    tree_cache: TreeCacheCheckpoint,
+    size: usize,
+    open: usize,
+}
+
+impl<'a> Driver<'a> {
+    pub fn new(a: &'a Allocator, sentinel: Option<NodePtr>, output_length: usize) -> Self {
+        Self {
+            a,
+            read_op_stack: vec![ReadOp::Parse],
+            write_stack: vec![],
+            tree_cache: TreeCache::new(sentinel),
+            output: vec![],
+            output_length: output_length.min(MAX_OUTPUT),
+            open: 0,
+        }
+    }
+
+    pub fn finished(&self) -> bool {
+        self.read_op_stack.is_empty()
+    }
+
+    /// Question 13, and the item when it fits.
+    fn put(&mut self, item: &[u8]) -> Result<(), u32> {
+        if self.output.len() + item.len() > self.output_length {
+            return Err(13);
+        }
+        self.output.extend_from_slice(item);
+        Ok(())
+    }
+
+    pub fn state(&self) -> DriverState {
+        DriverState {
+            read_op_stack: self.read_op_stack.clone(),
+            write_stack: self.write_stack.clone(),
+            tree_cache: self.tree_cache.undo_state(),
+            size: self.output.len(),
+            open: self.open,
+        }
+    }
+
+    /// The loop of `Serializer::add`: whether the session is finished, or 12 or
+    /// 13, after which the driver is not to be used except for its output.
+    pub fn add(&mut self, node: NodePtr) -> Result<bool, u32> {
+        assert!(!self.finished());
+        self.tree_cache.update(self.a, node);
+        self.write_stack.push(node);
+
+        while let Some(node_to_write) = self.write_stack.pop() {
+            if Some(node_to_write) == self.tree_cache.sentinel_node {
+                return Ok(false);
+            }
+            let op = self.read_op_stack.pop();
+            assert!(op == Some(ReadOp::Parse));
+
+            match self.tree_cache.find_path(node_to_write) {
+                Some(path) => {
+                    let mut item = vec![0xfe];
+                    write_atom(&mut item, &path).expect("write_atom");
+                    self.put(&item)?;
+                    self.tree_cache.push(node_to_write);
+                }
+                None => match self.a.sexp(node_to_write) {
+                    SExp::Pair(left, right) => {
+                        if self.open >= MAX_OPEN {
+                            return Err(12);
+                        }
+                        self.put(&[0xff])?;
+                        self.open += 1;
+                        self.write_stack.push(right);
+                        self.write_stack.push(left);
+                        self.read_op_stack.push(ReadOp::Cons(node_to_write));
+                        self.read_op_stack.push(ReadOp::Parse);
+                        self.read_op_stack.push(ReadOp::Parse);
+                    }
+                    SExp::Atom => {
+                        let mut item = vec![];
+                        write_atom(&mut item, self.a.atom(node_to_write).as_ref())
+                            .expect("write_atom");
+                        self.put(&item)?;
+                        self.tree_cache.push(node_to_write);
+                    }
+                },
+            }
+            while let Some(ReadOp::Cons(node)) = self.read_op_stack.last() {
+                let node = *node;
+                self.read_op_stack.pop();
+                self.open -= 1;
+                self.tree_cache.pop2_and_cons(node);
+            }
+        }
+        assert!(self.finished());
+        Ok(true)
+    }
+
+    pub fn restore(&mut self, state: DriverState) {
+        self.read_op_stack = state.read_op_stack;
+        self.write_stack = state.write_stack;
+        self.tree_cache.restore(state.tree_cache);
+        self.output.truncate(state.size);
+        self.open = state.open;
+    }
+}
+
+/// The whole session. With `compare` every step that 12 and 13 let through is
+/// also done by the unchanged `Serializer`; a difference panics.
+pub fn run(file: &[u8], output_length: usize, compare: bool) -> SessionAnswer {
+    match parse(file) {
+        Err(number) => SessionAnswer {
+            number,
+            ..SessionAnswer::default()
+        },
+        Ok(s) => run_parsed(&s, output_length, compare),
+    }
+}
+
+pub fn run_parsed(s: &SessionFile, output_length: usize, compare: bool) -> SessionAnswer {
+    let a = s.allocator();
+    let sentinel = s.sentinel.map(from_word);
+    let mut driver = Driver::new(&a, sentinel, output_length);
+    let mut serializer = compare.then(|| Serializer::new(sentinel));
+    // the state before add k, for each k below the adds on the present history
+    let mut history: Vec<(DriverState, Option<UndoState>)> = vec![];
+    let mut words = vec![];
+    let mut number = 0;
+
+    for step in &s.steps {
+        match *step {
+            Step::Add(h) => {
+                if driver.finished() {
+                    number = 9;
+                    break;
+                }
+                if history.len() >= MAX_ADDS {
+                    number = 10;
+                    break;
+                }
+                let before = driver.state();
+                match driver.add(from_word(h)) {
+                    Err(n) => {
+                        number = n;
+                        break;
+                    }
+                    Ok(finished) => {
+                        let undo = serializer.as_mut().map(|ser| {
+                            let (done, undo) = ser.add(&a, from_word(h)).expect("Serializer::add");
+                            assert_eq!(done, finished, "finished differs from Serializer");
+                            undo
+                        });
+                        history.push((before, undo));
+                        words.push(driver.output.len() as u32 * 2 + u32::from(finished));
+                    }
+                }
+            }
+            Step::Restore(k) => {
+                let k = usize::from(k);
+                if k >= history.len() {
+                    number = 11;
+                    break;
+                }
+                history.truncate(k + 1);
+                let (state, undo) = history.pop().expect("a state for k");
+                driver.restore(state);
+                if let Some(ser) = serializer.as_mut() {
+                    ser.restore(undo.expect("an UndoState for k"));
+                }
+                assert!(!driver.finished(), "a restore left a finished session");
+                words.push(driver.output.len() as u32 * 2);
+            }
+        }
+        if let Some(ser) = serializer.as_ref() {
+            assert_eq!(ser.size(), driver.output.len() as u64, "size differs");
+            assert_eq!(ser.get_ref(), &driver.output, "bytes differ");
+        }
+    }
+    SessionAnswer {
+        number,
+        words,
+        output: driver.output,
+    }
+}
+
+/// The text that `session FILE` prints.
+pub fn print(r: &SessionAnswer) -> String {
+    let mut s = String::new();
+    for (i, w) in r.words.iter().enumerate() {
+        let _ = writeln!(s, "{} {} {}", i + 1, w / 2, w % 2);
+    }
+    s += &crate::hex::encode(&r.output);
+    s.push('\n');
+    if r.number != 0 {
+        let _ = writeln!(s, "refused {}", r.number);
+    }
+    s
+}
