@@ -1,0 +1,28 @@
+-- Trees with open places, the walk down a path, and a stack of trees as a list.
+use Prim.Native.Nat.{ℕ}
+use mathlib.Core.Bool.{Bool, true, false}
+use mathlib.Core.List.{List, [], _∷_}
+use mathlib.Core.Option.{Option, none, some}
+
+-- A tree; `place` is an open place.
+pub data Tree : Type 0 where
+  place : Tree
+  atom : List ℕ → Tree
+  cons : Tree → Tree → Tree
+
+-- The child that a bit picks: 0, false, is the left one and 1, true, the right one.
+abbrev pub pick : Bool → Tree → Tree → Tree
+pick false l r = l
+pick true l r = r
+
+-- Down a path, whose bits stand in reading order, with no terminator. There is no way on from an atom or an open place.
+abbrev pub follow : List Bool → Tree → Option Tree
+follow [] t = some t
+follow (b ∷ bs) place = none
+follow (b ∷ bs) (atom a) = none
+follow (b ∷ bs) (cons l r) = follow bs (pick b l r)
+
+-- A stack of trees, the top first, as the list that a path is read from: (t0 . (t1 . (.. . nil))).
+abbrev pub asList : List Tree → Tree
+asList [] = atom []
+asList (t ∷ ts) = cons t (asList ts)
