@@ -1,0 +1,157 @@
+// The answer to each op. Where the payload is not one of the op, nothing is printed, and false is returned.
+use crate::bits;
+use crate::print;
+use allocator::FitsInSmallAtom;
+use allocator::NodePtr;
+use allocator::ObjectType;
+use parse_atom::ParseAtom;
+use write_atom::write_atom::WriteAtom;
+
+// The longest payload's bytes with their prefix.
+const MAX_WRITTEN: usize = 65538;
+
+// `w`: the atom with its prefix.
+fn written(payload: &[u8]) -> bool {
+    let mut output = [0u8; MAX_WRITTEN];
+    match write_atom::write_atom::write_atom(&mut output, 0, payload) {
+        WriteAtom::Next(n) => {
+            print::hex(&output[..n]);
+            true
+        }
+        WriteAtom::Full => false,
+        WriteAtom::TooLong => false,
+    }
+}
+
+// `l`: the number of those bytes.
+fn serialized_length(payload: &[u8]) -> bool {
+    print::decimal(write_atom::serialized_length::serialized_length_atom(payload));
+    true
+}
+
+// A blob: 0 and its place, where it has the bytes that stand there.
+fn blob(payload: &[u8], bytes: &[u8], start: usize, end: usize) -> bool {
+    if end < start {
+        return false;
+    }
+    if payload.len() < end {
+        return false;
+    }
+    if !words::same_bytes(bytes, &payload[start..end]) {
+        return false;
+    }
+    print::decimal(0);
+    print::space();
+    print::decimal(start as u64);
+    print::space();
+    print::decimal(end as u64);
+    true
+}
+
+// `p`: where the atom at the start is, or why it is refused.
+fn parsed(payload: &[u8]) -> bool {
+    let found = parse_atom::parse_atom(payload, 0);
+    let bytes = parse_atom::parse_atom_ptr(payload, found);
+    match found {
+        ParseAtom::Blob { start, end } => blob(payload, bytes, start, end),
+        ParseAtom::SerializationError => {
+            print::decimal(14);
+            true
+        }
+        ParseAtom::NonCanonicalSerialization => {
+            print::decimal(15);
+            true
+        }
+    }
+}
+
+// `m`: the mask of a byte's highest set bit.
+fn msb_mask(payload: &[u8]) -> bool {
+    if payload.len() == 0 {
+        return false;
+    }
+    print::decimal(path::traverse_path::msb_mask(payload[0]) as u64);
+    true
+}
+
+// `z`: the index of the first byte that is not 0.
+fn first_non_zero(payload: &[u8]) -> bool {
+    print::decimal(path::traverse_path::first_non_zero(payload) as u64);
+    true
+}
+
+// `s`: the value of the small atom, if it is one.
+fn small_value(payload: &[u8]) -> bool {
+    match allocator::fits_in_small_atom(payload) {
+        FitsInSmallAtom::Small(value) => print::decimal(value as u64),
+        FitsInSmallAtom::Listed => print::none(),
+    }
+    true
+}
+
+// `v`: a small atom's length and its bytes.
+fn small_atom(value: u32) -> bool {
+    if 1 << 26 <= value {
+        return false;
+    }
+    print::decimal(allocator::len_for_value(value) as u64);
+    print::space();
+    let atom = allocator::small_atom_bytes(value);
+    let bytes = atom.bytes;
+    let len = atom.len;
+    print::hex(allocator::as_ref(&bytes, len));
+    true
+}
+
+// A kind of node and an index.
+fn node(kind: u64, index: u32) -> bool {
+    print::decimal(kind);
+    print::space();
+    print::decimal(index as u64);
+    true
+}
+
+// `o`: a handle's kind and its index.
+fn handle(word: u32) -> bool {
+    let index = NodePtr(word).index();
+    match NodePtr(word).object_type() {
+        ObjectType::Pair => node(0, index),
+        ObjectType::Bytes => node(1, index),
+        ObjectType::SmallAtom => node(2, index),
+        ObjectType::Unknown => false,
+    }
+}
+
+fn word(x: u8) -> u32 {
+    x as u32
+}
+
+// The two ops on a number of four bytes, the highest first.
+fn number(op: u8, payload: &[u8]) -> bool {
+    if payload.len() != 4 {
+        return false;
+    }
+    let high = (word(payload[0]) << 24) | (word(payload[1]) << 16);
+    let value = high | (word(payload[2]) << 8) | word(payload[3]);
+    if op == b'v' {
+        small_atom(value)
+    } else {
+        handle(value)
+    }
+}
+
+// The answer to an op; false where there is no such op.
+pub fn answer(op: u8, payload: &[u8]) -> bool {
+    match op {
+        b'w' => written(payload),
+        b'l' => serialized_length(payload),
+        b'p' => parsed(payload),
+        b'm' => msb_mask(payload),
+        b'z' => first_non_zero(payload),
+        b'b' => bits::path_of_bits(payload),
+        b's' => small_value(payload),
+        b'v' | b'o' => number(op, payload),
+        b't' => bits::visits(payload),
+        _ => false,
+    }
+}
