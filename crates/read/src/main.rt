@@ -1,0 +1,59 @@
+// Reads serialized trees: the files that its arguments name, or standard input.
+mod print;
+
+use libc::STDIN_FILENO;
+use print::Row;
+
+// The answer, the pairs, the listed atoms and the atom bytes.
+fn report(input: &[u8]) {
+    let mut work = [0u32; 524288];
+    let mut pairs = [0u32; 262144];
+    let mut atoms = [0u32; 131072];
+    let mut bytes = [0u8; 65536];
+    let a = de_br::nikvoldra_read(input, &mut work, &mut pairs, &mut atoms, &mut bytes);
+    print::answer(a);
+    print::rows(Row::Pair, &pairs, a.pairs);
+    print::rows(Row::Atom, &atoms, a.atoms);
+    print::hex(&bytes, a.bytes);
+}
+
+// A read of no bytes first, which fails where nothing can be read, as from a directory.
+fn read_from(fd: i32, name: &[u8]) {
+    let mut nothing = [0u8; 1];
+    if libc::read(fd, &mut nothing[..0]) < 0 {
+        os::fail(name);
+        return;
+    }
+    let mut input = io::large_buffer();
+    let n = io::read_full(fd, &mut input);
+    report(&input[..n]);
+}
+
+fn read_named(i: usize) {
+    let mut path = io::buffer();
+    let length = os::arg(i, &mut path);
+    if os::errno() != 0 {
+        os::fail(b"argument");
+        return;
+    }
+    let fd = os::open_read(&path[..length]);
+    if fd < 0 {
+        os::fail(&path[..length]);
+        return;
+    }
+    read_from(fd, &path[..length]);
+    libc::close(fd);
+}
+
+fn main() {
+    let count = os::arg_count();
+    if count < 2 {
+        read_from(STDIN_FILENO, b"standard input");
+        return;
+    }
+    let mut i = 1;
+    while i < count {
+        read_named(i);
+        i += 1;
+    }
+}

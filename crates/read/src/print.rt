@@ -1,0 +1,97 @@
+// What the program writes.
+use de_br::ReadAnswer;
+use libc::STDOUT_FILENO;
+ghost use Prim.Native.Nat.{_≤_};
+
+fn least(count: u32, size: usize) -> usize
+    ensures { λ r. ⌜ r ≤ size ⌝ }
+{
+    let n = count as usize;
+    if n < size { n } else { size }
+}
+
+fn decimal(n: u32) {
+    io::print_decimal(STDOUT_FILENO, n as u64);
+}
+
+fn handle(n: u32) {
+    io::print_hex(STDOUT_FILENO, n as u64, 8);
+}
+
+fn byte(n: u8) {
+    io::print_hex(STDOUT_FILENO, n as u64, 2);
+}
+
+fn space() {
+    io::write_all(STDOUT_FILENO, b" ");
+}
+
+fn line_end() {
+    io::write_all(STDOUT_FILENO, b"\n");
+}
+
+// A line: number, root, pairs, atoms, bytes, ghosts.
+pub fn answer(a: ReadAnswer) {
+    decimal(a.number);
+    space();
+    handle(a.root);
+    space();
+    decimal(a.pairs);
+    space();
+    decimal(a.atoms);
+    space();
+    decimal(a.bytes);
+    space();
+    decimal(a.ghosts);
+    line_end();
+}
+
+fn pair(left: u32, right: u32) {
+    io::write_all(STDOUT_FILENO, b"pair ");
+    handle(left);
+    space();
+    handle(right);
+    line_end();
+}
+
+fn atom(start: u32, end: u32) {
+    io::write_all(STDOUT_FILENO, b"atom ");
+    decimal(start);
+    space();
+    decimal(end);
+    line_end();
+}
+
+// What two words of the store stand for.
+pub enum Row {
+    Pair,
+    Atom,
+}
+
+fn line(row: Row, first: u32, second: u32) {
+    match row {
+        Row::Pair => pair(first, second),
+        Row::Atom => atom(first, second),
+    }
+}
+
+// A line for each of the first `count` pairs or listed atoms that the slice has.
+pub fn rows(row: Row, words: &[u32], count: u32) {
+    let n = least(count, words.len() / 2);
+    let mut i = 0;
+    while i < n {
+        line(row, words[2 * i], words[2 * i + 1]);
+        i += 1;
+    }
+}
+
+// A line with the first `count` bytes that the slice has, in hexadecimal.
+pub fn hex(bytes: &[u8], count: u32) {
+    let n = least(count, bytes.len());
+    let mut i = 0;
+    while i < n {
+        byte(bytes[i]);
+        i += 1;
+    }
+    line_end();
+}

@@ -1,0 +1,99 @@
+// The reader's store of allocator.rs, pairs and atoms in lent slices, and the reader's two stacks in work.
+use allocator::FitsInSmallAtom;
+use allocator::NodePtr;
+ghost use mathlib.Core.Path.{_≡_};
+ghost use mathlib.Core.List.{[], _∷_};
+ghost use Prim.Native.Nat.{_+_, _*_, _^_, _≤_, _<_};
+ghost use lib.ListN.{length};
+ghost use lib.Seq.{paste};
+ghost use Rattle.allocator.specs.Handle.{handle-of, pair};
+ghost use Rattle.store.specs.Layout.{PushedValue, PushedPair, ListedAppended, AtomStored, Joined};
+
+// The operations that are left to do are words from OPS on, 0 to read a tree and 1 to join two; the last one is done first.
+pub const OPS: usize = 0;
+
+// The values are two words each from VALUES on: the node, and one more than the list of the stack from there down, 0 where it was not built.
+pub const VALUES: usize = 131072;
+
+// A pair is appended after the `used` ones that are there.
+pub fn new_pair(pairs: &mut [u32], used: usize, left: NodePtr, right: NodePtr) -> NodePtr
+    requires { ⌜ (2 * used + 2 ≤ length (now pairs)) × (used < 2 ^ 26) ⌝ }
+    ensures { λ r. ⌜ (r .0 ≡ handle-of (pair used)) × (now (pairs .exit) ≡ paste (now (pairs .entry)) (2 * used) (left .0 ∷ right .0 ∷ []) 2) ⌝ }
+{
+    pairs[2 * used] = left.0;
+    pairs[2 * used + 1] = right.0;
+    NodePtr::pair(used as u32)
+}
+
+// An atom's node, and how many listed atoms and atom bytes there are then.
+pub struct NewAtom {
+    pub node: NodePtr,
+    pub atoms: usize,
+    pub bytes: usize,
+}
+
+// A listed atom is appended: its bytes, and where they start and end.
+fn new_listed(atoms: &mut [u32], bytes: &mut [u8], used: usize, size: usize, blob: &[u8]) -> NewAtom
+    requires { ⌜ (2 * used + 2 ≤ length (now atoms)) × (size + length (now blob) ≤ length (now bytes)) × (used < 2 ^ 26) × (size + length (now blob) < 2 ^ 32) ⌝ }
+    ensures { λ r. ⌜ ListedAppended (now (atoms .entry)) (now (bytes .entry)) used size (now (blob .entry)) (now (atoms .exit)) (now (bytes .exit)) (r .node .0) (r .atoms) (r .bytes) ⌝ }
+{
+    let end = size + blob.len();
+    words::copy_bytes(blob, bytes, size);
+    atoms[2 * used] = size as u32;
+    atoms[2 * used + 1] = end as u32;
+    NewAtom {
+        node: NodePtr::bytes(used as u32),
+        atoms: used + 1,
+        bytes: end,
+    }
+}
+
+// The atom with these bytes: a small one is its handle alone, another one is listed.
+pub fn new_atom(
+    atoms: &mut [u32],
+    bytes: &mut [u8],
+    used: usize,
+    size: usize,
+    blob: &[u8],
+) -> NewAtom
+    requires { ⌜ (2 * used + 2 ≤ length (now atoms)) × (size + length (now blob) ≤ length (now bytes)) × (used < 2 ^ 26) × (size + length (now blob) < 2 ^ 32) ⌝ }
+    ensures { λ r. ⌜ AtomStored (now (atoms .entry)) (now (bytes .entry)) used size (now (blob .entry)) (now (atoms .exit)) (now (bytes .exit)) (r .node .0) (r .atoms) (r .bytes) ⌝ }
+{
+    match allocator::fits_in_small_atom(blob) {
+        FitsInSmallAtom::Small(value) => NewAtom {
+            node: NodePtr::small_atom(value),
+            atoms: used,
+            bytes: size,
+        },
+        FitsInSmallAtom::Listed => new_listed(atoms, bytes, used, size, blob),
+    }
+}
+
+// A value without a list goes on top of the `used` ones that are there.
+pub fn push_value(work: &mut [u32], used: usize, node: NodePtr)
+    requires { ⌜ (524288 ≤ length (now work)) × (used < 131072) ⌝ }
+    ensures { λ _. ⌜ PushedValue (now (work .entry)) (now (work .exit)) used (node .0) ⌝ }
+{
+    work[VALUES + 2 * used] = node.0;
+    work[VALUES + 2 * used + 1] = 0;
+}
+
+// A pair is to be read: its left side comes next; what is left after that is to read its right side, and to join the two.
+pub fn push_pair(work: &mut [u32], used: usize)
+    requires { ⌜ (524288 ≤ length (now work)) × (used + 2 ≤ 131072) ⌝ }
+    ensures { λ _. ⌜ PushedPair (now (work .entry)) (now (work .exit)) used ⌝ }
+{
+    work[OPS + used] = 1;
+    work[OPS + used + 1] = 0;
+}
+
+// The two topmost of `values` values become the pair of the second and the first, after the `used` pairs that are there.
+pub fn join(work: &mut [u32], pairs: &mut [u32], values: usize, used: usize)
+    requires { ⌜ (524288 ≤ length (now work)) × (2 ≤ values) × (values ≤ 131072) × (2 * used + 2 ≤ length (now pairs)) × (used < 2 ^ 26) ⌝ }
+    ensures { λ _. ⌜ Joined (now (work .entry)) (now (pairs .entry)) values used (now (work .exit)) (now (pairs .exit)) ⌝ }
+{
+    let right = NodePtr(work[VALUES + 2 * (values - 1)]);
+    let left = NodePtr(work[VALUES + 2 * (values - 2)]);
+    let node = new_pair(pairs, used, left, right);
+    push_value(work, values - 2, node);
+}
