@@ -30,7 +30,7 @@ down-clear : (b : Bool) (bs : List Bool) (d : ℕ) → b ≡ false → down (b �
 unfolding down
 down-clear false bs zero e = refl
 down-clear false bs (suc d) e = refl
-down-clear true bs d e = let z : _≡_ {A = Bool} true false = e in absurd (let z : _≡_ {A = ℕ} 0 1 = cc in omega arith)
+down-clear true bs d e = absurd (let z : _≡_ {A = ℕ} 0 1 = cc in omega arith)
 
 down-set : (b : Bool) (bs : List Bool) (d : ℕ) → b ≡ true → 0 < d → down (b ∷ bs) d ≡ 1 + down bs (d - 1)
 unfolding down

@@ -65,14 +65,6 @@ known-within p a (listed-atom i) k = tt
 known-within p a (small-atom v) k = tt
 known-within p a (unknown j i) k = tt
 
-unlisted-one : (o : Option ℕ) (n m : ℕ) → n ≡ m → leads.unlisted-of o n ≡ sound-law.one-if-none o + m
-unlisted-one none n m e = omega arith
-unlisted-one (some h) n m e = omega arith
-
-unlisted-same : (vs : List Value) → leads.unlisted vs ≡ sound-law.unlisted vs
-unlisted-same [] = refl
-unlisted-same (v ∷ vs) = unlisted-one (v .list) (leads.unlisted vs) (sound-law.unlisted vs) (unlisted-same vs)
-
 values-known : (p a : ℕ) (w : List ℕ) (n : ℕ) → All (KnownValue p a) (valuesOf w n) → (k : ℕ) → k < n → KnownHandle p a (at w (VALUES + 2 * k))
 unfolding valuesOf
 values-known p a w zero h k l = absurd (omega arith)
@@ -97,7 +89,7 @@ module _ (input w p : List ℕ) (r : Reader) (h : BeforePath input w p r) where
               work = h .work;
               pairs = h .room;
               few = omega (arith, has .values);
-              ghost = omega (arith, h .sound .holds .ghosts-enough, unlisted-same (valuesOf w (r .values)));
+              ghost = h .sound .holds .ghosts-enough;
               room = omega (arith, has .pairs);
             };
         nodes = λ k l.

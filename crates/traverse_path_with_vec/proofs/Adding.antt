@@ -15,7 +15,8 @@ use Rattle.store.specs.Layout.{VALUES, listOf, valueAt, valuesOf}
 use Rattle.store.proofs.Stacks.{values-same, values-more}
 use Rattle.store.proofs.Stored.{take-two, drop-two, half}
 use Rattle.traverse_path_with_vec.specs.declared.Built.{Built}
-use Rattle.traverse_path_with_vec.specs.Leads.{unlisted-of, unlisted, Holds, Adds, Lists}
+use Rattle.reading.specs.Sound.{unlisted}
+use Rattle.traverse_path_with_vec.specs.Leads.{unlisted-of, Holds, Adds, Lists}
 
 -- ---- a list that the value has
 
@@ -40,7 +41,7 @@ module _ (w p : List ℕ) (i : ℕ) (below b : Built) (listed : at w (VALUES + 2
         others = λ k q. refl;
         pairs-rest = refl;
         total = omega arith;
-        spent = rw cached ghosts;
+        spent = rw cached (omega (arith, ghosts));
       }
 
 -- ---- a pair that is made
@@ -100,7 +101,7 @@ list-more w i s = ap (λ (vs : List Value). list-of vs s) (values-more w i)
 
 unlisted-at : (o : Option ℕ) (n m : ℕ) → unlisted-of o n + m ≡ n + unlisted-of o m
 unlisted-at none n m = omega arith
-unlisted-at (some h) n m = refl
+unlisted-at (some h) n m = omega arith
 
 unlisted-least : (o : Option ℕ) (n m k : ℕ) → unlisted-of o n ≤ m + n → unlisted-of o 0 ≤ m
 unlisted-least none n m k h = omega arith

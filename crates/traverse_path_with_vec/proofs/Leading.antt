@@ -22,7 +22,8 @@ use Rattle.path_walk.specs.Answers.{counted, down, Within, Reachable, walkedTo,
 use Rattle.path_walk.proofs.Bits.{lowest}
 use Rattle.traverse_path_with_vec.specs.declared.Built.{Built}
 use Rattle.traverse_path_with_vec.specs.declared.Traversed.{Traversed}
-use Rattle.traverse_path_with_vec.specs.Leads.{unlisted, ListRoom, Lists, led, reached, Walkable, Leads, LeadsTo, SameTotal}
+use Rattle.reading.specs.Sound.{unlisted}
+use Rattle.traverse_path_with_vec.specs.Leads.{ListRoom, Lists, led, reached, Walkable, Leads, LeadsTo, SameTotal}
 use Rattle.traverse_path_with_vec.proofs.Adding.{unlisted-up}
 
 -- ---- the bits of the path

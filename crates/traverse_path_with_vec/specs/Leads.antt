@@ -8,6 +8,7 @@ use lib.ListN.{length, take, drop}
 use Rattle.words.specs.Words.{at}
 use Rattle.allocator.specs.Handle.{node-of, handle-of, nil}
 use Rattle.reading.specs.Store.{Store, Value, Listed, Led, add-to-list, list-of, lead}
+use Rattle.reading.specs.Sound.{one-if-none, unlisted}
 use Rattle.store.specs.Layout.{VALUES, valueAt, valuesOf}
 use Rattle.path_walk.specs.Answers.{Within}
 use Rattle.path_walk.specs.declared.Walked.{Walked}
@@ -16,14 +17,9 @@ use Rattle.traverse_path_with_vec.specs.declared.Built.{Built}
 use Rattle.traverse_path_with_vec.specs.declared.Traversed.{Traversed}
 use Rattle.traverse_path_with_vec.specs.declared.Traversed.the-variants as traversed
 
--- How many values have no list.
+-- One more than n where there is no list.
 abbrev pub unlisted-of : Option ℕ → ℕ → ℕ
-unlisted-of none n = suc n
-unlisted-of (some h) n = n
-
-abbrev pub unlisted : List Value → ℕ
-unlisted [] = 0
-unlisted (v ∷ vs) = unlisted-of (v .list) (unlisted vs)
+unlisted-of o n = one-if-none o + n
 
 -- There is room for the list of the lowest `count` values: each pair that is made was a ghost pair.
 pub record ListRoom (w p : List ℕ) (count used ghosts : ℕ) : Type 0 where

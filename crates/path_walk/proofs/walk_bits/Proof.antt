@@ -25,7 +25,7 @@ abbrev μ-loop : tie.MeasureT-loop
 μ-loop path from count pairs used node₀ i₀ node i = count - i
 
 loop-holds : tie.Need-loop-holds Inv-loop μ-loop
-loop-holds c = (c .before .before .pre .0, c .before .before .pre .2, λ bits e l s q. refl)
+loop-holds c = (omega (arith, c .before .before .pre .0), c .before .before .pre .2, λ bits e l s q. refl)
 
 is-pair-requires : tie.Need-is-pair-requires Inv-loop μ-loop
 is-pair-requires c κs = search needs

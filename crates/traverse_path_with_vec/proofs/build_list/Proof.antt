@@ -6,7 +6,8 @@ use native.Mathlib.Omega.{arith}
 use lib.ListN.{length}
 use Rattle.allocator.specs.HandleLaws.{handle-of-nil}
 use Rattle.store.specs.Layout.{valuesOf}
-use Rattle.traverse_path_with_vec.specs.Leads.{unlisted, Lists}
+use Rattle.reading.specs.Sound.{unlisted}
+use Rattle.traverse_path_with_vec.specs.Leads.{Lists}
 use Rattle.traverse_path_with_vec.proofs.Adding.{lists-start, lists-more, lists-end, spent-start, spent-more, one-left}
 use Rattle.traverse_path_with_vec.proofs.build_list.Statement.{statement}
 use Rattle.traverse_path_with_vec.proofs.build_list.Tie as tie
