@@ -1,2 +1,4 @@
 pub mod File
+pub mod Unfold
+pub mod Filling
 pub mod Cases
