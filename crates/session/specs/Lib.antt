@@ -16,3 +16,5 @@ pub mod Counted
 pub mod Theorem
 pub mod Steps
 pub mod Cases
+pub mod BytesRead
+pub mod TheoremBytes
