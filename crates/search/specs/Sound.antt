@@ -171,7 +171,7 @@ module _ (parents : Parents) (stack : List ℕ) where
       (small-sideward (x ∷ seen) (pos ∷ bits) x (omega arith) (omega (arith, ltb-true)) (distance x stack) (found-distance x stack)))
       (λ c′. tt))
 
-  few : (len e : ℕ) (bits : List Bool) → search parents stack len e ≡ some bits → Few bits
+  pub few : (len e : ℕ) (bits : List Bool) → search parents stack len e ≡ some bits → Few bits
   unfolding Small
   few len e bits q = search-ok Small Few parents stack len e bits (λ L l seen p s h. small-step seen p h) (omega arith) q
 

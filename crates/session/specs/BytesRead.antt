@@ -2,25 +2,25 @@
 -- Assumes nothing.
 use Prim.Native.Nat.{ℕ, zero, suc, _+_, _≤_}
 use mathlib.Core.Path.{_≡_, refl, sym, ap, ap₂, _∙_, subst}
-use mathlib.Core.Bool.{Bool, true, false, cond}
-use mathlib.Core.List.{List, [], _∷_, _++_, append-nil}
+use mathlib.Core.Bool.{Bool, true, false}
+use mathlib.Core.List.{List, [], _∷_, _++_}
 use mathlib.Core.Option.{Option, none, some, bind, Option·none-ne-some, Option·some-injective}
 use native.Mathlib.Omega.{arith}
 use lib.Dec.{eqb}
-use lib.ListN.{length, drop, length-append}
+use lib.ListN.{length, length-append}
 use lib.Seq.{drop-at}
 use borrow.Author.Tests.{eqb-true}
 use Rattle.words.specs.Lists.{All}
 use Rattle.atom.specs.Prefix.{encode}
-use Rattle.atom.specs.Parse.{Parse, blob, refused, ones, size-of, parse, blob-of}
+use Rattle.atom.specs.Parse.{Parse, blob, refused, ones, size-of, parse}
 use Rattle.atom.specs.ParseLaws.{parse-nil}
-use Rattle.atom.specs.RoundTrip.{Reads, read-back}
-use Rattle.clvm.specs.Tree.{Tree, place, atom, cons, follow, asList}
+use Rattle.atom.specs.RoundTrip.{read-back}
+use Rattle.clvm.specs.Tree.{Tree, atom, cons, follow, asList}
 use Rattle.path.specs.Bytes.{path-bytes, read-path}
 use Rattle.path.specs.BytesLaws.{round-trip}
-use Rattle.reading.specs.Format.{ParseOp, SExp, Cons, At, Step, go, stop, Read, accepted, at-end, settle, step, then, run, read, next-item, pushed, path-item, atom-item as read-atom}
-use Rattle.reading.specs.Plain.{Plain, no-trees, found, push-path-plain, plain-values, read-plain}
-use Rattle.session.specs.Items.{Item, cons-item, atom-item, reference-item, bytes-or-none, item-bytes, output, Op, want, make, Reading, collapse, step-read, feed, whole, read-items}
+use Rattle.reading.specs.Format.{ParseOp, SExp, Cons, Step, go, stop, accepted, at-end, settle, step, then, run, read, next-item, pushed, path-item, atom-item as read-atom}
+use Rattle.reading.specs.Plain.{Plain, found, push-path-plain, plain-values, read-plain}
+use Rattle.session.specs.Items.{Item, cons-item, atom-item, reference-item, bytes-or-none, output, Op, want, make, Reading, collapse, feed, whole, read-items}
 
 -- An item that has bytes: no atom of it is too long for a prefix.
 abbrev pub Formed : Item → Type 0
@@ -132,7 +132,7 @@ valued is ih k v vs m n t f e h =
 
 -- ---- each kind of item
 
-nonempty : (a b : List ℕ) → encode a ≡ some b → 1 ≤ length b
+pub nonempty : (a b : List ℕ) → encode a ≡ some b → 1 ≤ length b
 nonempty a [] e = let r = read-back a [] [] e in absurd (not-both 14 (r .start) 0 (parse []) parse-nil (r .parsed-is))
 nonempty a (x ∷ b) e = omega arith
 

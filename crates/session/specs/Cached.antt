@@ -1,6 +1,6 @@
 -- What the cache keeps true, with a list T of trees beside its entries: entry e stands for the tree T[e] as it is now, in which a gap is the one
 -- present open place.
-use mathlib.Core.Path.{_≡_, refl, ap, sym, _∙_, subst}
+use mathlib.Core.Path.{_≡_, refl, ap, _∙_}
 use mathlib.Core.Logic.{_⊎_, inl, inr}
 use mathlib.Core.List.{List, [], _∷_, _++_, map}
 use mathlib.Core.Option.{Option, none, some}
@@ -10,12 +10,11 @@ use native.Mathlib.Omega.{arith}
 use lib.Dec.{eqb, ltb}
 use lib.ListN.{length, set, drop}
 use borrow.Author.Tests.{eqb-true, eq-eqb}
-use Rattle.clvm.specs.Tree.{Tree, place, atom, cons, pick}
-use Rattle.session_file.specs.Unfold.{Unfolded, hole, leaf, node, tree-of}
-use Rattle.session.specs.Cache.{sentinel-key, atom-key, pair-key, Key, Parent, Entry, Cache, same-key, later, find-key, lookup, adjust, parents-at, length-at, add-parent, move-parents, no-parents, new-entry, with-entries, keep-or-add, find-or-add}
-use Rattle.words.specs.Lists.{same, same-eq, same-refl}
+use Rattle.clvm.specs.Tree.{Tree, atom, cons, pick}
+use Rattle.session.specs.Cache.{sentinel-key, atom-key, pair-key, Key, Parent, Entry, same-key, later, find-key, lookup, adjust, parents-at, length-at, add-parent, move-parents, new-entry}
+use Rattle.words.specs.Lists.{same-eq}
 use Rattle.path.specs.Bytes.{bit}
-use Rattle.session.specs.Trees.{nth, nth-append, nth-end, nth-map, opens, plug, plug-closed, pick-plug, plug-size}
+use Rattle.session.specs.Trees.{nth, nth-map, plug, pick-plug, plug-size}
 use Rattle.session.specs.Items.{full-size}
 
 -- ## Lookups

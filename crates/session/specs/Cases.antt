@@ -1,16 +1,15 @@
 -- 01's cases, computed: the whole case, which meets the premises; undo; and why each premise is needed.
-use Prim.Native.Nat.{ℕ, zero, suc, _≤_}
 use mathlib.Core.Path.{_≡_, refl}
-use mathlib.Core.Bool.{Bool, true, false}
-use mathlib.Core.List.{List, [], _∷_, map}
-use mathlib.Core.Option.{Option, none, some, bind}
+use mathlib.Core.Bool.{false}
+use mathlib.Core.List.{[], _∷_, map}
+use mathlib.Core.Option.{none, some, bind}
 use native.Mathlib.Omega.{arith}
 use Rattle.words.specs.BigEndian.{big-endian}
 use Rattle.allocator.specs.Handle.{node-of, handle-of}
 use Rattle.allocator.specs.SmallAtom.{small-bytes, len-for-value, further-bytes}
 use Rattle.atom.specs.Prefix.{first-width, prefix-width, encode}
 use Rattle.atom.specs.Write.{serialized-length}
-use Rattle.clvm.specs.Tree.{Tree, atom, cons}
+use Rattle.clvm.specs.Tree.{atom, cons}
 use Rattle.path.specs.Bytes.{path-bytes, octets}
 use Rattle.path.specs.Measure.{counted}
 use Rattle.search.specs.Search.{walk, passes, search}
@@ -19,7 +18,7 @@ use Rattle.session_file.specs.Unfold.{unfolded}
 use Rattle.session_file.specs.Filling.{plain-filling}
 use Rattle.session_file.specs.Cases.{foobar, whole-file}
 use Rattle.session.specs.Cache.{enter, update}
-use Rattle.session.specs.Items.{Item, cons-item, atom-item, reference-item, read-items}
+use Rattle.session.specs.Items.{cons-item, atom-item, reference-item, read-items}
 use Rattle.session.specs.Writer.{write, resume, start}
 use Rattle.session.specs.ReadBack.{Apart}
 use Rattle.session.specs.FindPath.{find-in}

@@ -1,9 +1,9 @@
 -- The reader makes whole trees only.
-use mathlib.Core.Path.{_≡_, refl, ap, sym, _∙_, subst}
-use mathlib.Core.List.{List, [], _∷_, _++_, map}
+use mathlib.Core.Path.{_≡_, refl, ap, _∙_}
+use mathlib.Core.List.{List, [], _∷_}
 use mathlib.Core.Option.{Option, none, some, bind}
 use mathlib.Core.Bool.{Bool, true, false}
-use Prim.Native.Nat.{ℕ, zero, suc, _+_}
+use Prim.Native.Nat.{ℕ, _+_}
 use native.Mathlib.Omega.{arith}
 use Rattle.clvm.specs.Tree.{Tree, place, atom, cons, pick, follow, asList}
 use Rattle.session.specs.Items.{cons-item, atom-item, reference-item, Item, Op, want, make, Reading, collapse, step-read, feed, whole, read-items}

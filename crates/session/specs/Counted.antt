@@ -1,22 +1,22 @@
 -- 01's measure of a path never counts less than the path's atom takes.
 -- Assumes nothing.
-use Prim.Native.Nat.{ℕ, zero, suc, _+_, _-_, _*_, _/_, _%_, _^_, _≤_, _<_}
-use mathlib.Core.Path.{_≡_, refl, sym, ap, _∙_, subst}
+use Prim.Native.Nat.{ℕ, zero, suc, _+_, _/_, _%_, _^_, _≤_, _<_}
+use mathlib.Core.Path.{_≡_, refl, sym, ap, _∙_}
 use mathlib.Core.Bool.{Bool, true, false, cond, _&&_}
 use mathlib.Core.List.{List, [], _∷_, _++_}
 use mathlib.Core.Option.{Option, none, some}
 use native.Mathlib.Omega.{arith}
 use lib.Dec.{eqb, ltb, leb}
-use lib.ListN.{length, getD, take, length-append}
+use lib.ListN.{length, getD, length-append}
 use lib.Seq.{take-all}
-use borrow.Author.Tests.{ltb-true, ltb-false, eqb-true, eqb-false, eq-eqb, le-leb}
+use borrow.Author.Tests.{ltb-true, ltb-false, eqb-true, eq-eqb, le-leb}
 use Rattle.words.specs.Choice.{by-cond, by-lt}
-use Rattle.atom.specs.Prefix.{least, width, single}
+use Rattle.atom.specs.Prefix.{width, single}
 use Rattle.atom.specs.Write.{serialized-length}
 use Rattle.atom.specs.PrefixLaws.{Carries, width-carries, single-one, single-length}
 use Rattle.atom.specs.WriteLaws.{width-of-single, width-of-none, width-of-sized, length-some, length-none}
-use Rattle.path.specs.Bytes.{bit, value, octets, path-bytes}
-use Rattle.path.specs.BytesLaws.{length-path-bytes, octets-suc}
+use Rattle.path.specs.Bytes.{value, octets, path-bytes}
+use Rattle.path.specs.BytesLaws.{length-path-bytes}
 use Rattle.path.specs.Measure.{counted-bytes, counted}
 use Rattle.session.specs.FindPathLaws.{Covers}
 

@@ -18,3 +18,7 @@ pub mod Steps
 pub mod Cases
 pub mod BytesRead
 pub mod TheoremBytes
+pub mod Kept
+pub mod Formed
+pub mod FileAtoms
+pub mod TheoremFile
