@@ -1,6 +1,6 @@
 -- Whether a reference is written for a subtree, and the path that it has: the exceptions of `find_path` in tree_cache.rs, the search, and the rule by which
 -- a path is used, over any measure of a path. 01's measure is `counted` of the crate path.
-use Prim.Native.Nat.{ℕ, _+_}
+use Prim.Native.Nat.{ℕ}
 use mathlib.Core.Bool.{Bool, cond}
 use mathlib.Core.List.{List, [], _∷_}
 use mathlib.Core.Option.{Option, none, some}
