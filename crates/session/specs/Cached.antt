@@ -70,7 +70,7 @@ lookup-append h (x ∷ l) m e q = go (eqb h (x .0)) q (lookup-append h l m e)
     go true q ih = q
     go false q ih = ih q
 
--- a handle that is found after one is added was found before, or is the one added
+-- A handle that is found after one is added was found before, or is the one added.
 pub lookup-end : (h : ℕ) (l : List (ℕ × ℕ)) (m : ℕ × ℕ) (e : ℕ) → lookup h (l ++ m ∷ []) ≡ some e → (lookup h l ≡ some e) ⊎ (h ≡ m .0)
 lookup-end h [] m e q = go (eqb h (m .0)) refl q
   where
@@ -95,7 +95,7 @@ lookup-new h (x ∷ l) e q = go (eqb h (x .0)) q (lookup-new h l e)
 
 -- ## Entries and their trees
 
--- a parent p of a child whose tree is v has v at that side
+-- A parent p of a child whose tree is v has v at that side.
 abbrev pub LinkOK : List Tree → Tree → Parent → Type 0
 LinkOK T v p = (l : Tree) × (r : Tree) × (nth T (p .0) ≡ some (cons l r)) × (pick (p .1) l r ≡ v)
 
@@ -108,14 +108,14 @@ KeyOK T v sentinel-key = Unit {0}
 KeyOK T v (atom-key bs) = v ≡ atom bs
 KeyOK T v (pair-key a b) = (l : Tree) × (r : Tree) × (nth T a ≡ some l) × (nth T b ≡ some r) × (v ≡ cons l r)
 
--- each entry's key and parents agree with its tree, and its length is at most the tree's in full
+-- Each entry's key and parents agree with its tree, and its length is at most the tree's in full.
 abbrev pub Good : List Tree → List Entry → List Tree → Type 0
 Good T [] [] = Unit {0}
 Good T [] (v ∷ vs) = ⊥
 Good T (x ∷ es) [] = ⊥
 Good T (x ∷ es) (v ∷ vs) = KeyOK T v (x .key) × LinksOK T v (x .parents) × Good T es vs × (x .len ≤ full-size v)
 
--- what T says, T′ says
+-- What T says, T′ says.
 abbrev pub Sub : List Tree → List Tree → Type 0
 Sub T T′ = (e : ℕ) (v : Tree) → nth T e ≡ some v → nth T′ e ≡ some v
 

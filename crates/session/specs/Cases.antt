@@ -1,28 +1,30 @@
 -- 01's cases, computed: the whole case, which meets the premises; undo; and why each premise is needed.
+use Prim.Native.Nat.{ℕ}
 use mathlib.Core.Path.{_≡_, refl}
 use mathlib.Core.Bool.{false}
-use mathlib.Core.List.{[], _∷_, map}
+use mathlib.Core.List.{List, [], _∷_, map}
 use mathlib.Core.Option.{none, some, bind}
 use native.Mathlib.Omega.{arith}
-use Rattle.words.specs.BigEndian.{big-endian}
+use Rattle.words.specs.BigEndian.{big-endian, number-after}
 use Rattle.allocator.specs.Handle.{node-of, handle-of}
-use Rattle.allocator.specs.SmallAtom.{small-bytes, len-for-value, further-bytes}
+use Rattle.allocator.specs.SmallAtom.{small-bytes, len-for-value, further-bytes, fits-in-small-atom, is-small-atom}
 use Rattle.atom.specs.Prefix.{first-width, prefix-width, encode}
 use Rattle.atom.specs.Write.{serialized-length}
 use Rattle.clvm.specs.Tree.{atom, cons}
 use Rattle.path.specs.Bytes.{path-bytes, octets}
 use Rattle.path.specs.Measure.{counted}
 use Rattle.search.specs.Search.{walk, passes, search}
-use Rattle.session_file.specs.File.{File, add, restore}
+use Rattle.session_file.specs.File.{File, add, restore, version-1, file, atoms, pairs, steps}
 use Rattle.session_file.specs.Unfold.{unfolded}
 use Rattle.session_file.specs.Filling.{plain-filling}
-use Rattle.session_file.specs.Cases.{foobar, whole-file}
+use Rattle.session_file.specs.Cases.{foobar, whole-case, whole-file}
+use Rattle.session.specs.Premises.{Apart}
 use Rattle.session.specs.Cache.{enter, update}
-use Rattle.session.specs.Items.{cons-item, atom-item, reference-item, read-items}
+use Rattle.session.specs.Items.{cons-item, atom-item, reference-item, read-items, output}
 use Rattle.session.specs.Writer.{write, resume, start}
-use Rattle.session.specs.ReadBack.{Apart}
 use Rattle.session.specs.FindPath.{find-in}
 use Rattle.session.specs.Steps.{Run, run-steps}
+use Rattle.session.specs.Call.{after-file}
 
 abbrev run : File → Run
 run f = run-steps counted 65535 f (f .steps) [] start
@@ -50,6 +52,34 @@ whole-fits = refl
 whole-short : run-steps counted 9 whole-file (whole-file .steps) [] start .number ≡ 13
 unfolding run-steps unfolded enter update write resume find-in walk passes search node-of handle-of serialized-length encode prefix-width first-width path-bytes octets big-endian
 whole-short = refl
+
+-- The call: number 0, two steps, ten bytes; whatever the slices held, they hold the words and the bytes, and zero past them. (Question 1 is left out.)
+whole-call : after-file {C = ℕ} 0 version-1 counted (file version-1 whole-case) (record { work = 7 ∷ 8 ∷ []; words = 1 ∷ 2 ∷ 3 ∷ []; checkpoints = 4 ∷ []; output = 5 ∷ 5 ∷ 5 ∷ 5 ∷ 5 ∷ 5 ∷ 5 ∷ 5 ∷ 5 ∷ 5 ∷ 5 ∷ 5 ∷ [] })
+    ≡ record {
+      answer = record { number = 0; steps = 2; size = 10 };
+      slices =
+          record {
+            work = 0 ∷ 0 ∷ [];
+            words = 16 ∷ 21 ∷ 0 ∷ [];
+            checkpoints = 0 ∷ [];
+            output = 0xff ∷ 0x86 ∷ 0x66 ∷ 0x6f ∷ 0x6f ∷ 0x62 ∷ 0x61 ∷ 0x72 ∷ 0xfe ∷ 0x02 ∷ 0 ∷ 0 ∷ [];
+          };
+    }
+unfolding file atoms pairs steps number-after fits-in-small-atom is-small-atom further-bytes run-steps unfolded enter update write resume find-in walk passes search node-of handle-of serialized-length encode prefix-width first-width path-bytes octets big-endian
+whole-call = refl
+
+-- ---- (abc . abc) is `ff 83 61 62 63 fe 02`; (ab . ab) is `ff 82 61 62 82 61 62`
+
+abbrev twice : List ℕ → File
+twice bytes = record { atoms = bytes ∷ []; pairs = record { left = 0x4000000; right = 0x4000000 } ∷ []; sentinel = none; steps = add 0 ∷ [] }
+
+abc-bytes : output (run (twice (0x61 ∷ 0x62 ∷ 0x63 ∷ [])) .last .written .items) ≡ 0xff ∷ 0x83 ∷ 0x61 ∷ 0x62 ∷ 0x63 ∷ 0xfe ∷ 0x02 ∷ []
+unfolding run-steps unfolded enter update write resume find-in walk passes search node-of handle-of serialized-length encode prefix-width first-width path-bytes octets big-endian
+abc-bytes = refl
+
+ab-bytes : output (run (twice (0x61 ∷ 0x62 ∷ [])) .last .written .items) ≡ 0xff ∷ 0x82 ∷ 0x61 ∷ 0x62 ∷ 0x82 ∷ 0x61 ∷ 0x62 ∷ []
+unfolding run-steps unfolded enter update write resume find-in walk passes search node-of handle-of serialized-length encode prefix-width first-width path-bytes octets big-endian
+ab-bytes = refl
 
 -- ---- ((foobar . foobar) . (foobar . foobar)): the second half is a reference
 
@@ -84,6 +114,11 @@ undone =
 undone-words : run undone .words ≡ 4 ∷ 25 ∷ 4 ∷ 29 ∷ []
 unfolding undone run-steps unfolded enter update write resume find-in walk passes search node-of handle-of serialized-length encode prefix-width first-width path-bytes octets big-endian small-bytes len-for-value further-bytes
 undone-words = refl
+
+undone-bytes : output (run undone .last .written .items)
+    ≡ 0xff ∷ 0xff ∷ 0xff ∷ 0x86 ∷ 0x66 ∷ 0x6f ∷ 0x6f ∷ 0x62 ∷ 0x61 ∷ 0x72 ∷ 0x80 ∷ 0x80 ∷ 0xfe ∷ 0x04 ∷ []
+unfolding undone run-steps unfolded enter update write resume find-in walk passes search node-of handle-of serialized-length encode prefix-width first-width path-bytes octets big-endian small-bytes len-for-value further-bytes
+undone-bytes = refl
 
 -- ((C . nil) . C), where the plain filling of A and C is ((C . nil) . B).
 undone-read : read-items (run undone .last .written .items)

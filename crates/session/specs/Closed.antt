@@ -6,9 +6,9 @@ use mathlib.Core.Bool.{Bool, true, false}
 use Prim.Native.Nat.{ℕ, _+_}
 use native.Mathlib.Omega.{arith}
 use Rattle.clvm.specs.Tree.{Tree, place, atom, cons, pick, follow, asList}
+use Rattle.session.specs.Premises.{opens}
 use Rattle.session.specs.Items.{cons-item, atom-item, reference-item, Item, Op, want, make, Reading, collapse, step-read, feed, whole, read-items}
-use Rattle.session.specs.Trees.{opens}
-use Rattle.session.specs.ReadBack.{sumOpens}
+use Rattle.session.specs.ReadBack.{sum-opens}
 
 pick-closed : (b : Bool) (l r : Tree) → opens (cons l r) ≡ 0 → opens (pick b l r) ≡ 0
 pick-closed false l r z = omega arith
@@ -20,23 +20,23 @@ follow-closed (b ∷ path) place v z e = let q : _≡_ {A = ℕ} 0 1 = cc in abs
 follow-closed (b ∷ path) (atom bs) v z e = let q : _≡_ {A = ℕ} 0 1 = cc in absurd (omega arith)
 follow-closed (b ∷ path) (cons l r) v z e = follow-closed path (pick b l r) v (pick-closed b l r z) e
 
-list-opens : (vs : List Tree) → opens (asList vs) ≡ sumOpens vs
+list-opens : (vs : List Tree) → opens (asList vs) ≡ sum-opens vs
 list-opens [] = refl
 list-opens (v ∷ vs) = ap (λ n. opens v + n) (list-opens vs)
 
-collapse-closed : (k : List Op) (vs : List Tree) → sumOpens vs ≡ 0 → sumOpens (collapse k vs .1) ≡ 0
+collapse-closed : (k : List Op) (vs : List Tree) → sum-opens vs ≡ 0 → sum-opens (collapse k vs .1) ≡ 0
 collapse-closed [] vs z = z
 collapse-closed (want ∷ k) vs z = z
 collapse-closed (make ∷ k) [] z = z
 collapse-closed (make ∷ k) (b ∷ []) z = z
 collapse-closed (make ∷ k) (b ∷ a ∷ vs) z = collapse-closed k (cons a b ∷ vs) (omega arith)
 
--- each value of a reading is whole
+-- Each value of a reading is whole.
 abbrev Clear : Option Reading → Type 0
 Clear none = Unit {0}
-Clear (some r) = sumOpens (r .1) ≡ 0
+Clear (some r) = sum-opens (r .1) ≡ 0
 
-step-closed : (i : Item) (k : List Op) (vs : List Tree) → sumOpens vs ≡ 0 → Clear (step-read i k vs)
+step-closed : (i : Item) (k : List Op) (vs : List Tree) → sum-opens vs ≡ 0 → Clear (step-read i k vs)
 unfolding bind
 step-closed i [] vs z = tt
 step-closed i (make ∷ k) vs z = tt
@@ -48,12 +48,12 @@ step-closed (reference-item path) (want ∷ k) vs z = go (follow path (asList vs
     go none e = tt
     go (some v) e = collapse-closed k (v ∷ vs) (omega (arith, follow-closed path (asList vs) v (list-opens vs ∙ z) e))
 
-feed-closed : (is : List Item) (r : Reading) → sumOpens (r .1) ≡ 0 → Clear (feed is r)
+feed-closed : (is : List Item) (r : Reading) → sum-opens (r .1) ≡ 0 → Clear (feed is r)
 unfolding bind
 feed-closed [] r z = z
 feed-closed (i ∷ is) r z = go (step-read i (r .0) (r .1)) (step-closed i (r .0) (r .1) z) (feed-closed is)
   where
-    go : (o : Option Reading) → Clear o → ((q : Reading) → sumOpens (q .1) ≡ 0 → Clear (feed is q)) → Clear (bind o (feed is))
+    go : (o : Option Reading) → Clear o → ((q : Reading) → sum-opens (q .1) ≡ 0 → Clear (feed is q)) → Clear (bind o (feed is))
     go none c ih = tt
     go (some q) c ih = ih q c
 
@@ -61,7 +61,7 @@ pub read-closed : (is : List Item) (v : Tree) → read-items is ≡ some v → o
 unfolding bind
 read-closed is v e = go (feed is (want ∷ [], [])) (feed-closed is (want ∷ [], []) refl) e
   where
-    last : (k : List Op) (vs : List Tree) → sumOpens vs ≡ 0 → whole k vs ≡ some v → opens v ≡ 0
+    last : (k : List Op) (vs : List Tree) → sum-opens vs ≡ 0 → whole k vs ≡ some v → opens v ≡ 0
     last (o ∷ k) vs z e = let q : _≡_ {A = ℕ} 0 1 = cc in absurd (omega arith)
     last [] [] z e = let q : _≡_ {A = ℕ} 0 1 = cc in absurd (omega arith)
     last [] (u ∷ []) z e = let alike : u ≡ v = cc in omega (arith, ap opens alike)

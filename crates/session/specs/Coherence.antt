@@ -38,7 +38,7 @@ unfolding handle-of
 pair-handle i = omega arith
 
 module _ (f : File) (table : List Unfolded) where
-  -- the unfolding by the whole table
+  -- The unfolding by the whole table.
   abbrev known : ℕ → Unfolded
   known h = unfold-with f table h
 

@@ -9,28 +9,29 @@ use native.Mathlib.Omega.{arith}
 use lib.ListN.{length, set, drop}
 use Rattle.clvm.specs.Tree.{Tree, place, atom, cons, pick}
 use Rattle.session_file.specs.Unfold.{Unfolded, hole, leaf, node, tree-of}
+use Rattle.session.specs.Premises.{opens}
 use Rattle.session.specs.Cache.{sentinel-key, atom-key, pair-key, Key, Parent, Entry, Cache, same-key, later, find-key, lookup, adjust, parents-at, length-at, pair-length, add-parent, move-parents, no-parents, new-entry, with-entries, keep-or-add, find-or-add, meet-sentinel, link-pair, join-pair, known-or, enter, sentinel-parents, clear-sentinel, place-root, update}
 use Rattle.words.specs.Lists.{same, same-refl}
 use Rattle.atom.specs.Write.{serialized-length}
-use Rattle.session.specs.Trees.{nth, nth-append, nth-end, nth-map, opens, plug, plug-closed, pick-plug}
+use Rattle.session.specs.Trees.{nth, nth-append, nth-end, nth-map, plug, plug-closed, pick-plug}
 use Rattle.session.specs.Cached.{LinkOK, LinksOK, KeyOK, Good, Sub, find-append, find-end, find-adjust, lookup-append, lookup-end, lookup-new, good-len, good-mono, good-length, good-new, good-adjust, good-parents, good-find, good-plug, links-mono, links-add, links-move}
 use Rattle.session.specs.Items.{full-size}
 
--- the handle h has an entry that stands for v
+-- The handle h has an entry that stands for v.
 abbrev pub PairAt : Cache → List Tree → ℕ → Tree → Type 0
 PairAt c T h v = (e : ℕ) × (lookup h (c .mapped) ≡ some e) × (nth T e ≡ some v)
 
--- each subtree has an entry that stands for its shape
+-- Each subtree has an entry that stands for its shape.
 abbrev pub Agree : Cache → List Tree → Unfolded → Type 0
 Agree c T hole = Unit {0}
 Agree c T (leaf h bs) = (e : ℕ) × (find-key (atom-key bs) (c .entries) ≡ some e) × (nth T e ≡ some (atom bs))
 Agree c T (node h l r) = PairAt c T h (cons (tree-of l) (tree-of r)) × Agree c T l × Agree c T r
 
--- the present sentinel entry stands for the open place
+-- The present sentinel entry stands for the open place.
 abbrev pub Open : Cache → List Tree → Type 0
 Open c T = (s : ℕ) × (c .sentinel-entry ≡ some s) × (nth T s ≡ some place)
 
--- what is found before is found after
+-- What is found before is found after.
 pub record Ext (c : Cache) (T : List Tree) (c′ : Cache) (T′ : List Tree) : Type 0 where
   pub sub : Sub T T′
   pub atoms : (bs : List ℕ) (e : ℕ) → find-key (atom-key bs) (c .entries) ≡ some e → find-key (atom-key bs) (c′ .entries) ≡ some e
@@ -67,7 +68,7 @@ agree-plug t c T (node h l r) z a = (
 
 -- The file's unfolding of each handle; the handles barred, above an open place of an earlier added tree; those above one of the present tree.
 module _ (U : ℕ → Unfolded) (B A : ℕ → Type 0) where
-  -- a mapped handle is barred, or its whole unfolding agrees, and it is above the present open place or above none
+  -- A mapped handle is barred, or its whole unfolding agrees, and it is above the present open place or above none.
   abbrev pub MapOK : Cache → List Tree → ℕ → Type 0
   MapOK c T h = B h ⊎ (Agree c T (U h) × ((A h × Open c T) ⊎ (opens (tree-of (U h)) ≡ 0)))
 
@@ -75,7 +76,7 @@ module _ (U : ℕ → Unfolded) (B A : ℕ → Type 0) where
     pub good : Good T (c .entries) T
     pub maps : (h e : ℕ) → lookup h (c .mapped) ≡ some e → MapOK c T h
 
-  -- a tree that may be entered
+  -- A tree that may be entered.
   abbrev pub Fits : Unfolded → Type 0
   Fits hole = Unit {0}
   Fits (leaf h bs) = Unit {0}
@@ -97,7 +98,7 @@ module _ (U : ℕ → Unfolded) (B A : ℕ → Type 0) where
     pub agrees : Agree (r .0) trees u
     pub opened : (opens (tree-of u) ≡ 0) ⊎ Open (r .0) trees
 
-  -- an entry found, or added for the key k and the tree v
+  -- An entry found, or added for the key k and the tree v.
   pub record Found (c : Cache) (T : List Tree) (v : Tree) (r : Cache × ℕ) : Type 0 where
     pub trees : List Tree
     pub ext : Ext c T (r .0) trees
@@ -107,7 +108,7 @@ module _ (U : ℕ → Unfolded) (B A : ℕ → Type 0) where
   sub-end : (T : List Tree) (v : Tree) → Sub T (T ++ v ∷ [])
   sub-end T v e w h = nth-append T (v ∷ []) e w h
 
-  -- a new entry at the end
+  -- A new entry at the end.
   new-ext : (c : Cache) (T : List Tree) (k : Key) (n : ℕ) (v : Tree)
       → Ext c T (with-entries (c .entries ++ new-entry k n ∷ []) c) (T ++ v ∷ [])
   new-ext c T k n v = record {
@@ -124,7 +125,7 @@ module _ (U : ℕ → Unfolded) (B A : ℕ → Type 0) where
       → Good (T ++ v ∷ []) (c .entries ++ new-entry k n ∷ []) (T ++ v ∷ [])
   new-good c T k n v g q le = good-mono T (T ++ v ∷ []) (sub-end T v) (c .entries ++ new-entry k n ∷ []) (T ++ v ∷ []) (good-new T (c .entries) T k n v g q le)
 
-  -- the tree of a key, where it has but one
+  -- The tree of a key, where it has but one.
   abbrev KeyTree : List Tree → Key → Tree → Type 0
   KeyTree T k v = (w : Tree) → KeyOK T w k → w ≡ v
 
@@ -146,7 +147,7 @@ module _ (U : ℕ → Unfolded) (B A : ℕ → Type 0) where
         stands = new-stands c T v (C .good);
       }
 
-  -- a key that is the same as itself is found once it is there
+  -- A key that is the same as itself is found once it is there.
   found-key : (c : Cache) (k : Key) (n : ℕ) → same-key k k ≡ true → (o : Option ℕ) → find-key k (c .entries) ≡ o
       → find-key k (keep-or-add o k n c .0 .entries) ≡ some (keep-or-add o k n c .1)
   found-key c k n s (some e) f = f
@@ -193,7 +194,7 @@ module _ (U : ℕ → Unfolded) (B A : ℕ → Type 0) where
     stays = λ o. o;
   }
 
-  -- the pair's handle is found: it is new, or was met below, where it agrees already
+  -- The pair's handle is found: it is new, or was met below, where it agrees already.
   link-at : (h a b : ℕ) (f : Cache × ℕ) (T : List Tree) (l r : Unfolded) → Cached (f .0) T → Fits (node h l r)
       → nth T (f .1) ≡ some (cons (tree-of l) (tree-of r)) → PairAt (link-pair h a b f .0) T h (cons (tree-of l) (tree-of r))
   link-at h a b f T l r C fit s = go (lookup h (f .0 .mapped)) refl
@@ -356,7 +357,7 @@ module _ (U : ℕ → Unfolded) (B A A′ : ℕ → Type 0) where
       go h (inl b) = inl (inl b)
       go h (inr m) = rest h (m .0) (m .1)
 
-  -- no sentinel was met yet, or the latest one is the open place
+  -- No sentinel was met yet, or the latest one is the open place.
   abbrev pub Awaits : Cache → List Tree → Type 0
   Awaits c T = (c .sentinel-entry ≡ none) ⊎ Open c T
 
@@ -367,7 +368,7 @@ module _ (U : ℕ → Unfolded) (B A A′ : ℕ → Type 0) where
     pub agrees : Agree c′ trees t
     pub opened : (opens (tree-of t) ≡ 0) ⊎ Open c′ trees
 
-  -- the sentinel entry's parents are taken away; they are parents of the tree that comes
+  -- The sentinel entry's parents are taken away; they are parents of the tree that comes.
   clear-ext : (o : Option ℕ) (c : Cache) (T : List Tree) → Ext c T (with-entries (clear-sentinel o (c .entries)) c) T
   clear-ext none c T = ext-refl c T
   clear-ext (some s) c T = adjust-ext U Barred A′ s no-parents c T

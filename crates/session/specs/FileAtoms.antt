@@ -99,27 +99,23 @@ got-value a b r s e = cc
 got-rest : {A : Type 0} (a b : A) (r s : List ℕ) → got a r ≡ got b s → r ≡ s
 got-rest a b r s e = cc
 
--- Bytes of a file, short enough.
-abbrev Part : List ℕ → Type 0
-Part = Atom
-
-part-take : (n : ℕ) (s : List ℕ) → Part s → Part (take n s)
+part-take : (n : ℕ) (s : List ℕ) → Atom s → Atom (take n s)
 part-take n s h = (omega (arith, length-take n s, h .0), all-take (λ (x : ℕ). x < 256) n s (h .1))
 
-part-drop : (n : ℕ) (s : List ℕ) → Part s → Part (drop n s)
+part-drop : (n : ℕ) (s : List ℕ) → Atom s → Atom (drop n s)
 part-drop n s h = (omega (arith, length-drop n s, h .0), all-drop (λ (x : ℕ). x < 256) n s (h .1))
 
-bytes-parts : (n : ℕ) (s b r : List ℕ) → Part s → bytes-of n s ≡ got b r → Part b × Part r
+bytes-parts : (n : ℕ) (s b r : List ℕ) → Atom s → bytes-of n s ≡ got b r → Atom b × Atom r
 bytes-parts n s b r h e =
     let g = asked-of 4 (leb n (length s)) (got (take n s) (drop n s)) b r e in
-    (subst Part (got-value (take n s) b (drop n s) r g) (part-take n s h), subst Part (got-rest (take n s) b (drop n s) r g) (part-drop n s h))
+    (subst Atom (got-value (take n s) b (drop n s) r g) (part-take n s h), subst Atom (got-rest (take n s) b (drop n s) r g) (part-drop n s h))
 
-field-rest : (n : ℕ) (s : List ℕ) (v : ℕ) (r : List ℕ) → Part s → field n s ≡ got v r → Part r
+field-rest : (n : ℕ) (s : List ℕ) (v : ℕ) (r : List ℕ) → Atom s → field n s ≡ got v r → Atom r
 field-rest n s v r h e =
     let t = then-of (bytes-of n s) _ v r e in
-    subst Part (got-rest _ v (t .rest) r (t .then-is)) (bytes-parts n s (t .first) (t .rest) h (t .first-is) .1)
+    subst Atom (got-rest _ v (t .rest) r (t .then-is)) (bytes-parts n s (t .first) (t .rest) h (t .first-is) .1)
 
-atom-parts : (l : Limits) (u : ℕ) (s b r : List ℕ) → Part s → atom l u s ≡ got b r → Part b × Part r
+atom-parts : (l : Limits) (u : ℕ) (s b r : List ℕ) → Atom s → atom l u s ≡ got b r → Atom b × Atom r
 atom-parts l u s b r h e =
     let t = then-of (field (l .count-bytes) s) _ b r e in
     let v = then-of (bytes-of (t .first) (t .rest)) _ b r (t .then-is) in
@@ -127,9 +123,9 @@ atom-parts l u s b r h e =
     let g =
     asked-of 6 (listed (fits-in-small-atom (v .first))) (got (v .first) (v .rest)) b r
     (asked-of 5 (leb (u + t .first) (l .atom-bytes)) (asked 6 (listed (fits-in-small-atom (v .first))) (got (v .first) (v .rest))) b r (v .then-is)) in
-    (subst Part (got-value (v .first) b (v .rest) r g) (p .0), subst Part (got-rest (v .first) b (v .rest) r g) (p .1))
+    (subst Atom (got-value (v .first) b (v .rest) r g) (p .0), subst Atom (got-rest (v .first) b (v .rest) r g) (p .1))
 
-atoms-parts : (l : Limits) (n u : ℕ) (done : List (List ℕ)) (s : List ℕ) (xs : List (List ℕ)) (r : List ℕ) → All Atom done → Part s
+atoms-parts : (l : Limits) (n u : ℕ) (done : List (List ℕ)) (s : List ℕ) (xs : List (List ℕ)) (r : List ℕ) → All Atom done → Atom s
     → atoms l n u done s ≡ got xs r → All Atom xs
 unfolding atoms
 atoms-parts l zero u done s xs r d h e = subst (All Atom) (got-value done xs s r e) d
@@ -138,11 +134,11 @@ atoms-parts l (suc n) u done s xs r d h e =
     let p = atom-parts l u s (t .first) (t .rest) h (t .first-is) in
     atoms-parts l n (u + length (t .first)) (done ++ t .first ∷ []) (t .rest) xs r (all-append Atom done (t .first ∷ []) d (p .0, tt)) (p .1) (t .then-is)
 
-count-rest : (w most : ℕ) (s : List ℕ) (v : ℕ) (r : List ℕ) → Part s → count w most s ≡ got v r → Part r
+count-rest : (w most : ℕ) (s : List ℕ) (v : ℕ) (r : List ℕ) → Atom s → count w most s ≡ got v r → Atom r
 count-rest w most s v r h e =
     let t = then-of (field w s) _ v r e in
     let g = asked-of 5 (leb (t .first) most) (got (t .first) (t .rest)) v r (t .then-is) in
-    subst Part (got-rest (t .first) v (t .rest) r g) (field-rest w s (t .first) (t .rest) h (t .first-is))
+    subst Atom (got-rest (t .first) v (t .rest) r g) (field-rest w s (t .first) (t .rest) h (t .first-is))
 
 -- The atoms of a file that is not refused.
 pub file-atoms : (l : Limits) (input : List ℕ) (f : File) (r : List ℕ) → Atom input → file l input ≡ got f r → All Atom (f .atoms)

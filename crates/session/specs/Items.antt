@@ -12,7 +12,7 @@ use Rattle.clvm.specs.Tree.{Tree, place, atom, cons, follow, asList}
 pub data Item : Type 0 where
   cons-item : Item
   atom-item : List ℕ → Item
-  -- the steps from the stack as a list: false left, true right
+  -- The steps from the stack as a list: false left, true right.
   reference-item : List Bool → Item
 
 abbrev pub item-size : Item → ℕ
@@ -24,7 +24,7 @@ abbrev pub size-of : List Item → ℕ
 size-of [] = 0
 size-of (i ∷ is) = item-size i + size-of is
 
--- a tree in full: one byte for each pair, and each atom with its prefix
+-- A tree in full: one byte for each pair, and each atom with its prefix.
 abbrev pub full-size : Tree → ℕ
 full-size place = 0
 full-size (atom bs) = serialized-length bs
@@ -52,11 +52,11 @@ pub data Op : Type 0 where
   want : Op
   make : Op
 
--- what is left to read, and the stack of values, top first
+-- What is left to read, and the stack of values, top first.
 abbrev pub Reading : Type 0
 Reading = List Op × List Tree
 
--- the pairs that are complete are made
+-- The pairs that are complete are made.
 abbrev pub collapse : List Op → List Tree → Reading
 collapse [] vs = ([], vs)
 collapse (want ∷ k) vs = (want ∷ k, vs)
@@ -75,7 +75,7 @@ abbrev pub feed : List Item → Reading → Option Reading
 feed [] r = some r
 feed (i ∷ is) r = bind (step-read i (r .0) (r .1)) (feed is)
 
--- one value, and nothing left to read
+-- One value, and nothing left to read.
 abbrev pub whole : List Op → List Tree → Option Tree
 whole (o ∷ k) vs = none
 whole [] [] = none
@@ -85,7 +85,7 @@ whole [] (v ∷ a ∷ vs) = none
 abbrev pub read-items : List Item → Option Tree
 read-items is = bind (feed is (want ∷ [], [])) (λ r. whole (r .0) (r .1))
 
--- each reference takes at most as many bytes as the tree that the reader puts there, in full
+-- Each reference takes at most as many bytes as the tree that the reader puts there, in full.
 abbrev pub ItemNoLonger : Item → List Tree → Type 0
 ItemNoLonger cons-item vs = Unit {0}
 ItemNoLonger (atom-item bs) vs = Unit {0}

@@ -1,6 +1,8 @@
 pub mod Cache
+pub mod CacheLaws
 pub mod Items
 pub mod Output
+pub mod Premises
 pub mod Writer
 pub mod Trees
 pub mod Cached
@@ -15,6 +17,7 @@ pub mod FindPathLaws
 pub mod Counted
 pub mod Theorem
 pub mod Steps
+pub mod Call
 pub mod Cases
 pub mod BytesRead
 pub mod TheoremBytes
@@ -22,3 +25,4 @@ pub mod Kept
 pub mod Formed
 pub mod FileAtoms
 pub mod TheoremFile
+pub mod Demand3

@@ -8,37 +8,38 @@ use Prim.Native.Nat.{ℕ, zero, suc, _+_, _-_, _≤_, _%_}
 use native.Mathlib.Omega.{arith}
 use Rattle.clvm.specs.Tree.{Tree, place, atom, cons, pick, follow, asList}
 use Rattle.session_file.specs.Unfold.{Unfolded, hole, leaf, node, tree-of}
+use Rattle.session.specs.Premises.{opens}
 use Rattle.session.specs.Cache.{sentinel-key, atom-key, pair-key, Key, Parent, Entry, Cache, find-key, lookup, parents-at, length-at}
 use Rattle.session.specs.Items.{cons-item, atom-item, reference-item, Item, Op, want, make, Reading, collapse, step-read, feed, whole, read-items, item-size, full-size, ItemNoLonger, NoLongerFrom, NoLonger}
 use Rattle.session.specs.Writer.{Todo, parse, close, Written, Outcome, done, stopped, refused, and-then, or-zero, atom-entry, pair-entry, push, pop2, close-up, choose, put-if, put, put-whole, write, resume}
-use Rattle.session.specs.Trees.{nth, opens, plug}
+use Rattle.session.specs.Trees.{nth, plug}
 use Rattle.session.specs.Cached.{LinkOK, LinksOK, Good, good-len}
 use Rattle.session.specs.Enter.{PairAt, Agree}
 
 -- ## What is asked of the search
 
--- each parent link is true of the trees tr
+-- Each parent link is true of the trees tr.
 abbrev pub Linked : List Entry → (ℕ → Tree) → Type 0
 Linked es tr = (x i : ℕ) (p : Parent) → nth (parents-at x es) i ≡ some p → (l : Tree) × (r : Tree) × (tr (p .0) ≡ cons l r) × (pick (p .1) l r ≡ tr x)
 
--- a path that is found leads to the tree of the entry that it was searched for
+-- A path that is found leads to the tree of the entry that it was searched for.
 abbrev pub Sound : (Cache → List ℕ → List ℕ → ℕ → ℕ → Option (List Bool)) → Type 0
 Sound find =
     (c : Cache) (marked stack : List ℕ) (h e : ℕ) (path : List Bool) (tr : ℕ → Tree) → Linked (c .entries) tr
     → find c marked stack h e ≡ some path → follow path (asList (map tr stack)) ≡ some (tr e)
 
--- a path that is found takes, as an item, at most the entry's length
+-- A path that is found takes, as an item, at most the entry's length.
 abbrev pub Short : (Cache → List ℕ → List ℕ → ℕ → ℕ → Option (List Bool)) → Type 0
 Short find =
     (c : Cache) (marked stack : List ℕ) (h e : ℕ) (path : List Bool) (tr : ℕ → Tree) → Linked (c .entries) tr
     → find c marked stack h e ≡ some path → item-size (reference-item path) ≤ length-at e (c .entries)
 
-abbrev pub orGap : Option Tree → Tree
-orGap none = place
-orGap (some v) = v
+abbrev pub or-gap : Option Tree → Tree
+or-gap none = place
+or-gap (some v) = v
 
-abbrev pub valueOf : List Tree → ℕ → Tree
-valueOf T e = orGap (nth T e)
+abbrev pub value-of : List Tree → ℕ → Tree
+value-of T e = or-gap (nth T e)
 
 links-nth : (T : List Tree) (v : Tree) (ps : List Parent) (i : ℕ) (p : Parent) → LinksOK T v ps → nth ps i ≡ some p → LinkOK T v p
 links-nth T v [] i p h q = let z : _≡_ {A = ℕ} 0 1 = cc in absurd (omega arith)
@@ -53,10 +54,10 @@ good-link T (e ∷ es) [] x i p g q = absurd g
 good-link T (e ∷ es) (v ∷ vs) zero i p g q = (v, refl, links-nth T v (e .parents) i p (g .1) q)
 good-link T (e ∷ es) (v ∷ vs) (suc x) i p g q = good-link T es vs x i p (g .2) q
 
-pub good-linked : (T : List Tree) (es : List Entry) → Good T es T → Linked es (valueOf T)
+pub good-linked : (T : List Tree) (es : List Entry) → Good T es T → Linked es (value-of T)
 good-linked T es g x i p q =
     let a = good-link T es T x i p g q in
-    (a .2 .0, a .2 .1, ap orGap (a .2 .2), a .2 .3 ∙ sym (ap orGap (a .1)))
+    (a .2 .0, a .2 .1, ap or-gap (a .2 .2), a .2 .3 ∙ sym (ap or-gap (a .1)))
 
 -- ## The relation
 
@@ -65,7 +66,7 @@ forget [] = []
 forget (parse u ∷ k) = want ∷ forget k
 forget (close h ∷ k) = make ∷ forget k
 
--- the stack in the end
+-- The stack in the end.
 abbrev pub build : List Todo → List Tree → List Tree
 build [] vs = vs
 build (parse u ∷ k) vs = build k (tree-of u ∷ vs)
@@ -79,7 +80,7 @@ Stands T [] (v ∷ vs) = ⊥
 Stands T (e ∷ es) [] = ⊥
 Stands T (e ∷ es) (v ∷ vs) = (nth T e ≡ some v) × Stands T es vs
 
--- each subtree that is left agrees with the cache, and each pair that is open will be what its entry stands for
+-- Each subtree that is left agrees with the cache, and each pair that is open will be what its entry stands for.
 abbrev pub Plan : Cache → List Tree → List Todo → List Tree → Type 0
 Plan c T [] vs = Unit {0}
 Plan c T (parse u ∷ k) vs = Agree c T u × Plan c T k (tree-of u ∷ vs)
@@ -125,7 +126,7 @@ thrifty-end [] i (some r) q e t h = let alike : r ≡ q = cc in (rw alike h, tt)
 thrifty-end (x ∷ xs) i none q e t h = tt
 thrifty-end (x ∷ xs) i (some r) q e t h = (t .0, thrifty-end xs i (step-read x (r .0) (r .1)) q e (t .1) h)
 
-stands-map : (T : List Tree) (es : List ℕ) (vs : List Tree) → Stands T es vs → map (valueOf T) es ≡ vs
+stands-map : (T : List Tree) (es : List ℕ) (vs : List Tree) → Stands T es vs → map (value-of T) es ≡ vs
 stands-map T [] [] s = refl
 stands-map T [] (v ∷ vs) s = absurd s
 stands-map T (e ∷ es) [] s = absurd s
@@ -139,7 +140,7 @@ module _ (find : Cache → List ℕ → List ℕ → ℕ → ℕ → Option (Lis
   and-then-ok k k′ (stopped j w) f h g = h
   and-then-ok k k′ (refused n w) f h g = tt
 
-  -- one item for a whole subtree
+  -- One item for a whole subtree.
   put-whole-ok : (u : Unfolded) (k : List Todo) (w : Written) (e : ℕ) (i : Item) (L : Lock c T goal (parse u ∷ k) w) → nth T e ≡ some (tree-of u)
       → step-read i (want ∷ forget k) (L .vals) ≡ some (collapse (forget k) (tree-of u ∷ L .vals)) → ItemNoLonger i (L .vals)
       → Wrote c T goal k (put-whole find room c k e i w)
@@ -157,12 +158,12 @@ module _ (find : Cache → List ℕ → List ℕ → ℕ → ℕ → Option (Lis
       }
       go (suc n) = tt
 
-  -- a reference leads to the tree that is meant
+  -- A reference leads to the tree that is meant.
   leads-to : (u : Unfolded) (k : List Todo) (w : Written) (h e : ℕ) (path : List Bool) (L : Lock c T goal (parse u ∷ k) w) → nth T e ≡ some (tree-of u)
       → find c (w .marked) (w .stack) h e ≡ some path → follow path (asList (L .vals)) ≡ some (tree-of u)
   leads-to u k w h e path L s f =
-      let leads : follow path (asList (map (valueOf T) (w .stack))) ≡ some (valueOf T e) =
-      sound c (w .marked) (w .stack) h e path (valueOf T) (good-linked T (c .entries) good) f in
+      let leads : follow path (asList (map (value-of T) (w .stack))) ≡ some (value-of T e) =
+      sound c (w .marked) (w .stack) h e path (value-of T) (good-linked T (c .entries) good) f in
       rw (stands-map T (w .stack) (L .vals) (L .stands), s) at leads
 
   refers : (u : Unfolded) (k : List Todo) (w : Written) (h e : ℕ) (path : List Bool) (L : Lock c T goal (parse u ∷ k) w) → nth T e ≡ some (tree-of u)
@@ -176,7 +177,7 @@ module _ (find : Cache → List ℕ → List ℕ → ℕ → ℕ → Option (Lis
   refers-short u k w h e path L s f v q =
       let leads : follow path (asList (L .vals)) ≡ some (tree-of u) = leads-to u k w h e path L s f in
       let alike : v ≡ tree-of u = cc in
-      rw alike (omega (arith, short c (w .marked) (w .stack) h e path (valueOf T) (good-linked T (c .entries) good) f, good-len T e (c .entries) T (tree-of u) good s))
+      rw alike (omega (arith, short c (w .marked) (w .stack) h e path (value-of T) (good-linked T (c .entries) good) f, good-len T e (c .entries) T (tree-of u) good s))
 
   either-way : (u : Unfolded) (k : List Todo) (w : Written) (h e : ℕ) (full : Outcome) (L : Lock c T goal (parse u ∷ k) w) → nth T e ≡ some (tree-of u)
       → Wrote c T goal k full → (o : Option (List Bool)) → find c (w .marked) (w .stack) h e ≡ o

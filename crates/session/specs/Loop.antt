@@ -47,7 +47,7 @@ module _ (find : Cache → List ℕ → List ℕ → ℕ → ℕ → Option (Lis
   unfolding resume write
   turn-pair-ref h l r k w path e = rw e
 
-  -- a pair in full: its `ff`, and then its sides and its end are left to write
+  -- A pair in full: its `ff`, and then its sides and its end are left to write.
   pub turn-pair : (h : ℕ) (l r : Unfolded) (k : List Todo) (w : Written) → find c (w .marked) (w .stack) h (pair-entry c h) ≡ none
       → resume find room c (parse (node h l r) ∷ k) w ≡ and-then (put find room k cons-item w) (resume find room c (parse l ∷ parse r ∷ close h ∷ k))
   unfolding resume write

@@ -9,26 +9,27 @@ use native.Mathlib.Omega.{arith}
 use Rattle.clvm.specs.Tree.{Tree, place, atom, cons, pick, follow, asList}
 use Rattle.session_file.specs.Unfold.{Unfolded, hole, leaf, node, tree-of}
 use Rattle.session_file.specs.Filling.{fill, fill-all}
+use Rattle.session.specs.Premises.{opens, In, Above, Shut, Apart}
 use Rattle.session.specs.Cache.{Parent, Entry, Cache, fresh, find-key, lookup, update}
 use Rattle.session.specs.Items.{cons-item, atom-item, reference-item, Item, Op, want, make, Reading, collapse, step-read, feed, whole, read-items, NoLonger}
 use Rattle.session.specs.Writer.{turned-down, Todo, parse, close, Written, Outcome, done, stopped, refused, resume, Session, start, Added, added, settle, add-at, add-tree, onward, add-all}
-use Rattle.session.specs.Trees.{nth, nth-map, opens, plug, plug-closed, fill-plug, opens-plug}
+use Rattle.session.specs.Trees.{nth, nth-map, plug, plug-closed, fill-plug, opens-plug}
 use Rattle.session.specs.Cached.{Good, Sub}
 use Rattle.session.specs.Enter.{PairAt, Agree, Open, Ext, pair-mono, agree-mono, agree-plug, MapOK, Cached, Fits, Barred, Awaits, Updated, update-ok}
 use Rattle.session.specs.Lock.{Sound, Short, Stands, Plan, Lock, Wrote, forget, build, resume-ok}
 
 -- ## Counting the open places of what is left
 
-abbrev pub sumOpens : List Tree → ℕ
-sumOpens [] = 0
-sumOpens (v ∷ vs) = opens v + sumOpens vs
+abbrev pub sum-opens : List Tree → ℕ
+sum-opens [] = 0
+sum-opens (v ∷ vs) = opens v + sum-opens vs
 
-abbrev todoOpens : List Todo → ℕ
-todoOpens [] = 0
-todoOpens (parse u ∷ k) = opens (tree-of u) + todoOpens k
-todoOpens (close h ∷ k) = todoOpens k
+abbrev todo-opens : List Todo → ℕ
+todo-opens [] = 0
+todo-opens (parse u ∷ k) = opens (tree-of u) + todo-opens k
+todo-opens (close h ∷ k) = todo-opens k
 
-build-opens : (k : List Todo) (vs : List Tree) → sumOpens (build k vs) ≡ todoOpens k + sumOpens vs
+build-opens : (k : List Todo) (vs : List Tree) → sum-opens (build k vs) ≡ todo-opens k + sum-opens vs
 build-opens [] vs = omega arith
 build-opens (parse u ∷ k) vs = omega (arith, build-opens k (tree-of u ∷ vs))
 build-opens (close h ∷ k) [] = build-opens k []
@@ -37,11 +38,11 @@ build-opens (close h ∷ k) (b ∷ a ∷ vs) = omega (arith, build-opens k (cons
 
 -- ## Plugging a tree into the open place of what is left
 
-map-closed : (t : Tree) (vs : List Tree) → sumOpens vs ≡ 0 → map (plug t) vs ≡ vs
+map-closed : (t : Tree) (vs : List Tree) → sum-opens vs ≡ 0 → map (plug t) vs ≡ vs
 map-closed t [] z = refl
 map-closed t (v ∷ vs) z = cc (plug-closed t v (omega arith), map-closed t vs (omega arith))
 
-build-plug : (t : Tree) (k : List Todo) (vs : List Tree) → todoOpens k ≡ 0 → build k (map (plug t) vs) ≡ map (plug t) (build k vs)
+build-plug : (t : Tree) (k : List Todo) (vs : List Tree) → todo-opens k ≡ 0 → build k (map (plug t) vs) ≡ map (plug t) (build k vs)
 build-plug t [] vs z = refl
 build-plug t (parse u ∷ k) vs z =
     rw (plug-closed t (tree-of u) (omega arith)) at (build-plug t k (tree-of u ∷ vs) (omega arith))
@@ -49,7 +50,7 @@ build-plug t (close h ∷ k) [] z = build-plug t k [] z
 build-plug t (close h ∷ k) (b ∷ []) z = build-plug t k (b ∷ []) z
 build-plug t (close h ∷ k) (b ∷ a ∷ vs) z = build-plug t k (cons a b ∷ vs) z
 
-plan-plug : (t : Tree) (c : Cache) (T : List Tree) (k : List Todo) (vs : List Tree) → todoOpens k ≡ 0 → Plan c T k vs
+plan-plug : (t : Tree) (c : Cache) (T : List Tree) (k : List Todo) (vs : List Tree) → todo-opens k ≡ 0 → Plan c T k vs
     → Plan c (map (plug t) T) k (map (plug t) vs)
 plan-plug t c T [] vs z p = tt
 plan-plug t c T (parse u ∷ k) vs z p = (
@@ -80,13 +81,13 @@ stands-mono T T′ x [] (v ∷ vs) s = absurd s
 stands-mono T T′ x (e ∷ es) [] s = absurd s
 stands-mono T T′ x (e ∷ es) (v ∷ vs) s = (x e v (s .0), stands-mono T T′ x es vs (s .1))
 
--- the lock at an open place, with the tree that comes plugged in
+-- The lock at an open place, with the tree that comes plugged in.
 lock-plug : (t : Unfolded) (c c′ : Cache) (T T′ : List Tree) (p : Tree) (k : List Todo) (w : Written) → opens p ≡ 1
     → Lock c T p (parse hole ∷ k) w → Ext c (map (plug (tree-of t)) T) c′ T′ → Agree c′ T′ t → Lock c′ T′ (plug (tree-of t) p) (parse t ∷ k) w
 lock-plug t c c′ T T′ p k w one L x a =
-    let n : sumOpens (p ∷ []) ≡ todoOpens k + sumOpens (place ∷ L .vals) = rw (L .builds) at (build-opens k (place ∷ L .vals)) in
-    let zk : todoOpens k ≡ 0 = omega arith in
-    let zv : sumOpens (L .vals) ≡ 0 = omega arith in
+    let n : sum-opens (p ∷ []) ≡ todo-opens k + sum-opens (place ∷ L .vals) = rw (L .builds) at (build-opens k (place ∷ L .vals)) in
+    let zk : todo-opens k ≡ 0 = omega arith in
+    let zv : sum-opens (L .vals) ≡ 0 = omega arith in
     let alike : map (plug (tree-of t)) (L .vals) ≡ L .vals = map-closed (tree-of t) (L .vals) zv in
     let b : build k (tree-of t ∷ map (plug (tree-of t)) (L .vals)) ≡ map (plug (tree-of t)) (build k (place ∷ L .vals)) =
     build-plug (tree-of t) k (place ∷ L .vals) zk in
@@ -102,42 +103,18 @@ lock-plug t c c′ T T′ p k w one L x a =
       no-longer = L .no-longer;
     }
 
--- at an open place there is one
+-- At an open place there is one.
 stopped-opens : (c : Cache) (T : List Tree) (p : Tree) (k : List Todo) (w : Written) → Lock c T p (parse hole ∷ k) w → 1 ≤ opens p
 stopped-opens c T p k w L =
-    let n : sumOpens (p ∷ []) ≡ todoOpens k + sumOpens (place ∷ L .vals) = rw (L .builds) at (build-opens k (place ∷ L .vals)) in
+    let n : sum-opens (p ∷ []) ≡ todo-opens k + sum-opens (place ∷ L .vals) = rw (L .builds) at (build-opens k (place ∷ L .vals)) in
     omega arith
 
--- with nothing left, the reader has the tree
+-- With nothing left, the reader has the tree.
 done-reads : (c : Cache) (T : List Tree) (p : Tree) (w : Written) → Lock c T p [] w → read-items (w .items) ≡ some p
 unfolding bind
 done-reads c T p w L = rw (L .reads, L .builds)
 
--- ## What is asked of the added trees
-
--- the pair of this handle occurs in a tree
-abbrev pub In : ℕ → Unfolded → Type 0
-In h hole = ⊥
-In h (leaf g bs) = ⊥
-In h (node g l r) = (h ≡ g) ⊎ (In h l ⊎ In h r)
-
--- it occurs there above an open place
-abbrev pub Above : ℕ → Unfolded → Type 0
-Above h hole = ⊥
-Above h (leaf g bs) = ⊥
-Above h (node g l r) = ((h ≡ g) × (opens (cons (tree-of l) (tree-of r)) ≢ 0)) ⊎ (Above h l ⊎ Above h r)
-
--- none of these handles occurs in any of the trees
-abbrev pub Shut : (ℕ → Type 0) → List Unfolded → Type 0
-Shut D [] = Unit {0}
-Shut D (t ∷ ts) = ((h : ℕ) → D h → In h t → ⊥) × Shut D ts
-
--- each tree has at most one open place, and no pair above it occurs in a later tree
-abbrev pub Apart : List Unfolded → Type 0
-Apart [] = Unit {0}
-Apart (t ∷ ts) = (opens (tree-of t) ≤ 1) × Shut (λ h. Above h t) ts × Apart ts
-
--- each pair in a tree is unfolded as the file has it
+-- Each pair in a tree is unfolded as the file has it.
 abbrev pub Coherent : (ℕ → Unfolded) → Unfolded → Type 0
 Coherent U hole = Unit {0}
 Coherent U (leaf h bs) = Unit {0}
@@ -181,7 +158,7 @@ shut-none (t ∷ ts) = (one, shut-none ts)
 
 -- ## The session
 
--- waiting at the open place of p, with k left to write after it
+-- Waiting at the open place of p, with k left to write after it.
 pub record Waiting (U : ℕ → Unfolded) (B A : ℕ → Type 0) (p : Tree) (k : List Todo) (s : Session) : Type 0 where
   pub trees : List Tree
   pub cached : Cached U B A (s .cache) trees
@@ -198,7 +175,7 @@ start-waits U = record {
   one = refl;
 }
 
--- what an add leaves: a session that is finished and reads as p, or one that waits
+-- What an add leaves: a session that is finished and reads as p, or one that waits.
 abbrev Left : (U : ℕ → Unfolded) (B A : ℕ → Type 0) → Tree → Cache → Outcome → Type 0
 Left U B A p c (done w) = (read-items (w .items) ≡ some p) × NoLonger (w .items)
 Left U B A p c (stopped k w) = Waiting U B A p k (record { cache = c; waiting = some k; written = w })
@@ -235,7 +212,7 @@ module _ (find : Cache → List ℕ → List ℕ → ℕ → ℕ → Option (Lis
               absurd (omega (arith, stopped-opens (update t (s .cache)) (N .trees) (plug (tree-of t) p) j w M, opens-plug (tree-of t) p (W .one)))
           is-open (inr o) = o
 
-  -- the items of q read as the tree that the adds fill p to
+  -- The items of q read as the tree that the adds fill p to.
   abbrev Reads : List Unfolded → Tree → Session → Type 0
   Reads ts p q = (r : Tree) × (fill-all (map tree-of ts) p ≡ some r) × (read-items (q .written .items) ≡ some r) × NoLonger (q .written .items)
 

@@ -12,12 +12,12 @@ use Rattle.path.specs.Measure.{counted}
 use Rattle.session_file.specs.File.{File}
 use Rattle.session_file.specs.Unfold.{Unfolded, tree-of, unfolded}
 use Rattle.session_file.specs.Filling.{fill-all, plain-filling}
+use Rattle.session.specs.Premises.{opens, Apart}
 use Rattle.session.specs.Cache.{Cache}
 use Rattle.session.specs.Items.{Item, read-items, NoLonger}
 use Rattle.session.specs.Writer.{Todo, Session, start, Added, added, turned-down, add-tree, add-at, onward, add-all}
-use Rattle.session.specs.Trees.{opens}
 use Rattle.session.specs.Lock.{Sound, Short}
-use Rattle.session.specs.ReadBack.{Apart, read-back}
+use Rattle.session.specs.ReadBack.{read-back}
 use Rattle.session.specs.Coherence.{trees-coherent}
 use Rattle.session.specs.Closed.{read-closed}
 use Rattle.session.specs.FindPath.{find-in}

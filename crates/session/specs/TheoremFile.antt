@@ -1,4 +1,4 @@
--- THE READ-BACK THEOREM, of a session file's bytes. The file passes questions 2 to 8; handles are added to a fresh session of it, under 01's premises
+-- The read-back theorem of a session file's bytes. The file passes questions 2 to 8; handles are added to a fresh session of it, under 01's premises
 -- (`Apart`), with 12 and 13 asked before each item over an output of at most 65,535 bytes. If the session is finished then, the reading call's definition
 -- accepts the output to its last byte, and the root names the plain filling's whole tree.
 -- Assumes nothing.
@@ -12,16 +12,14 @@ use lib.Dec.{ltb, leb}
 use lib.ListN.{length, take, drop}
 use borrow.Author.Tests.{ltb-false, leb-true}
 use Rattle.words.specs.Lists.{Bytes, same}
-use Rattle.path.specs.Measure.{counted}
-use Rattle.session_file.specs.File.{File, Limits, version-1, Got, got, refused, asked, mark, after-mark, file}
+use Rattle.session_file.specs.File.{File, Limits, Got, got, refused, asked, mark, after-mark, file}
 use Rattle.session_file.specs.Unfold.{unfolded}
-use Rattle.session.specs.Items.{Item, item-size, size-of, output, NoLonger}
+use Rattle.session.specs.Premises.{Apart}
+use Rattle.session.specs.Items.{Item, item-size, size-of}
 use Rattle.session.specs.Writer.{Todo, Session, start, added, add-all}
 use Rattle.session.specs.Steps.{too-deep, room-in}
-use Rattle.session.specs.ReadBack.{Apart}
 use Rattle.session.specs.FindPath.{find-in}
 use Rattle.session.specs.FindPathLaws.{Covers, find-near}
-use Rattle.session.specs.Counted.{counted-covers}
 use Rattle.session.specs.Kept.{Kept, session-kept}
 use Rattle.session.specs.Formed.{Atom, count-size, items-formed, items-bytes}
 use Rattle.session.specs.FileAtoms.{all-leaves, file-atoms}
@@ -45,29 +43,24 @@ asked-yes : (n : ℕ) (b : Bool) (g : Got File) (f : File) (r : List ℕ) → as
 asked-yes n true g f r e = refl
 asked-yes n false g f r e = let z : _≡_ {A = ℕ} 0 1 = cc in absurd (omega arith)
 
-file-short : (input : List ℕ) (f : File) (r : List ℕ) → file version-1 input ≡ got f r → length input ≤ 65535
+file-short : (l : Limits) (input : List ℕ) (f : File) (r : List ℕ) → file l input ≡ got f r → length input ≤ l .file-bytes
 unfolding file
-file-short input f r e =
-    leb-true (length input) 65535 (asked-yes 2 (leb (length input) 65535) (asked 3 (same (take 5 input) (mark version-1)) (after-mark version-1 (drop 5 input))) f r e)
+file-short l input f r e =
+    leb-true (length input) (l .file-bytes)
+    (asked-yes 2 (leb (length input) (l .file-bytes)) (asked 3 (same (take 5 input) (mark l)) (after-mark l (drop 5 input))) f r e)
 
-module _ (measure : List Bool → ℕ) (covers : Covers measure) (space : ℕ) (most : space ≤ 65535) where
-  -- With any measure that covers a path's atom.
-  pub read-back-file-measure : (input : List ℕ) → Bytes input → (f : File) (r : List ℕ) → file version-1 input ≡ got f r
+-- Over any limits of the file that a prefix can carry, any measure that covers a path's atom, and any output that the reading call takes.
+module _ (l : Limits) (carried : l .file-bytes < 2 ^ 34) (measure : List Bool → ℕ) (covers : Covers measure) (space : ℕ) (most : space ≤ 65535) where
+  pub read-back-file : (input : List ℕ) → Bytes input → (f : File) (r : List ℕ) → file l input ≡ got f r
       → (hs : List ℕ) (q : Session) → Apart (map (unfolded f) hs) → add-all (find-in measure) (room-in space) (map (unfolded f) hs) start ≡ added q
-      → q .waiting ≡ none → BytesReadBack f hs (output (q .written .items))
-  read-back-file-measure input bytes f r file-is hs q apart e fin =
-      let short : length input < 2 ^ 34 = omega (arith, file-short input f r file-is) in
+      → q .waiting ≡ none → BytesReadBack f hs (q .written .items)
+  read-back-file input bytes f r file-is hs q apart e fin =
+      let short : length input < 2 ^ 34 = omega (arith, file-short l input f r file-is) in
       let kept =
       session-kept Atom (λ (items : List Item). size-of items ≤ space) (find-in measure) (room-in space) (find-near measure) (room-holds space)
-      (map (unfolded f) hs) q (all-leaves f (file-atoms version-1 input f r (short, bytes) file-is) hs) (omega arith) e in
+      (map (unfolded f) hs) q (all-leaves f (file-atoms l input f r (short, bytes) file-is) hs) (omega arith) e in
       let few : length (q .written .items) ≤ 65535 = omega (arith, count-size (q .written .items) (length (q .written .items)) (kept .fine), kept .held) in
       read-back-bytes measure covers (room-in space) f hs q apart e fin
       (items-formed (length (q .written .items)) few (q .written .items) (kept .fine))
       (items-bytes (length (q .written .items)) few (q .written .items) (kept .fine))
       (omega (arith, kept .held))
-
--- With 01's measure.
-pub read-back-file : (space : ℕ) → space ≤ 65535 → (input : List ℕ) → Bytes input → (f : File) (r : List ℕ) → file version-1 input ≡ got f r
-    → (hs : List ℕ) (q : Session) → Apart (map (unfolded f) hs) → add-all (find-in counted) (room-in space) (map (unfolded f) hs) start ≡ added q
-    → q .waiting ≡ none → BytesReadBack f hs (output (q .written .items))
-read-back-file space most = read-back-file-measure counted counted-covers space most

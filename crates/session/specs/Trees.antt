@@ -11,6 +11,7 @@ use Rattle.clvm.specs.Tree.{Tree, place, atom, cons, pick}
 use Rattle.session_file.specs.Filling.{left-else-right, fill}
 use Rattle.atom.specs.Write.{serialized-length}
 use Rattle.session.specs.Items.{full-size}
+use Rattle.session.specs.Premises.{opens}
 
 -- ## Lists
 
@@ -35,12 +36,7 @@ nth-map f (x ∷ l) (suc e) v h = nth-map f l e v h
 
 -- ## Open places
 
-abbrev pub opens : Tree → ℕ
-opens place = 1
-opens (atom bs) = 0
-opens (cons l r) = opens l + opens r
-
--- t at every open place
+-- The tree t at every open place.
 abbrev pub plug : Tree → Tree → Tree
 plug t place = t
 plug t (atom bs) = atom bs
@@ -60,7 +56,7 @@ pub one-of : (a b : ℕ) → a + b ≡ 1 → ((a ≡ 1) × (b ≡ 0)) ⊎ ((a �
 one-of zero b h = inr (refl, omega arith)
 one-of (suc a) b h = inl (omega arith, omega arith)
 
--- with one open place, the first is the only one
+-- With one open place, the first is the only one.
 pub fill-plug : (t p : Tree) → opens p ≡ 1 → fill t p ≡ some (plug t p)
 fill-plug t place h = refl
 fill-plug t (atom bs) h = let z : _≡_ {A = ℕ} 0 1 = cc in absurd (omega arith)

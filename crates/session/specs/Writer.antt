@@ -8,22 +8,22 @@ use Rattle.session_file.specs.Unfold.{Unfolded, hole, leaf, node}
 use Rattle.session.specs.Cache.{Cache, atom-key, find-key, lookup, length-at, fresh, update}
 use Rattle.session.specs.Items.{Item, cons-item, atom-item, reference-item}
 
--- what is left to write, top first: a subtree to parse, or the end of a pair, by its handle.
+-- What is left to write, top first: a subtree to parse, or the end of a pair, by its handle.
 -- (The Rust has two stacks: write_stack holds the subtrees, read_op_stack Parse and Cons in this order.)
 pub data Todo : Type 0 where
   parse : Unfolded → Todo
   close : ℕ → Todo
 
--- the stack's entries, top first; the entries marked written; the items written
+-- The stack's entries, top first; the entries marked written; the items written.
 pub record Written : Type 0 where
   pub stack : List ℕ
   pub marked : List ℕ
   pub items : List Item
 
 pub data Outcome : Type 0 where
-  -- all of the subtree is written
+  -- All of the subtree is written.
   done : Written → Outcome
-  -- at the open place, with this left to write after it
+  -- At the open place, with this left to write after it.
   stopped : List Todo → Written → Outcome
   refused : ℕ → Written → Outcome
 
@@ -42,10 +42,11 @@ atom-entry c bs = or-zero (find-key (atom-key bs) (c .entries))
 abbrev pub pair-entry : Cache → ℕ → ℕ
 pair-entry c h = or-zero (lookup h (c .mapped))
 
--- an entry is marked written where its length is at least 4
+-- An entry goes on the stack, and is marked written where its length is at least 4.
 abbrev pub push : Cache → ℕ → Written → Written
 push c e w = record { stack = e ∷ w .stack; marked = cond (ltb (length-at e (c .entries)) 4) (w .marked) (e ∷ w .marked); items = w .items }
 
+-- The two topmost entries go, as in `pop2_and_cons` of tree_cache.rs.
 abbrev pub pop2 : List ℕ → List ℕ
 pop2 [] = []
 pop2 (b ∷ []) = []
@@ -68,11 +69,11 @@ module _ (find : Cache → List ℕ → List ℕ → ℕ → ℕ → Option (Lis
   abbrev pub put : List Todo → Item → Written → Outcome
   put k i w = put-if (room k (w .items) i) i w
 
-  -- one item that stands for a whole subtree, of entry e
+  -- One item that stands for a whole subtree, of entry e.
   abbrev pub put-whole : Cache → List Todo → ℕ → Item → Written → Outcome
   put-whole c k e i w = and-then (put k i w) (λ v. done (push c e v))
 
-  -- a subtree, with k left to write after it
+  -- A subtree, with k left to write after it.
   unfoldable pub write : Cache → Unfolded → List Todo → Written → Outcome
   write c hole k w = stopped k w
   write c (leaf h bs) k w =
@@ -85,7 +86,7 @@ module _ (find : Cache → List ℕ → List ℕ → ℕ → ℕ → Option (Lis
       and-then (write c r (close h ∷ k) w₂) (λ w₃. done (close-up c h w₃)))) in
       choose (find c (w .marked) (w .stack) h (pair-entry c h)) (λ path. put-whole c k (pair-entry c h) (reference-item path) w) full
 
-  -- all that is left to write
+  -- All that is left to write.
   unfoldable pub resume : Cache → List Todo → Written → Outcome
   resume c [] w = done w
   resume c (parse u ∷ k) w = and-then (write c u k w) (λ v. resume c k v)
@@ -93,7 +94,7 @@ module _ (find : Cache → List ℕ → List ℕ → ℕ → ℕ → Option (Lis
 
 -- ---- the session
 
--- `waiting` is what is left to write after the open place, and none once the session is finished
+-- `waiting` is what is left to write after the open place, and none once the session is finished.
 pub record Session : Type 0 where
   pub cache : Cache
   pub waiting : Option (List Todo)
@@ -106,7 +107,7 @@ pub data Added : Type 0 where
   added : Session → Added
   turned-down : ℕ → Session → Added
 
--- a refused add keeps the whole items written
+-- A refused add keeps the whole items written.
 abbrev pub settle : Session → Cache → Outcome → Added
 settle s c (done w) = added (record { cache = c; waiting = none; written = w })
 settle s c (stopped k w) = added (record { cache = c; waiting = some k; written = w })

@@ -11,7 +11,8 @@ use Rattle.words.specs.Lists.{same}
 use Rattle.allocator.specs.Handle.{Node, pair, listed-atom, small-atom, unknown, node-of}
 use Rattle.allocator.specs.SmallAtom.{fits-in-small-atom}
 
--- What a version of the file fixes: its number, the bytes of a count or length field, and the most there may be of each thing.
+-- What a version of the file fixes: its number, the bytes of a count or length field, and the most there may be of each thing; of a session of it the most
+-- bytes of output, and the words of work that are asked for.
 pub record Limits : Type 0 where
   pub version : ℕ
   pub count-bytes : ℕ
@@ -20,9 +21,22 @@ pub record Limits : Type 0 where
   pub pairs : ℕ
   pub atom-bytes : ℕ
   pub steps : ℕ
+  pub output-bytes : ℕ
+  pub work-words : ℕ
 
 abbrev pub version-1 : Limits
-version-1 = record { version = 1; count-bytes = 2; file-bytes = 65535; atoms = 1024; pairs = 1024; atom-bytes = 32768; steps = 1024 }
+version-1 =
+    record {
+      version = 1;
+      count-bytes = 2;
+      file-bytes = 65535;
+      atoms = 1024;
+      pairs = 1024;
+      atom-bytes = 32768;
+      steps = 1024;
+      output-bytes = 65535;
+      work-words = 524288;
+    }
 
 -- A pair's handles.
 pub record Pair : Type 0 where
