@@ -19,6 +19,7 @@ pub mod Cases
 pub mod BytesRead
 pub mod TheoremBytes
 pub mod Kept
+pub mod Bounds
 pub mod Formed
 pub mod FileAtoms
 pub mod TheoremFile

@@ -1,0 +1,309 @@
+-- How large the cache grows: its entries, their parents, and the handles mapped; the bounds of a whole run.
+-- Assumes nothing.
+use Prim.Native.Nat.{ℕ, zero, suc, _+_, _-_, _*_, _/_, _%_, _^_, _≤_, _<_}
+use mathlib.Core.Path.{_≡_, refl, sym, ap, _∙_, subst}
+use mathlib.Core.Bool.{Bool, true, false, cond}
+use mathlib.Core.List.{List, [], _∷_, _++_}
+use mathlib.Core.Option.{Option, none, some, Option·none-ne-some, Option·some-injective}
+use native.Mathlib.Omega.{arith}
+use lib.Dec.{eqb, ltb}
+use lib.ListN.{length, getD, set, take, drop, length-append, length-set, length-drop}
+use borrow.Author.Tests.{eqb-true, eqb-false, eq-eqb, ne-eqb, ltb-true, ltb-false}
+use Rattle.words.specs.Choice.{by-cond, by-lt}
+use Rattle.words.specs.Lists.{All, all-append, all-drop, all-map}
+use Rattle.path.specs.Bytes.{bit}
+use Rattle.session_file.specs.Unfold.{Unfolded, hole, leaf, node}
+use Rattle.session.specs.Cache.{Key, Parent, Entry, Cache, same-key, later, find-key, lookup, adjust, parents-at, add-parent, move-parents, no-parents, new-entry, with-entries, keep-or-add, find-or-add, meet-sentinel, link-pair, join-pair, known-or, enter, sentinel-parents, clear-sentinel, place-root, update}
+
+-- ---- all parents
+
+-- The lengths of all parent lists, together.
+abbrev pub all-parents : List Entry → ℕ
+all-parents [] = 0
+all-parents (x ∷ es) = length (x .parents) + all-parents es
+
+pub all-parents-append : (xs ys : List Entry) → all-parents (xs ++ ys) ≡ all-parents xs + all-parents ys
+all-parents-append [] ys = omega arith
+all-parents-append (x ∷ xs) ys = omega (arith, all-parents-append xs ys)
+
+pub length-adjust : (e : ℕ) (f : List Parent → List Parent) (es : List Entry) → length (adjust e f es) ≡ length es
+length-adjust e f [] = refl
+length-adjust zero f (x ∷ es) = refl
+length-adjust (suc e) f (x ∷ es) = ap suc (length-adjust e f es)
+
+-- A change that adds at most n parents to a list adds at most n to all.
+pub all-parents-adjust : (n e : ℕ) (f : List Parent → List Parent) (es : List Entry) → ((ps : List Parent) → length (f ps) ≤ length ps + n)
+    → all-parents (adjust e f es) ≤ all-parents es + n
+all-parents-adjust n e f [] h = omega arith
+all-parents-adjust n zero f (x ∷ es) h = omega (arith, h (x .parents))
+all-parents-adjust n (suc e) f (x ∷ es) h = omega (arith, all-parents-adjust n e f es h)
+
+-- The parents taken away are as many as the entry had.
+pub all-parents-clear : (e : ℕ) (es : List Entry) → all-parents (adjust e no-parents es) + length (parents-at e es) ≡ all-parents es
+all-parents-clear e [] = omega arith
+all-parents-clear zero (x ∷ es) = omega arith
+all-parents-clear (suc e) (x ∷ es) = omega (arith, all-parents-clear e es)
+
+pub length-add-parent : (p : ℕ) (side : Bool) (ps : List Parent) → length (add-parent p side ps) ≤ length ps + 1
+length-add-parent p side ps =
+    by-cond (λ (l : List Parent). length l ≤ length ps + 1) (ltb (length ps) 100) (ps ++ (p, side) ∷ []) (set ps ((p + bit side) % 100) (p, side))
+    (λ c. omega (arith, length-append ps ((p, side) ∷ [])))
+    (λ c. omega (arith, length-set ps ((p + bit side) % 100) (p, side)))
+
+pub length-move-parents : (moved ps : List Parent) → length (move-parents moved ps) ≤ length ps + length moved
+length-move-parents moved ps = omega (arith, length-drop (length (ps ++ moved) - 100) (ps ++ moved), length-append ps moved)
+
+-- ---- each list of parents
+
+-- At most 100 parents, and each an entry below n.
+abbrev pub ParentsOK : ℕ → List Parent → Type 0
+ParentsOK n ps = (length ps ≤ 100) × All (λ (p : Parent). p .0 < n) ps
+
+abbrev pub EntryOK : ℕ → Entry → Type 0
+EntryOK n x = ParentsOK n (x .parents)
+
+pub parents-mono : (n m : ℕ) → n ≤ m → (ps : List Parent) → ParentsOK n ps → ParentsOK m ps
+parents-mono n m h ps k = (k .0, all-map (λ (p : Parent). p .0 < n) (λ (p : Parent). p .0 < m) (λ p l. omega arith) ps (k .1))
+
+entries-mono : (n m : ℕ) → n ≤ m → (es : List Entry) → All (EntryOK n) es → All (EntryOK m) es
+entries-mono n m h es k = all-map (EntryOK n) (EntryOK m) (λ x. parents-mono n m h (x .parents)) es k
+
+pub adjust-ok : (n e : ℕ) (f : List Parent → List Parent) (es : List Entry) → ((ps : List Parent) → ParentsOK n ps → ParentsOK n (f ps))
+    → All (EntryOK n) es → All (EntryOK n) (adjust e f es)
+adjust-ok n e f [] g h = tt
+adjust-ok n zero f (x ∷ es) g h = (g (x .parents) (h .0), h .1)
+adjust-ok n (suc e) f (x ∷ es) g h = (h .0, adjust-ok n e f es g (h .1))
+
+pub parents-at-ok : (n e : ℕ) (es : List Entry) → All (EntryOK n) es → ParentsOK n (parents-at e es)
+parents-at-ok n e [] h = (omega arith, tt)
+parents-at-ok n zero (x ∷ es) h = h .0
+parents-at-ok n (suc e) (x ∷ es) h = parents-at-ok n e es (h .1)
+
+all-set : (P : Parent → Type 0) (ps : List Parent) (i : ℕ) (p : Parent) → All P ps → P p → All P (set ps i p)
+all-set P [] i p h k = tt
+all-set P (q ∷ ps) zero p h k = (k, h .1)
+all-set P (q ∷ ps) (suc i) p h k = (h .0, all-set P ps i p (h .1) k)
+
+pub add-parent-ok : (n p : ℕ) (side : Bool) (ps : List Parent) → p < n → ParentsOK n ps → ParentsOK n (add-parent p side ps)
+add-parent-ok n p side ps l h =
+    by-cond (ParentsOK n) (ltb (length ps) 100) (ps ++ (p, side) ∷ []) (set ps ((p + bit side) % 100) (p, side))
+    (λ c. (omega (arith, ltb-true (length ps) 100 c, length-append ps ((p, side) ∷ [])), all-append (λ (q : Parent). q .0 < n) ps ((p, side) ∷ []) (h .1) (l, tt)))
+    (λ c. (omega (arith, length-set ps ((p + bit side) % 100) (p, side)), all-set (λ (q : Parent). q .0 < n) ps ((p + bit side) % 100) (p, side) (h .1) l))
+
+pub move-parents-ok : (n : ℕ) (moved ps : List Parent) → ParentsOK n moved → ParentsOK n ps → ParentsOK n (move-parents moved ps)
+move-parents-ok n moved ps h k = (
+  omega (arith, length-drop (length (ps ++ moved) - 100) (ps ++ moved)),
+  all-drop (λ (q : Parent). q .0 < n) (length (ps ++ moved) - 100) (ps ++ moved) (all-append (λ (q : Parent). q .0 < n) ps moved (k .1) (h .1)),
+)
+
+-- ---- the handles mapped
+
+-- The handle h is not mapped.
+abbrev pub Absent : ℕ → List (ℕ × ℕ) → Type 0
+Absent h = All (λ (m : ℕ × ℕ). m .0 ≡ h → ⊥)
+
+-- No handle is mapped twice.
+abbrev pub Distinct : List (ℕ × ℕ) → Type 0
+Distinct [] = Unit {0}
+Distinct (m ∷ ms) = Absent (m .0) ms × Distinct ms
+
+-- The handles mapped are below n, and distinct.
+pub record MappedIn (n : ℕ) (ms : List (ℕ × ℕ)) : Type 0 where
+  pub handles : All (λ (m : ℕ × ℕ). m .0 < n) ms
+  pub distinct : Distinct ms
+
+pub absent : (h : ℕ) (ms : List (ℕ × ℕ)) → lookup h ms ≡ none → Absent h ms
+absent h [] q = tt
+absent h (m ∷ ms) q = go (eqb h (m .0)) refl q (absent h ms)
+  where
+    go : (b : Bool) → eqb h (m .0) ≡ b → cond b (some (m .1)) (lookup h ms) ≡ none → (lookup h ms ≡ none → Absent h ms) → Absent h (m ∷ ms)
+    go true e q ih = absurd (Option·none-ne-some (m .1) (sym q))
+    go false e q ih = (λ k. eqb-false h (m .0) e (sym k), ih q)
+
+pub lookup-absent : (h : ℕ) (ms : List (ℕ × ℕ)) → Absent h ms → lookup h ms ≡ none
+lookup-absent h [] a = refl
+lookup-absent h (m ∷ ms) a = rw (ne-eqb h (m .0) (λ k. a .0 (sym k))) (lookup-absent h ms (a .1))
+
+distinct-more : (ms : List (ℕ × ℕ)) (h e : ℕ) → Distinct ms → Absent h ms → Distinct (ms ++ (h, e) ∷ [])
+distinct-more [] h e d a = (tt, tt)
+distinct-more (m ∷ ms) h e d a =
+    (all-append (λ (q : ℕ × ℕ). q .0 ≡ m .0 → ⊥) ms ((h, e) ∷ []) (d .0) (λ k. a .0 (sym k), tt), distinct-more ms h e (d .1) (a .1))
+
+pub mapped-more : (n : ℕ) (ms : List (ℕ × ℕ)) (h e : ℕ) → MappedIn n ms → h < n → Absent h ms → MappedIn n (ms ++ (h, e) ∷ [])
+mapped-more n ms h e m l a = record {
+  handles = all-append (λ (q : ℕ × ℕ). q .0 < n) ms ((h, e) ∷ []) (m .handles) (l, tt);
+  distinct = distinct-more ms h e (m .distinct) a;
+}
+
+abbrev pub one-if-none : Option ℕ → ℕ
+one-if-none none = 1
+one-if-none (some e) = 0
+
+-- How many of the handles below n are not mapped.
+abbrev pub free : ℕ → List (ℕ × ℕ) → ℕ
+free zero ms = 0
+free (suc n) ms = one-if-none (lookup n ms) + free n ms
+
+pub free-none : (n : ℕ) → free n [] ≡ n
+free-none zero = refl
+free-none (suc n) = omega (arith, free-none n)
+
+lookup-other : (j h e : ℕ) (ms : List (ℕ × ℕ)) → (j ≡ h → ⊥) → lookup j ((h, e) ∷ ms) ≡ lookup j ms
+lookup-other j h e ms ne = rw (ne-eqb j h ne)
+
+lookup-this : (h e : ℕ) (ms : List (ℕ × ℕ)) → lookup h ((h, e) ∷ ms) ≡ some e
+lookup-this h e ms = rw (eq-eqb h h refl)
+
+-- A handle that is not below n changes nothing below n.
+free-above : (n h e : ℕ) (ms : List (ℕ × ℕ)) → n ≤ h → free n ((h, e) ∷ ms) ≡ free n ms
+free-above zero h e ms l = refl
+free-above (suc n) h e ms l =
+    rw (lookup-other n h e ms (λ q. omega arith)) (omega (arith, free-above n h e ms (omega arith)))
+
+-- One handle fewer is free once one more is mapped.
+free-front : (n h e : ℕ) (ms : List (ℕ × ℕ)) → h < n → Absent h ms → free n ms ≡ 1 + free n ((h, e) ∷ ms)
+free-front zero h e ms l a = absurd (omega arith)
+free-front (suc n) h e ms l a =
+    by-lt h n
+    (λ k. rw (lookup-other n h e ms (λ q. omega arith)) (omega (arith, free-front n h e ms k a)))
+    (λ k. let alike : n ≡ h = omega arith in
+    rw (alike, lookup-this h e ms, lookup-absent h ms a) (omega (arith, free-above h h e ms (omega arith))))
+
+-- The handles mapped and those free are n together.
+pub mapped-and-free : (n : ℕ) (ms : List (ℕ × ℕ)) → MappedIn n ms → length ms + free n ms ≡ n
+mapped-and-free n [] m = omega (arith, free-none n)
+mapped-and-free n (q ∷ ms) m =
+    omega (arith, free-front n (q .0) (q .1) ms (m .handles .0) (m .distinct .0), mapped-and-free n ms (record { handles = m .handles .1; distinct = m .distinct .1 }))
+
+-- At most n handles are mapped.
+pub mapped-few : (n : ℕ) (ms : List (ℕ × ℕ)) → MappedIn n ms → length ms ≤ n
+mapped-few n ms m = omega (arith, mapped-and-free n ms m)
+
+-- A new handle's place in the list is all one to a lookup.
+lookup-moved : (j h e : ℕ) (ms : List (ℕ × ℕ)) → Absent h ms → lookup j (ms ++ (h, e) ∷ []) ≡ lookup j ((h, e) ∷ ms)
+lookup-moved j h e [] a = refl
+lookup-moved j h e (m ∷ ms) a = rw (lookup-moved j h e ms (a .1)) (go (eqb j h) refl (eqb j (m .0)) refl)
+  where
+    go : (b : Bool) → eqb j h ≡ b → (d : Bool) → eqb j (m .0) ≡ d
+        → cond d (some (m .1)) (cond b (some e) (lookup j ms)) ≡ cond b (some e) (cond d (some (m .1)) (lookup j ms))
+    go true p true q = absurd (a .0 (sym (eqb-true j (m .0) q) ∙ eqb-true j h p))
+    go true p false q = refl
+    go false p true q = refl
+    go false p false q = refl
+
+free-same : (n : ℕ) (xs ys : List (ℕ × ℕ)) → ((j : ℕ) → lookup j xs ≡ lookup j ys) → free n xs ≡ free n ys
+free-same zero xs ys h = refl
+free-same (suc n) xs ys h = rw (h n) (omega (arith, free-same n xs ys h))
+
+pub free-more : (n h e : ℕ) (ms : List (ℕ × ℕ)) → h < n → Absent h ms → free n ms ≡ 1 + free n (ms ++ (h, e) ∷ [])
+free-more n h e ms l a =
+    omega (arith, free-front n h e ms l a, free-same n (ms ++ (h, e) ∷ []) ((h, e) ∷ ms) (λ j. lookup-moved j h e ms a))
+
+-- ---- what is found is an entry
+
+pub find-below : (k : Key) (es : List Entry) (e : ℕ) → find-key k es ≡ some e → e < length es
+find-below k [] e q = absurd (Option·none-ne-some e q)
+find-below k (x ∷ es) e q = go (same-key k (x .key)) (find-key k es) refl q (find-below k es)
+  where
+    go : (b : Bool) (o : Option ℕ) → find-key k es ≡ o → cond b (some 0) (later o) ≡ some e → ((i : ℕ) → find-key k es ≡ some i → i < length es) → e < suc (length es)
+    go true o f q ih = omega (arith, Option·some-injective 0 e q)
+    go false none f q ih = absurd (Option·none-ne-some e q)
+    go false (some i) f q ih = omega (arith, Option·some-injective (suc i) e q, ih i f)
+
+pub lookup-below : (n h : ℕ) (ms : List (ℕ × ℕ)) (e : ℕ) → All (λ (m : ℕ × ℕ). m .1 < n) ms → lookup h ms ≡ some e → e < n
+lookup-below n h [] e a q = absurd (Option·none-ne-some e q)
+lookup-below n h (m ∷ ms) e a q = go (eqb h (m .0)) q (lookup-below n h ms e (a .1))
+  where
+    go : (b : Bool) → cond b (some (m .1)) (lookup h ms) ≡ some e → (lookup h ms ≡ some e → e < n) → e < n
+    go true q ih = omega (arith, a .0, Option·some-injective (m .1) e q)
+    go false q ih = ih q
+
+-- ---- a cache within its bounds
+
+abbrev pub Below : ℕ → Option ℕ → Type 0
+Below n none = Unit {0}
+Below n (some s) = s < n
+
+pub below-mono : (n m : ℕ) → n ≤ m → (o : Option ℕ) → Below n o → Below m o
+below-mono n m h none b = tt
+below-mono n m h (some s) b = omega arith
+
+-- Of a file with n pairs: each entry has at most 100 parents; parents, mapped entries and the sentinel's entry are entries; the handles mapped are handles
+-- of pairs.
+pub record Bounded (n : ℕ) (c : Cache) : Type 0 where
+  pub parents-ok : All (EntryOK (length (c .entries))) (c .entries)
+  pub mapped-in : MappedIn n (c .mapped)
+  pub mapped-below : All (λ (m : ℕ × ℕ). m .1 < length (c .entries)) (c .mapped)
+  pub sentinel-below : Below (length (c .entries)) (c .sentinel-entry)
+
+-- The handles of pairs in a tree are below n, and those below a pair are below the pair's.
+abbrev pub Under : ℕ → Unfolded → Type 0
+Under n hole = Unit {0}
+Under n (leaf h bytes) = Unit {0}
+Under n (node h l r) = (h < n) × Under h l × Under h r
+
+-- What is left, with the tree's entry, once a tree is entered whose handles are below t, in a file with n pairs.
+pub record Grown (t n : ℕ) (c : Cache) (r : Cache × ℕ) : Type 0 where
+  pub bounded : Bounded n (r .0)
+  pub entry-below : r .1 < length (r .0 .entries)
+  pub entries-grow : length (c .entries) ≤ length (r .0 .entries)
+  pub mapped-grow : length (c .mapped) ≤ length (r .0 .mapped)
+  -- At most one entry more than two for each handle newly mapped.
+  pub entries-most : length (r .0 .entries) + 2 * length (c .mapped) ≤ length (c .entries) + 2 * length (r .0 .mapped) + 1
+  -- At most two parents for each handle newly mapped.
+  pub parents-most : all-parents (r .0 .entries) + 2 * length (c .mapped) ≤ all-parents (c .entries) + 2 * length (r .0 .mapped)
+  -- Each handle newly mapped is below t, and was free.
+  pub stays-absent : (j : ℕ) → t ≤ j → Absent j (c .mapped) → Absent j (r .0 .mapped)
+  pub free-fall : (m : ℕ) → t ≤ m → length (c .mapped) + free m (c .mapped) ≡ length (r .0 .mapped) + free m (r .0 .mapped)
+
+known-mono : (n m : ℕ) → n ≤ m → (ms : List (ℕ × ℕ)) → All (λ (q : ℕ × ℕ). q .1 < n) ms → All (λ (q : ℕ × ℕ). q .1 < m) ms
+known-mono n m h ms k = all-map (λ (q : ℕ × ℕ). q .1 < n) (λ (q : ℕ × ℕ). q .1 < m) (λ q l. omega arith) ms k
+
+-- One entry more, with no parents.
+entries-more : (es : List Entry) (k : Key) (n : ℕ) → All (EntryOK (length es)) es → All (EntryOK (length (es ++ new-entry k n ∷ []))) (es ++ new-entry k n ∷ [])
+entries-more es k n h =
+    let l : length (es ++ new-entry k n ∷ []) ≡ length es + 1 = length-append es (new-entry k n ∷ []) in
+    all-append (EntryOK (length (es ++ new-entry k n ∷ []))) es (new-entry k n ∷ [])
+    (entries-mono (length es) (length (es ++ new-entry k n ∷ [])) (omega (arith, l)) es h) ((omega arith, tt), tt)
+
+module _ (t n : ℕ) where
+  -- Nothing is added.
+  same-grown : (c : Cache) (e : ℕ) → Bounded n c → e < length (c .entries) → Grown t n c (c, e)
+  same-grown c e b l = record {
+    bounded = b;
+    entry-below = l;
+    entries-grow = omega arith;
+    mapped-grow = omega arith;
+    entries-most = omega arith;
+    parents-most = omega arith;
+    stays-absent = λ j h a. a;
+    free-fall = λ m h. refl;
+  }
+
+  -- An entry is added, and may be the sentinel's.
+  new-grown : (c : Cache) (k : Key) (len : ℕ) (o : Option ℕ) → Bounded n c → Below (suc (length (c .entries))) o
+      → Grown t n c (record { entries = c .entries ++ new-entry k len ∷ []; mapped = c .mapped; sentinel-entry = o }, length (c .entries))
+  new-grown c k len o b s =
+      let l : length (c .entries ++ new-entry k len ∷ []) ≡ length (c .entries) + 1 = length-append (c .entries) (new-entry k len ∷ []) in
+      record {
+        bounded = record {
+          parents-ok = entries-more (c .entries) k len (b .parents-ok);
+          mapped-in = b .mapped-in;
+          mapped-below = known-mono (length (c .entries)) (length (c .entries ++ new-entry k len ∷ [])) (omega (arith, l)) (c .mapped) (b .mapped-below);
+          sentinel-below = below-mono (suc (length (c .entries))) (length (c .entries ++ new-entry k len ∷ [])) (omega (arith, l)) o s;
+        };
+        entry-below = omega (arith, l);
+        entries-grow = omega (arith, l);
+        mapped-grow = omega arith;
+        entries-most = omega (arith, l);
+        parents-most = omega (arith, all-parents-append (c .entries) (new-entry k len ∷ []));
+        stays-absent = λ j h a. a;
+        free-fall = λ m h. refl;
+      }
+
+  found-grown : (c : Cache) (k : Key) (len : ℕ) → Bounded n c → Grown t n c (find-or-add k len c)
+  found-grown c k len b = go (find-key k (c .entries)) refl
+    where
+      go : (o : Option ℕ) → find-key k (c .entries) ≡ o → Grown t n c (keep-or-add o k len c)
+      go (some e) q = same-grown c e b (find-below k (c .entries) e q)
+      go none q = new-grown c k len (c .sentinel-entry) b (below-mono (length (c .entries)) (suc (length (c .entries))) (omega arith) (c .sentinel-entry) (b .sentinel-below))
