@@ -307,3 +307,78 @@ module _ (t n : ℕ) where
       go : (o : Option ℕ) → find-key k (c .entries) ≡ o → Grown t n c (keep-or-add o k len c)
       go (some e) q = same-grown c e b (find-below k (c .entries) e q)
       go none q = new-grown c k len (c .sentinel-entry) b (below-mono (length (c .entries)) (suc (length (c .entries))) (omega arith) (c .sentinel-entry) (b .sentinel-below))
+
+  module _ (h a b : ℕ) (f : Cache × ℕ) where
+    abbrev linked-entries : List Entry
+    linked-entries = adjust b (add-parent (f .1) true) (adjust a (add-parent (f .1) false) (f .0 .entries))
+
+    linked-length : length linked-entries ≡ length (f .0 .entries)
+    linked-length =
+        length-adjust b (add-parent (f .1) true) (adjust a (add-parent (f .1) false) (f .0 .entries)) ∙ length-adjust a (add-parent (f .1) false) (f .0 .entries)
+
+    linked-parents : all-parents linked-entries ≤ all-parents (f .0 .entries) + 2
+    linked-parents =
+        omega (
+          arith,
+          all-parents-adjust 1 b (add-parent (f .1) true) (adjust a (add-parent (f .1) false) (f .0 .entries)) (length-add-parent (f .1) true),
+          all-parents-adjust 1 a (add-parent (f .1) false) (f .0 .entries) (length-add-parent (f .1) false),
+        )
+
+    linked-ok : f .1 < length (f .0 .entries) → All (EntryOK (length (f .0 .entries))) (f .0 .entries) → All (EntryOK (length (f .0 .entries))) linked-entries
+    linked-ok l k =
+        let m = length (f .0 .entries) in
+        adjust-ok m b (add-parent (f .1) true) (adjust a (add-parent (f .1) false) (f .0 .entries)) (λ ps. add-parent-ok m (f .1) true ps l)
+        (adjust-ok m a (add-parent (f .1) false) (f .0 .entries) (λ ps. add-parent-ok m (f .1) false ps l) k)
+
+    link-bounded : Bounded n (f .0) → f .1 < length (f .0 .entries) → h < n → Absent h (f .0 .mapped) → Bounded n (link-pair h a b f .0)
+    link-bounded k l hn ab = record {
+      parents-ok = rw linked-length (linked-ok l (k .parents-ok));
+      mapped-in = mapped-more n (f .0 .mapped) h (f .1) (k .mapped-in) hn ab;
+      mapped-below =
+          rw linked-length (all-append (λ (m : ℕ × ℕ). m .1 < length (f .0 .entries)) (f .0 .mapped) ((h, f .1) ∷ []) (k .mapped-below) (l, tt));
+      sentinel-below = rw linked-length (k .sentinel-below);
+    }
+
+    -- A pair's entry is there, and so are those of both sides.
+    link-grown : (c c₁ c₂ : Cache) (e₁ e₂ : ℕ) → h < t → t ≤ n → Absent h (c .mapped) → Grown h n c (c₁, e₁) → Grown h n c₁ (c₂, e₂) → Grown h n c₂ f
+        → Grown t n c (link-pair h a b f)
+    link-grown c c₁ c₂ e₁ e₂ ht tn ab L R F =
+        let away : Absent h (f .0 .mapped) =
+        F .stays-absent h (omega arith) (R .stays-absent h (omega arith) (L .stays-absent h (omega arith) ab)) in
+        let more : length (f .0 .mapped ++ (h, f .1) ∷ []) ≡ length (f .0 .mapped) + 1 = length-append (f .0 .mapped) ((h, f .1) ∷ []) in
+        record {
+          bounded = link-bounded (F .bounded) (F .entry-below) (omega arith) away;
+          entry-below = omega (arith, linked-length, F .entry-below);
+          entries-grow = omega (arith, linked-length, L .entries-grow, R .entries-grow, F .entries-grow);
+          mapped-grow = omega (arith, more, L .mapped-grow, R .mapped-grow, F .mapped-grow);
+          entries-most = omega (arith, linked-length, more, L .entries-most, R .entries-most, F .entries-most);
+          parents-most = omega (arith, linked-parents, more, L .parents-most, R .parents-most, F .parents-most);
+          stays-absent = λ j tj aj.
+              all-append (λ (m : ℕ × ℕ). m .0 ≡ j → ⊥) (f .0 .mapped) ((h, f .1) ∷ [])
+              (F .stays-absent j (omega arith) (R .stays-absent j (omega arith) (L .stays-absent j (omega arith) aj))) (λ q. omega arith, tt);
+          free-fall = λ m tm.
+              omega (
+                arith,
+                more,
+                free-more m h (f .1) (f .0 .mapped) (omega arith) away,
+                L .free-fall m (omega arith),
+                R .free-fall m (omega arith),
+                F .free-fall m (omega arith),
+              );
+        }
+
+known-grown : (t n h : ℕ) (c : Cache) (new : Cache × ℕ) → Bounded n c → (o : Option ℕ) → lookup h (c .mapped) ≡ o
+    → (Absent h (c .mapped) → Grown t n c new) → Grown t n c (known-or o c new)
+known-grown t n h c new b none q g = g (absent h (c .mapped) q)
+known-grown t n h c new b (some e) q g = same-grown t n c e b (lookup-below (length (c .entries)) h (c .mapped) e (b .mapped-below) q)
+
+-- Entering a tree grows the cache within its bounds.
+pub enter-grown : (n t : ℕ) (u : Unfolded) (c : Cache) → t ≤ n → Under t u → Bounded n c → Grown t n c (enter u c)
+unfolding enter
+enter-grown n t hole c l u b = new-grown t n c _ 0 (some (length (c .entries))) b (omega arith)
+enter-grown n t (leaf h bytes) c l u b = found-grown t n c _ _ b
+enter-grown n t (node h x y) c l u b =
+    let L : Grown h n c (enter x c) = enter-grown n h x c (omega (arith, u .0)) (u .1) b in
+    let R : Grown h n (enter x c .0) (enter y (enter x c .0)) = enter-grown n h y (enter x c .0) (omega (arith, u .0)) (u .2) (L .bounded) in
+    known-grown t n h c (join-pair h (enter x c .1) (enter y (enter x c .0))) b (lookup h (c .mapped)) refl
+    (λ ab. link-grown t n h _ _ _ c (enter x c .0) (enter y (enter x c .0) .0) _ _ (u .0) l ab L R (found-grown h n (enter y (enter x c .0) .0) _ _ (R .bounded)))
