@@ -12,7 +12,9 @@ use borrow.Author.Tests.{eqb-true, eqb-false, eq-eqb, ne-eqb, ltb-true, ltb-fals
 use Rattle.words.specs.Choice.{by-cond, by-lt}
 use Rattle.words.specs.Lists.{All, all-append, all-drop, all-map}
 use Rattle.path.specs.Bytes.{bit}
-use Rattle.session_file.specs.Unfold.{Unfolded, hole, leaf, node}
+use Rattle.allocator.specs.Handle.{Node, pair, listed-atom, small-atom, unknown, node-of, handle-of}
+use Rattle.session_file.specs.File.{File, Pair, Step, add, restore}
+use Rattle.session_file.specs.Unfold.{Unfolded, hole, leaf, node, is-sentinel, named-by, unfold-with, unfold-pairs, unfolded}
 use Rattle.session.specs.Cache.{Key, Parent, Entry, Cache, same-key, later, find-key, lookup, adjust, parents-at, add-parent, move-parents, no-parents, new-entry, with-entries, keep-or-add, find-or-add, meet-sentinel, link-pair, join-pair, known-or, enter, sentinel-parents, clear-sentinel, place-root, update}
 
 -- ---- all parents
@@ -382,3 +384,128 @@ enter-grown n t (node h x y) c l u b =
     let R : Grown h n (enter x c .0) (enter y (enter x c .0)) = enter-grown n h y (enter x c .0) (omega (arith, u .0)) (u .2) (L .bounded) in
     known-grown t n h c (join-pair h (enter x c .1) (enter y (enter x c .0))) b (lookup h (c .mapped)) refl
     (λ ab. link-grown t n h _ _ _ c (enter x c .0) (enter y (enter x c .0) .0) _ _ (u .0) l ab L R (found-grown h n (enter y (enter x c .0) .0) _ _ (R .bounded)))
+
+-- ---- an add
+
+-- The sentinel's parents, and all parents without them.
+clear-parents : (o : Option ℕ) (es : List Entry) → all-parents (clear-sentinel o es) + length (sentinel-parents o es) ≡ all-parents es
+clear-parents none es = omega arith
+clear-parents (some s) es = all-parents-clear s es
+
+clear-length : (o : Option ℕ) (es : List Entry) → length (clear-sentinel o es) ≡ length es
+clear-length none es = refl
+clear-length (some s) es = length-adjust s no-parents es
+
+clear-ok : (n : ℕ) (o : Option ℕ) (es : List Entry) → All (EntryOK n) es → All (EntryOK n) (clear-sentinel o es)
+clear-ok n none es h = h
+clear-ok n (some s) es h = adjust-ok n s no-parents es (λ ps k. (omega arith, tt)) h
+
+moved-ok : (n : ℕ) (o : Option ℕ) (es : List Entry) → All (EntryOK n) es → ParentsOK n (sentinel-parents o es)
+moved-ok n none es h = (omega arith, tt)
+moved-ok n (some s) es h = parents-at-ok n s es h
+
+-- Entries with other parents, as many, keep a cache within its bounds.
+with-bounded : (n : ℕ) (es : List Entry) (c : Cache) → Bounded n c → length es ≡ length (c .entries) → All (EntryOK (length (c .entries))) es
+    → Bounded n (with-entries es c)
+with-bounded n es c b l k = record {
+  parents-ok = rw l k;
+  mapped-in = b .mapped-in;
+  mapped-below = rw l (b .mapped-below);
+  sentinel-below = rw l (b .sentinel-below);
+}
+
+-- What an add leaves of the cache c, in a file with n pairs.
+pub record Updated (n : ℕ) (c c′ : Cache) : Type 0 where
+  pub bounded : Bounded n c′
+  pub entries-grow : length (c .entries) ≤ length (c′ .entries)
+  pub mapped-grow : length (c .mapped) ≤ length (c′ .mapped)
+  pub entries-most : length (c′ .entries) + 2 * length (c .mapped) ≤ length (c .entries) + 2 * length (c′ .mapped) + 1
+  pub parents-most : all-parents (c′ .entries) + 2 * length (c .mapped) ≤ all-parents (c .entries) + 2 * length (c′ .mapped)
+
+place-updated : (n : ℕ) (c c₁ : Cache) (moved : List Parent) (r : Cache × ℕ) → length (c₁ .entries) ≡ length (c .entries) → c₁ .mapped ≡ c .mapped
+    → all-parents (c₁ .entries) + length moved ≡ all-parents (c .entries) → ParentsOK (length (c .entries)) moved → Grown n n c₁ r
+    → Updated n c (place-root moved r)
+place-updated n c c₁ moved r e m p k G =
+    let l : length (adjust (r .1) (move-parents moved) (r .0 .entries)) ≡ length (r .0 .entries) = length-adjust (r .1) (move-parents moved) (r .0 .entries) in
+    let d : length (c₁ .mapped) ≡ length (c .mapped) = ap length m in
+    record {
+      bounded =
+          with-bounded n (adjust (r .1) (move-parents moved) (r .0 .entries)) (r .0) (G .bounded) l
+          (adjust-ok (length (r .0 .entries)) (r .1) (move-parents moved) (r .0 .entries)
+          (λ ps. move-parents-ok (length (r .0 .entries)) moved ps
+          (parents-mono (length (c .entries)) (length (r .0 .entries)) (omega (arith, e, G .entries-grow)) moved k))
+          (G .bounded .parents-ok));
+      entries-grow = omega (arith, l, e, G .entries-grow);
+      mapped-grow = omega (arith, d, G .mapped-grow);
+      entries-most = omega (arith, l, d, e, G .entries-most);
+      parents-most =
+          omega (
+            arith,
+            d,
+            p,
+            G .parents-most,
+            all-parents-adjust (length moved) (r .1) (move-parents moved) (r .0 .entries) (length-move-parents moved),
+          );
+    }
+
+-- An add grows the cache within its bounds: the parents that are moved are not more than before.
+pub update-grown : (n : ℕ) (t : Unfolded) (c : Cache) → Under n t → Bounded n c → Updated n c (update t c)
+unfolding update
+update-grown n t c u b =
+    let o = c .sentinel-entry in
+    let es : List Entry = clear-sentinel o (c .entries) in
+    let l : length es ≡ length (c .entries) = clear-length o (c .entries) in
+    place-updated n c (with-entries es c) (sentinel-parents o (c .entries)) (enter t (with-entries es c)) l refl
+    (clear-parents o (c .entries)) (moved-ok (length (c .entries)) o (c .entries) (b .parents-ok))
+    (enter-grown n n t (with-entries es c) (omega arith) u
+    (with-bounded n es c b l (clear-ok (length (c .entries)) o (c .entries) (b .parents-ok))))
+
+-- ---- a file's trees
+
+under-mono : (n m : ℕ) → n ≤ m → (u : Unfolded) → Under n u → Under m u
+under-mono n m l hole u = tt
+under-mono n m l (leaf h bytes) u = tt
+under-mono n m l (node h x y) u = (omega (arith, u .0), u .1, u .2)
+
+under-at : (n i : ℕ) (rows : List Unfolded) (h : ℕ) → All (Under n) rows → Under n (getD rows i (leaf h []))
+under-at n i [] h k = tt
+under-at n zero (u ∷ rows) h k = k .0
+under-at n (suc i) (u ∷ rows) h k = under-at n i rows h (k .1)
+
+pair-handle : (i : ℕ) → handle-of (pair i) ≡ i
+unfolding handle-of
+pair-handle i = omega arith
+
+module _ (f : File) where
+  named-under : (n : ℕ) (rows : List Unfolded) (h : ℕ) (m : Node) → All (Under n) rows → Under n (named-by f rows h m)
+  named-under n rows h (pair i) k = under-at n i rows h k
+  named-under n rows h (listed-atom i) k = tt
+  named-under n rows h (small-atom v) k = tt
+  named-under n rows h (unknown j i) k = tt
+
+  with-under : (n : ℕ) (rows : List Unfolded) (h : ℕ) → All (Under n) rows → Under n (unfold-with f rows h)
+  with-under n rows h k =
+      by-cond (Under n) (is-sentinel (f .sentinel) h) hole (named-by f rows h (node-of h)) (λ c. tt) (λ c. named-under n rows h (node-of h) k)
+
+  pairs-under : (ps : List Pair) (rows : List Unfolded) → All (Under (length rows)) rows → All (Under (length rows + length ps)) (unfold-pairs f ps rows)
+  pairs-under [] rows k = all-map (Under (length rows)) (Under (length rows + 0)) (under-mono (length rows) (length rows + 0) (omega arith)) rows k
+  pairs-under (p ∷ ps) rows k =
+      let new : Unfolded = node (handle-of (pair (length rows))) (unfold-with f rows (p .left)) (unfold-with f rows (p .right)) in
+      let l : length (rows ++ new ∷ []) ≡ length rows + 1 = length-append rows (new ∷ []) in
+      let e : length (rows ++ new ∷ []) + length ps ≡ length rows + suc (length ps) = omega (arith, l) in
+      let here : Under (length rows + 1) new =
+      (omega (arith, pair-handle (length rows)),
+      rw (pair-handle (length rows)) (with-under (length rows) rows (p .left) k),
+      rw (pair-handle (length rows)) (with-under (length rows) rows (p .right) k)) in
+      subst (λ (m : ℕ). All (Under m) (unfold-pairs f ps (rows ++ new ∷ []))) e
+      (pairs-under ps (rows ++ new ∷ []) (subst (λ (m : ℕ). All (Under m) (rows ++ new ∷ [])) (sym l)
+      (all-append (Under (length rows + 1)) rows (new ∷ [])
+      (all-map (Under (length rows)) (Under (length rows + 1)) (under-mono (length rows) (length rows + 1) (omega arith)) rows k) (here, tt))))
+
+  -- The handles of pairs in an unfolded handle are handles of the file's pairs.
+  pub unfolded-under : (h : ℕ) → Under (length (f .pairs)) (unfolded f h)
+  unfolding unfolded
+  unfolded-under h =
+      let e : 0 + length (f .pairs) ≡ length (f .pairs) = omega arith in
+      with-under (length (f .pairs)) (unfold-pairs f (f .pairs) []) h
+      (subst (λ (m : ℕ). All (Under m) (unfold-pairs f (f .pairs) [])) e (pairs-under (f .pairs) [] tt))
