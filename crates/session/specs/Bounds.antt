@@ -10,12 +10,17 @@ use lib.Dec.{eqb, ltb}
 use lib.ListN.{length, getD, set, take, drop, length-append, length-set, length-drop}
 use borrow.Author.Tests.{eqb-true, eqb-false, eq-eqb, ne-eqb, ltb-true, ltb-false}
 use Rattle.words.specs.Choice.{by-cond, by-lt}
-use Rattle.words.specs.Lists.{All, all-append, all-drop, all-map}
+use Rattle.words.specs.Lists.{All, all-append, all-drop, all-take, all-map}
 use Rattle.path.specs.Bytes.{bit}
 use Rattle.allocator.specs.Handle.{Node, pair, listed-atom, small-atom, unknown, node-of, handle-of}
 use Rattle.session_file.specs.File.{File, Pair, Step, add, restore}
 use Rattle.session_file.specs.Unfold.{Unfolded, hole, leaf, node, is-sentinel, named-by, unfold-with, unfold-pairs, unfolded}
-use Rattle.session.specs.Cache.{Key, Parent, Entry, Cache, same-key, later, find-key, lookup, adjust, parents-at, add-parent, move-parents, no-parents, new-entry, with-entries, keep-or-add, find-or-add, meet-sentinel, link-pair, join-pair, known-or, enter, sentinel-parents, clear-sentinel, place-root, update}
+use Rattle.session.specs.Cache.{Key, Parent, Entry, Cache, same-key, later, find-key, lookup, adjust, parents-at, add-parent, move-parents, no-parents, new-entry, with-entries, keep-or-add, find-or-add, meet-sentinel, link-pair, join-pair, known-or, fresh, enter, sentinel-parents, clear-sentinel, place-root, update}
+use Rattle.session.specs.Items.{Item}
+use Rattle.session.specs.Writer.{Todo, parse, Outcome, done, stopped, refused, resume, Session, start, Added, added, turned-down, settle, add-at, add-tree}
+use Rattle.session.specs.Trees.{nth}
+use Rattle.session.specs.FindPath.{find-in}
+use Rattle.session.specs.Steps.{UndoState, undo-state, or-known, restored, room-in, Run, stop-at, after-add, unless-full, after-restore, run-steps}
 
 -- ---- all parents
 
@@ -509,3 +514,191 @@ module _ (f : File) where
       let e : 0 + length (f .pairs) ≡ length (f .pairs) = omega arith in
       with-under (length (f .pairs)) (unfold-pairs f (f .pairs) []) h
       (subst (λ (m : ℕ). All (Under m) (unfold-pairs f (f .pairs) [])) e (pairs-under (f .pairs) [] tt))
+
+-- ---- a session
+
+-- The cache after at most k adds, in a file with n pairs.
+pub record Held (n k : ℕ) (c : Cache) : Type 0 where
+  pub bounded : Bounded n c
+  pub entries-held : length (c .entries) ≤ k + 2 * length (c .mapped)
+  pub parents-held : all-parents (c .entries) ≤ 2 * length (c .mapped)
+
+pub held-start : (n : ℕ) → Held n 0 fresh
+held-start n = record {
+  bounded = record { parents-ok = tt; mapped-in = record { handles = tt; distinct = tt }; mapped-below = tt; sentinel-below = tt };
+  entries-held = omega arith;
+  parents-held = omega arith;
+}
+
+pub held-later : (n k m : ℕ) (c : Cache) → k ≤ m → Held n k c → Held n m c
+held-later n k m c l h = record { bounded = h .bounded; entries-held = omega (arith, h .entries-held); parents-held = h .parents-held }
+
+pub held-update : (n k : ℕ) (t : Unfolded) (c : Cache) → Under n t → Held n k c → Held n (suc k) (update t c)
+held-update n k t c u h =
+    let g = update-grown n t c u (h .bounded) in
+    record {
+      bounded = g .bounded;
+      entries-held = omega (arith, g .entries-most, h .entries-held, g .mapped-grow);
+      parents-held = omega (arith, g .parents-most, h .parents-held, g .mapped-grow);
+    }
+
+-- What that comes to: at most 2 entries and 2 parents for each pair, and one entry more for each add.
+module _ (n k : ℕ) (c : Cache) (h : Held n k c) where
+  pub held-mapped : length (c .mapped) ≤ n
+  held-mapped = mapped-few n (c .mapped) (h .bounded .mapped-in)
+
+  pub held-entries : length (c .entries) ≤ k + 2 * n
+  held-entries = omega (arith, h .entries-held, held-mapped)
+
+  pub held-parents : all-parents (c .entries) ≤ 2 * n
+  held-parents = omega (arith, h .parents-held, held-mapped)
+
+-- The state before an add has no sentinel's entry beyond the entries of c.
+abbrev pub UndoBelow : ℕ → UndoState → Type 0
+UndoBelow m u = Below m (u .sentinel-entry)
+
+-- A session after at most k adds, and the states before the adds on the present history.
+pub record InBounds (n k : ℕ) (past : List UndoState) (s : Session) : Type 0 where
+  pub held : Held n k (s .cache)
+  pub past-below : All (UndoBelow (length (s .cache .entries))) past
+
+pub in-bounds-start : (n : ℕ) → InBounds n 0 [] start
+in-bounds-start n = record { held = held-start n; past-below = tt }
+
+abbrev pub session-of : Added → Session
+session-of (added s) = s
+session-of (turned-down m s) = s
+
+settled : (s : Session) (c : Cache) (o : Outcome) → session-of (settle s c o) .cache ≡ c
+settled s c (done w) = refl
+settled s c (stopped k w) = refl
+settled s c (refused m w) = refl
+
+past-more : (s : Session) (m : ℕ) → length (s .cache .entries) ≤ m → Below (length (s .cache .entries)) (s .cache .sentinel-entry)
+    → (past : List UndoState) → All (UndoBelow (length (s .cache .entries))) past → All (UndoBelow m) (past ++ undo-state s ∷ [])
+past-more s m l b past h =
+    all-append (UndoBelow m) past (undo-state s ∷ [])
+    (all-map (UndoBelow (length (s .cache .entries))) (UndoBelow m) (λ u. below-mono (length (s .cache .entries)) m l (u .sentinel-entry)) past h)
+    (below-mono (length (s .cache .entries)) m l (s .cache .sentinel-entry) b, tt)
+
+module _ (find : Cache → List ℕ → List ℕ → ℕ → ℕ → Option (List Bool)) (room : List Todo → List Item → Item → ℕ) (n k : ℕ) (past : List UndoState) where
+  -- An add, refused or not.
+  pub in-bounds-add : (t : Unfolded) (s : Session) → Under n t → InBounds n k past s
+      → InBounds n (suc k) (past ++ undo-state s ∷ []) (session-of (add-tree find room t s))
+  in-bounds-add t s u h = go (s .waiting)
+    where
+      go : (o : Option (List Todo)) → InBounds n (suc k) (past ++ undo-state s ∷ []) (session-of (add-at find room t s o))
+      go none = record {
+        held = held-later n k (suc k) (s .cache) (omega arith) (h .held);
+        past-below = past-more s (length (s .cache .entries)) (omega arith) (h .held .bounded .sentinel-below) past (h .past-below);
+      }
+      go (some w) =
+          let c : Cache = update t (s .cache) in
+          let r : Session = session-of (settle s c (resume find room c (parse t ∷ w) (s .written))) in
+          let e : r .cache ≡ c = settled s c (resume find room c (parse t ∷ w) (s .written)) in
+          record {
+            held = subst (Held n (suc k)) (sym e) (held-update n k t (s .cache) u (h .held));
+            past-below =
+                subst (λ (d : Cache). All (UndoBelow (length (d .entries))) (past ++ undo-state s ∷ [])) (sym e)
+                (past-more s (length (c .entries)) (update-grown n t (s .cache) u (h .held .bounded) .entries-grow) (h .held .bounded .sentinel-below) past (h .past-below));
+          }
+
+all-nth : {A : Type 0} (P : A → Type 0) (xs : List A) (i : ℕ) (x : A) → All P xs → nth xs i ≡ some x → P x
+all-nth P [] i x h q = absurd (Option·none-ne-some x q)
+all-nth P (y ∷ xs) zero x h q = subst P (Option·some-injective y x q) (h .0)
+all-nth P (y ∷ xs) (suc i) x h q = all-nth P xs i x (h .1) q
+
+or-known-below : (m : ℕ) (o now : Option ℕ) → Below m o → Below m now → Below m (or-known o now)
+or-known-below m none now h k = k
+or-known-below m (some s) now h k = h
+
+-- A restore.
+pub in-bounds-restore : (n k i : ℕ) (past : List UndoState) (u : UndoState) (s : Session) → nth past i ≡ some u → InBounds n k past s
+    → InBounds n k (take i past) (restored u s)
+in-bounds-restore n k i past u s q h = record {
+  held = record {
+    bounded = record {
+      parents-ok = h .held .bounded .parents-ok;
+      mapped-in = h .held .bounded .mapped-in;
+      mapped-below = h .held .bounded .mapped-below;
+      sentinel-below =
+          or-known-below (length (s .cache .entries)) (u .sentinel-entry) (s .cache .sentinel-entry)
+          (all-nth (UndoBelow (length (s .cache .entries))) past i u (h .past-below) q) (h .held .bounded .sentinel-below);
+    };
+    entries-held = h .held .entries-held;
+    parents-held = h .held .parents-held;
+  };
+  past-below = all-take (UndoBelow (length (s .cache .entries))) i past (h .past-below);
+}
+
+-- ---- a run
+
+abbrev pub adds : List Step → ℕ
+adds [] = 0
+adds (add h ∷ steps) = suc (adds steps)
+adds (restore i ∷ steps) = adds steps
+
+pub adds-few : (steps : List Step) → adds steps ≤ length steps
+adds-few [] = omega arith
+adds-few (add h ∷ steps) = omega (arith, adds-few steps)
+adds-few (restore i ∷ steps) = omega (arith, adds-few steps)
+
+module _ (measure : List Bool → ℕ) (space : ℕ) (f : File) where
+  -- The cache at the end of a run of m more adds.
+  abbrev EndHeld : ℕ → Run → Type 0
+  EndHeld m r = Held (length (f .pairs)) m (r .last .cache)
+
+  end-add : (m : ℕ) (a : Added) (next : Session → Run) → EndHeld m (stop-at 0 (session-of a)) → ((s : Session) → s ≡ session-of a → EndHeld m (next s)) → EndHeld m (after-add a next)
+  end-add m (added s) next h g = g s refl
+  end-add m (turned-down i s) next h g = h
+
+  end-full : (m : ℕ) (o : Option (List Todo)) (full : Bool) (s : Session) (r : Run) → Held (length (f .pairs)) m (s .cache) → EndHeld m r → EndHeld m (unless-full o full s r)
+  end-full m none full s r h g = h
+  end-full m (some k) true s r h g = h
+  end-full m (some k) false s r h g = g
+
+  end-restore : (m : ℕ) (past : List UndoState) (i : ℕ) (o : Option UndoState) (s : Session) (next : Session → Run) → Held (length (f .pairs)) m (s .cache)
+      → ((u : UndoState) → o ≡ some u → EndHeld m (next (restored u s))) → EndHeld m (after-restore o s next)
+  end-restore m past i none s next h g = h
+  end-restore m past i (some u) s next h g = g u refl
+
+  -- A run from a session after k adds.
+  pub run-held : (steps : List Step) (past : List UndoState) (s : Session) (k : ℕ) → InBounds (length (f .pairs)) k past s
+      → Held (length (f .pairs)) (k + adds steps) (run-steps measure space f steps past s .last .cache)
+  unfolding run-steps
+  run-held [] past s k h = held-later (length (f .pairs)) k (k + 0) (s .cache) (omega arith) (h .held)
+  run-held (add g ∷ steps) past s k h =
+      let n = length (f .pairs) in
+      let a : Added = add-tree (find-in measure) (room-in space) (unfolded f g) s in
+      let b : InBounds n (suc k) (past ++ undo-state s ∷ []) (session-of a) =
+      in-bounds-add (find-in measure) (room-in space) n k past (unfolded f g) s (unfolded-under f g) h in
+      end-full (k + suc (adds steps)) (s .waiting) (ltb 15 (length past)) s _
+      (held-later n k (k + suc (adds steps)) (s .cache) (omega arith) (h .held))
+      (end-add (k + suc (adds steps)) a (λ t. run-steps measure space f steps (past ++ undo-state s ∷ []) t)
+      (held-later n (suc k) (k + suc (adds steps)) (session-of a .cache) (omega arith) (b .held))
+      (λ t e. held-later n (suc k + adds steps) (k + suc (adds steps)) (run-steps measure space f steps (past ++ undo-state s ∷ []) t .last .cache) (omega arith)
+      (run-held steps (past ++ undo-state s ∷ []) t (suc k) (subst (InBounds n (suc k) (past ++ undo-state s ∷ [])) (sym e) b))))
+  run-held (restore i ∷ steps) past s k h =
+      end-restore (k + adds steps) past i (nth past i) s (λ t. run-steps measure space f steps (take i past) t)
+      (held-later (length (f .pairs)) k (k + adds steps) (s .cache) (omega arith) (h .held))
+      (λ u q. run-held steps (take i past) (restored u s) k (in-bounds-restore (length (f .pairs)) k i past u s q h))
+
+  module _ (steps : List Step) (pairs-few : length (f .pairs) ≤ 1024) (few : adds steps ≤ 1024) where
+    abbrev end-cache : Cache
+    end-cache = run-steps measure space f steps [] start .last .cache
+
+    end-held : Held (length (f .pairs)) (0 + adds steps) end-cache
+    end-held = run-held steps [] start 0 (in-bounds-start (length (f .pairs)))
+
+    -- With at most 1,024 pairs and 1,024 adds: 3,072 entries, 2,048 parents and 1,024 handles.
+    pub run-entries : length (end-cache .entries) ≤ 3072
+    run-entries = omega (arith, held-entries (length (f .pairs)) (0 + adds steps) end-cache end-held)
+
+    pub run-parents : all-parents (end-cache .entries) ≤ 2048
+    run-parents = omega (arith, held-parents (length (f .pairs)) (0 + adds steps) end-cache end-held)
+
+    pub run-mapped : length (end-cache .mapped) ≤ 1024
+    run-mapped = omega (arith, held-mapped (length (f .pairs)) (0 + adds steps) end-cache end-held)
+
+    pub run-bounded : Bounded (length (f .pairs)) end-cache
+    run-bounded = end-held .bounded
