@@ -20,6 +20,7 @@ pub mod BytesRead
 pub mod TheoremBytes
 pub mod Kept
 pub mod Bounds
+pub mod Depth
 pub mod Formed
 pub mod FileAtoms
 pub mod TheoremFile
