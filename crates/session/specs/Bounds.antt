@@ -441,6 +441,7 @@ with-bounded n es c b l k = record {
 -- What an add leaves of the cache c, in a file with n pairs.
 pub record Updated (n : ℕ) (c c′ : Cache) : Type 0 where
   pub bounded : Bounded n c′
+  pub some-entry : 0 < length (c′ .entries)
   pub entries-grow : length (c .entries) ≤ length (c′ .entries)
   pub mapped-grow : length (c .mapped) ≤ length (c′ .mapped)
   pub entries-most : length (c′ .entries) + 2 * length (c .mapped) ≤ length (c .entries) + 2 * length (c′ .mapped) + 1
@@ -459,6 +460,7 @@ place-updated n c c₁ moved r e m p k G =
           (λ ps. move-parents-ok (length (r .0 .entries)) moved ps
           (parents-mono (length (c .entries)) (length (r .0 .entries)) (omega (arith, e, G .entries-grow)) moved k))
           (G .bounded .parents-ok));
+      some-entry = omega (arith, l, G .entry-below);
       entries-grow = omega (arith, l, e, G .entries-grow);
       mapped-grow = omega (arith, d, G .mapped-grow);
       entries-most = omega (arith, l, d, e, G .entries-most);
@@ -663,6 +665,56 @@ in-bounds-restore n k i past u s q h = record {
 
 -- ---- a run
 
+-- To show R of the session where a run ends: I, of the steps that are left, the states before the adds and the session, is kept by each step, and gives R.
+module _ (measure : List Bool → ℕ) (space : ℕ) (f : File) (I : List Step → List UndoState → Session → Type 0) (R : Session → Type 0) where
+  abbrev pub AddKept : List Step → List UndoState → Added → Type 0
+  AddKept steps past (added s) = I steps past s
+  AddKept steps past (turned-down m s) = R s
+
+  pub record StepsKept : Type 0 where
+    pub stop-kept : (steps : List Step) (past : List UndoState) (s : Session) → I steps past s → R s
+    pub add-kept : (h : ℕ) (steps : List Step) (past : List UndoState) (s : Session) (k : List Todo) → s .waiting ≡ some k → length past ≤ 15
+        → I (add h ∷ steps) past s → AddKept steps (past ++ undo-state s ∷ []) (add-tree (find-in measure) (room-in space) (unfolded f h) s)
+    pub restore-kept : (i : ℕ) (steps : List Step) (past : List UndoState) (s : Session) (u : UndoState) → nth past i ≡ some u
+        → I (restore i ∷ steps) past s → I steps (take i past) (restored u s)
+
+  EndsIn : Run → Type 0
+  EndsIn r = R (r .last)
+
+  ends-add : (steps : List Step) (past : List UndoState) (a : Added) (next : Session → Run) → AddKept steps past a
+      → ((s : Session) → I steps past s → EndsIn (next s)) → EndsIn (after-add a next)
+  unfolding EndsIn
+  ends-add steps past (added s) next h g = g s h
+  ends-add steps past (turned-down m s) next h g = h
+
+  ends-full : (o : Option (List Todo)) (full : Bool) (s : Session) (r : Run) → R s → ((k : List Todo) → o ≡ some k → full ≡ false → EndsIn r)
+      → EndsIn (unless-full o full s r)
+  unfolding EndsIn
+  ends-full none full s r h g = h
+  ends-full (some k) true s r h g = h
+  ends-full (some k) false s r h g = g k refl refl
+
+  ends-restore : (o : Option UndoState) (s : Session) (next : Session → Run) → R s → ((u : UndoState) → o ≡ some u → EndsIn (next (restored u s)))
+      → EndsIn (after-restore o s next)
+  unfolding EndsIn
+  ends-restore none s next h g = h
+  ends-restore (some u) s next h g = g u refl
+
+  pub run-kept : StepsKept → (steps : List Step) (past : List UndoState) (s : Session) → I steps past s → R (run-steps measure space f steps past s .last)
+  unfolding run-steps EndsIn
+  run-kept K [] past s h = K .stop-kept [] past s h
+  run-kept K (add g ∷ steps) past s h =
+      ends-full (s .waiting) (ltb 15 (length past)) s _ (K .stop-kept (add g ∷ steps) past s h) (λ k w e.
+      ends-add steps (past ++ undo-state s ∷ []) (add-tree (find-in measure) (room-in space) (unfolded f g) s)
+      (λ t. run-steps measure space f steps (past ++ undo-state s ∷ []) t)
+      (K .add-kept g steps past s k w (ltb-false 15 (length past) e) h)
+      (λ t j. run-kept K steps (past ++ undo-state s ∷ []) t j))
+  run-kept K (restore i ∷ steps) past s h =
+      ends-restore (nth past i) s (λ t. run-steps measure space f steps (take i past) t) (K .stop-kept (restore i ∷ steps) past s h)
+      (λ u q. run-kept K steps (take i past) (restored u s) (K .restore-kept i steps past s u q h))
+
+-- ---- the bounds of a run
+
 abbrev pub adds : List Step → ℕ
 adds [] = 0
 adds (add h ∷ steps) = suc (adds steps)
@@ -673,45 +725,39 @@ adds-few [] = omega arith
 adds-few (add h ∷ steps) = omega (arith, adds-few steps)
 adds-few (restore i ∷ steps) = omega (arith, adds-few steps)
 
+-- A session after so many adds that those left make at most m together, in a file with n pairs.
+pub record Underway (n m : ℕ) (steps : List Step) (past : List UndoState) (s : Session) : Type 0 where
+  pub done-adds : ℕ
+  pub adds-most : done-adds + adds steps ≤ m
+  pub in-bounds : InBounds n done-adds past s
+
+-- What an add leaves, and the end of the run where it is refused.
+added-underway : (measure : List Bool → ℕ) (space : ℕ) (f : File) (n m k : ℕ) (steps : List Step) (past : List UndoState) (a : Added)
+    → suc k + adds steps ≤ m → InBounds n (suc k) past (session-of a) → AddKept measure space f (Underway n m) (λ s. Held n m (s .cache)) steps past a
+added-underway measure space f n m k steps past (added s) l b = record { done-adds = suc k; adds-most = l; in-bounds = b }
+added-underway measure space f n m k steps past (turned-down i s) l b = held-later n (suc k) m (s .cache) (omega arith) (b .held)
+
 module _ (measure : List Bool → ℕ) (space : ℕ) (f : File) where
-  -- The cache at the end of a run of m more adds.
-  abbrev EndHeld : ℕ → Run → Type 0
-  EndHeld m r = Held (length (f .pairs)) m (r .last .cache)
+  held-steps : (m : ℕ) → StepsKept measure space f (Underway (length (f .pairs)) m) (λ s. Held (length (f .pairs)) m (s .cache))
+  held-steps m = record {
+    stop-kept = λ steps past s h. held-later (length (f .pairs)) (h .done-adds) m (s .cache) (omega (arith, h .adds-most)) (h .in-bounds .held);
+    add-kept = λ g steps past s k w l h.
+        added-underway measure space f (length (f .pairs)) m (h .done-adds) steps (past ++ undo-state s ∷ [])
+        (add-tree (find-in measure) (room-in space) (unfolded f g) s) (omega (arith, h .adds-most))
+        (in-bounds-add (find-in measure) (room-in space) (length (f .pairs)) (h .done-adds) past (unfolded f g) s (unfolded-under f g) (h .in-bounds));
+    restore-kept = λ i steps past s u q h. record {
+      done-adds = h .done-adds;
+      adds-most = h .adds-most;
+      in-bounds = in-bounds-restore (length (f .pairs)) (h .done-adds) i past u s q (h .in-bounds);
+    };
+  }
 
-  end-add : (m : ℕ) (a : Added) (next : Session → Run) → EndHeld m (stop-at 0 (session-of a)) → ((s : Session) → s ≡ session-of a → EndHeld m (next s)) → EndHeld m (after-add a next)
-  end-add m (added s) next h g = g s refl
-  end-add m (turned-down i s) next h g = h
-
-  end-full : (m : ℕ) (o : Option (List Todo)) (full : Bool) (s : Session) (r : Run) → Held (length (f .pairs)) m (s .cache) → EndHeld m r → EndHeld m (unless-full o full s r)
-  end-full m none full s r h g = h
-  end-full m (some k) true s r h g = h
-  end-full m (some k) false s r h g = g
-
-  end-restore : (m : ℕ) (past : List UndoState) (i : ℕ) (o : Option UndoState) (s : Session) (next : Session → Run) → Held (length (f .pairs)) m (s .cache)
-      → ((u : UndoState) → o ≡ some u → EndHeld m (next (restored u s))) → EndHeld m (after-restore o s next)
-  end-restore m past i none s next h g = h
-  end-restore m past i (some u) s next h g = g u refl
-
-  -- A run from a session after k adds.
+  -- The cache where a run ends, from a session after k adds.
   pub run-held : (steps : List Step) (past : List UndoState) (s : Session) (k : ℕ) → InBounds (length (f .pairs)) k past s
       → Held (length (f .pairs)) (k + adds steps) (run-steps measure space f steps past s .last .cache)
-  unfolding run-steps
-  run-held [] past s k h = held-later (length (f .pairs)) k (k + 0) (s .cache) (omega arith) (h .held)
-  run-held (add g ∷ steps) past s k h =
-      let n = length (f .pairs) in
-      let a : Added = add-tree (find-in measure) (room-in space) (unfolded f g) s in
-      let b : InBounds n (suc k) (past ++ undo-state s ∷ []) (session-of a) =
-      in-bounds-add (find-in measure) (room-in space) n k past (unfolded f g) s (unfolded-under f g) h in
-      end-full (k + suc (adds steps)) (s .waiting) (ltb 15 (length past)) s _
-      (held-later n k (k + suc (adds steps)) (s .cache) (omega arith) (h .held))
-      (end-add (k + suc (adds steps)) a (λ t. run-steps measure space f steps (past ++ undo-state s ∷ []) t)
-      (held-later n (suc k) (k + suc (adds steps)) (session-of a .cache) (omega arith) (b .held))
-      (λ t e. held-later n (suc k + adds steps) (k + suc (adds steps)) (run-steps measure space f steps (past ++ undo-state s ∷ []) t .last .cache) (omega arith)
-      (run-held steps (past ++ undo-state s ∷ []) t (suc k) (subst (InBounds n (suc k) (past ++ undo-state s ∷ [])) (sym e) b))))
-  run-held (restore i ∷ steps) past s k h =
-      end-restore (k + adds steps) past i (nth past i) s (λ t. run-steps measure space f steps (take i past) t)
-      (held-later (length (f .pairs)) k (k + adds steps) (s .cache) (omega arith) (h .held))
-      (λ u q. run-held steps (take i past) (restored u s) k (in-bounds-restore (length (f .pairs)) k i past u s q h))
+  run-held steps past s k h =
+      run-kept measure space f (Underway (length (f .pairs)) (k + adds steps)) (λ t. Held (length (f .pairs)) (k + adds steps) (t .cache))
+      (held-steps (k + adds steps)) steps past s (record { done-adds = k; adds-most = omega arith; in-bounds = h })
 
   module _ (steps : List Step) (pairs-few : length (f .pairs) ≤ 1024) (few : adds steps ≤ 1024) where
     abbrev end-cache : Cache
