@@ -635,7 +635,7 @@ module _ (find : Cache → List ℕ → List ℕ → ℕ → ℕ → Option (Lis
                 (past-more s (length (c .entries)) (update-grown n t (s .cache) u (h .held .bounded) .entries-grow) (h .held .bounded .sentinel-below) past (h .past-below));
           }
 
-all-nth : {A : Type 0} (P : A → Type 0) (xs : List A) (i : ℕ) (x : A) → All P xs → nth xs i ≡ some x → P x
+pub all-nth : {A : Type 0} (P : A → Type 0) (xs : List A) (i : ℕ) (x : A) → All P xs → nth xs i ≡ some x → P x
 all-nth P [] i x h q = absurd (Option·none-ne-some x q)
 all-nth P (y ∷ xs) zero x h q = subst P (Option·some-injective y x q) (h .0)
 all-nth P (y ∷ xs) (suc i) x h q = all-nth P xs i x (h .1) q

@@ -18,7 +18,8 @@ use Rattle.session.specs.Items.{Item, cons-item, atom-item, reference-it
 use Rattle.session.specs.Writer.{Todo, parse, close, Written, Outcome, done, stopped, refused, and-then, atom-entry, pair-entry, push, pop2, close-up, choose, put-if, put, put-whole, write, resume, Session, start, Added, added, turned-down, settle, add-at, add-tree}
 use Rattle.session.specs.Trees.{nth}
 use Rattle.session.specs.FindPath.{find-in}
-use Rattle.session.specs.Steps.{open-pairs, too-deep, room-in, UndoState, undo-state, restored, Run, stop-at, after-add, unless-full, after-restore, run-steps}
+use Rattle.session.specs.Steps.{open-pairs, too-deep, room-in, UndoState, undo-state, restored, run-steps}
+use Rattle.session.specs.Bounds.{all-nth, AddKept, StepsKept, run-kept}
 
 -- ---- what is left to write
 
@@ -214,47 +215,32 @@ in-depth-add find room shallow past t s d = go (s .waiting) (d .now)
         (all-append UndoDepth past (undo-state s ∷ []) (d .before) (d .now, tt))
         (depth-add find room shallow (update t (s .cache)) t k (s .written) h)
 
-all-nth : (P : UndoState → Type 0) (xs : List UndoState) (i : ℕ) (x : UndoState) → All P xs → nth xs i ≡ some x → P x
-all-nth P [] i x h q = let z : _≡_ {A = ℕ} 0 1 = cc in absurd (omega arith)
-all-nth P (y ∷ xs) zero x h q = let alike : y ≡ x = cc in subst P alike (h .0)
-all-nth P (y ∷ xs) (suc i) x h q = all-nth P xs i x (h .1) q
-
 pub in-depth-restore : (i : ℕ) (past : List UndoState) (u : UndoState) (s : Session) → nth past i ≡ some u → InDepth past s → InDepth (take i past) (restored u s)
 in-depth-restore i past u s q d = record { now = all-nth UndoDepth past i u (d .before) q; before = all-take UndoDepth i past (d .before) }
 
 -- ---- a run
 
 module _ (measure : List Bool → ℕ) (space : ℕ) (f : File) where
-  abbrev EndDepth : Run → Type 0
-  EndDepth r = length (r .last .written .stack) ≤ 4096
+  abbrev EndDepth : Session → Type 0
+  EndDepth s = length (s .written .stack) ≤ 4096
 
-  end-add : (past : List UndoState) (a : Added) (next : Session → Run) → AddedDepth past a → ((s : Session) → InDepth past s → EndDepth (next s)) → EndDepth (after-add a next)
-  end-add past (added s) next h g = g s h
-  end-add past (turned-down n s) next h g = h
+  added-depth : (steps : List Step) (past : List UndoState) (a : Added) → AddedDepth past a → AddKept measure space f (λ rest. InDepth) EndDepth steps past a
+  added-depth steps past (added s) h = h
+  added-depth steps past (turned-down n s) h = h
 
-  end-full : (o : Option (List Todo)) (full : Bool) (s : Session) (r : Run) → length (s .written .stack) ≤ 4096 → EndDepth r → EndDepth (unless-full o full s r)
-  end-full none full s r h g = h
-  end-full (some k) true s r h g = h
-  end-full (some k) false s r h g = g
+  depth-steps : StepsKept measure space f (λ rest. InDepth) EndDepth
+  depth-steps = record {
+    stop-kept = λ steps past s d. in-depth-most past s d;
+    add-kept = λ g steps past s k w l d.
+        added-depth steps (past ++ undo-state s ∷ []) (add-tree (find-in measure) (room-in space) (unfolded f g) s)
+        (in-depth-add (find-in measure) (room-in space) (room-shallow space) past (unfolded f g) s d);
+    restore-kept = λ i steps past s u q d. in-depth-restore i past u s q d;
+  }
 
-  end-restore : (o : Option UndoState) (s : Session) (next : Session → Run) → length (s .written .stack) ≤ 4096
-      → ((u : UndoState) → o ≡ some u → EndDepth (next (restored u s))) → EndDepth (after-restore o s next)
-  end-restore none s next h g = h
-  end-restore (some u) s next h g = g u refl
+  -- The stack of the session where a run ends.
+  pub run-depth : (steps : List Step) (past : List UndoState) (s : Session) → InDepth past s
+      → length (run-steps measure space f steps past s .last .written .stack) ≤ 4096
+  run-depth = run-kept measure space f (λ rest. InDepth) EndDepth depth-steps
 
-  pub run-depth : (steps : List Step) (past : List UndoState) (s : Session) → InDepth past s → length (run-steps measure space f steps past s .last .written .stack) ≤ 4096
-  unfolding run-steps
-  run-depth [] past s d = in-depth-most past s d
-  run-depth (add g ∷ steps) past s d =
-      end-full (s .waiting) (ltb 15 (length past)) s _ (in-depth-most past s d)
-      (end-add (past ++ undo-state s ∷ []) (add-tree (find-in measure) (room-in space) (unfolded f g) s)
-      (λ t. run-steps measure space f steps (past ++ undo-state s ∷ []) t)
-      (in-depth-add (find-in measure) (room-in space) (room-shallow space) past (unfolded f g) s d)
-      (λ t e. run-depth steps (past ++ undo-state s ∷ []) t e))
-  run-depth (restore i ∷ steps) past s d =
-      end-restore (nth past i) s (λ t. run-steps measure space f steps (take i past) t) (in-depth-most past s d)
-      (λ u q. run-depth steps (take i past) (restored u s) (in-depth-restore i past u s q d))
-
-  -- The stack of the last session of a run.
   pub run-stack : (steps : List Step) → length (run-steps measure space f steps [] start .last .written .stack) ≤ 4096
   run-stack steps = run-depth steps [] start in-depth-start
