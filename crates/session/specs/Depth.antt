@@ -1,5 +1,5 @@
 -- How deep the stack is: each pair that is open has its left value on the stack, or its right side is still to parse. So the stack has at most as many
--- values as pairs are open, which question 12 keeps to 4,096, and one more right after a value is pushed.
+-- values as pairs are open, which question 12 keeps to 4,096, and one more right after a value is pushed. What is on it are entries of the cache.
 -- Assumes nothing.
 use Prim.Native.Nat.{ℕ, zero, suc, _+_, _≤_, _<_}
 use mathlib.Core.Path.{_≡_, refl, sym, ap, _∙_, subst}
@@ -10,16 +10,17 @@ use native.Mathlib.Omega.{arith}
 use lib.Dec.{ltb}
 use lib.ListN.{length, take}
 use borrow.Author.Tests.{ltb-true, ltb-false}
-use Rattle.words.specs.Lists.{All, all-append, all-take}
+use Rattle.words.specs.Choice.{by-cond}
+use Rattle.words.specs.Lists.{All, all-append, all-take, all-map}
 use Rattle.session_file.specs.File.{File, Step, add, restore}
 use Rattle.session_file.specs.Unfold.{Unfolded, hole, leaf, node, unfolded}
-use Rattle.session.specs.Cache.{Cache, update}
+use Rattle.session.specs.Cache.{Cache, atom-key, find-key, lookup, length-at, update}
 use Rattle.session.specs.Items.{Item, cons-item, atom-item, reference-item, item-size, size-of}
-use Rattle.session.specs.Writer.{Todo, parse, close, Written, Outcome, done, stopped, refused, and-then, atom-entry, pair-entry, push, pop2, close-up, choose, put-if, put, put-whole, write, resume, Session, start, Added, added, turned-down, settle, add-at, add-tree}
+use Rattle.session.specs.Writer.{Todo, parse, close, Written, Outcome, done, stopped, refused, and-then, or-zero, atom-entry, pair-entry, push, pop2, close-up, choose, put-if, put, put-whole, write, resume, Session, start, Added, added, turned-down, settle, add-at, add-tree}
 use Rattle.session.specs.Trees.{nth}
 use Rattle.session.specs.FindPath.{find-in}
 use Rattle.session.specs.Steps.{open-pairs, too-deep, room-in, UndoState, undo-state, restored, run-steps}
-use Rattle.session.specs.Bounds.{all-nth, AddKept, StepsKept, run-kept}
+use Rattle.session.specs.Bounds.{find-below, lookup-below, Bounded, Under, Updated, update-grown, session-of, all-nth, AddKept, StepsKept, run-kept}
 
 -- ---- what is left to write
 
@@ -244,3 +245,149 @@ module _ (measure : List Bool → ℕ) (space : ℕ) (f : File) where
 
   pub run-stack : (steps : List Step) → length (run-steps measure space f steps [] start .last .written .stack) ≤ 4096
   run-stack steps = run-depth steps [] start in-depth-start
+
+-- ---- what is on the stack: entries
+
+-- The values of the stack and the entries marked are below m.
+pub record Standing (m : ℕ) (w : Written) : Type 0 where
+  pub on-stack : All (λ (e : ℕ). e < m) (w .stack)
+  pub among-marked : All (λ (e : ℕ). e < m) (w .marked)
+
+pub standing-mono : (n m : ℕ) → n ≤ m → (w : Written) → Standing n w → Standing m w
+standing-mono n m l w h = record {
+  on-stack = all-map (λ (e : ℕ). e < n) (λ (e : ℕ). e < m) (λ e k. omega arith) (w .stack) (h .on-stack);
+  among-marked = all-map (λ (e : ℕ). e < n) (λ (e : ℕ). e < m) (λ e k. omega arith) (w .marked) (h .among-marked);
+}
+
+or-zero-below : (m : ℕ) (o : Option ℕ) → 0 < m → ((e : ℕ) → o ≡ some e → e < m) → or-zero o < m
+or-zero-below m none z h = z
+or-zero-below m (some e) z h = h e refl
+
+all-pop2 : (P : ℕ → Type 0) (s : List ℕ) → All P s → All P (pop2 s)
+all-pop2 P [] h = tt
+all-pop2 P (b ∷ []) h = tt
+all-pop2 P (b ∷ a ∷ s) h = h .1 .1
+
+abbrev StandingIn : ℕ → Outcome → Type 0
+StandingIn m (done w) = Standing m w
+StandingIn m (stopped k w) = Standing m w
+StandingIn m (refused n w) = Standing m w
+
+standing-then : (m : ℕ) (o : Outcome) (f : Written → Outcome) → StandingIn m o → ((w : Written) → Standing m w → StandingIn m (f w)) → StandingIn m (and-then o f)
+standing-then m (done w) f h g = g w h
+standing-then m (stopped k w) f h g = h
+standing-then m (refused n w) f h g = h
+
+-- A cache with an entry, in which the handles mapped have entries.
+module _ (c : Cache) (some-entry : 0 < length (c .entries)) (mapped-below : All (λ (m : ℕ × ℕ). m .1 < length (c .entries)) (c .mapped)) where
+  pub atom-entry-below : (bytes : List ℕ) → atom-entry c bytes < length (c .entries)
+  atom-entry-below bytes =
+      or-zero-below (length (c .entries)) (find-key (atom-key bytes) (c .entries)) some-entry (λ e q. find-below (atom-key bytes) (c .entries) e q)
+
+  pub pair-entry-below : (h : ℕ) → pair-entry c h < length (c .entries)
+  pair-entry-below h =
+      or-zero-below (length (c .entries)) (lookup h (c .mapped)) some-entry (λ e q. lookup-below (length (c .entries)) h (c .mapped) e mapped-below q)
+
+  pub standing-push : (e : ℕ) (w : Written) → e < length (c .entries) → Standing (length (c .entries)) w → Standing (length (c .entries)) (push c e w)
+  standing-push e w l h = record {
+    on-stack = (l, h .on-stack);
+    among-marked =
+        by-cond (All (λ (i : ℕ). i < length (c .entries))) (ltb (length-at e (c .entries)) 4) (w .marked) (e ∷ w .marked)
+        (λ q. h .among-marked) (λ q. (l, h .among-marked));
+  }
+
+  pub standing-close : (h : ℕ) (w : Written) → Standing (length (c .entries)) w → Standing (length (c .entries)) (close-up c h w)
+  standing-close h w s =
+      standing-push (pair-entry c h) (record { stack = pop2 (w .stack); marked = w .marked; items = w .items }) (pair-entry-below h)
+      (record { on-stack = all-pop2 (λ (e : ℕ). e < length (c .entries)) (w .stack) (s .on-stack); among-marked = s .among-marked })
+
+  module _ (find : Cache → List ℕ → List ℕ → ℕ → ℕ → Option (List Bool)) (room : List Todo → List Item → Item → ℕ) where
+    standing-put : (k : List Todo) (i : Item) (w : Written) → Standing (length (c .entries)) w → StandingIn (length (c .entries)) (put find room k i w)
+    standing-put k i w s = go (room k (w .items) i)
+      where
+        go : (n : ℕ) → StandingIn (length (c .entries)) (put-if n i w)
+        go zero = record { on-stack = s .on-stack; among-marked = s .among-marked }
+        go (suc n) = s
+
+    standing-whole : (k : List Todo) (e : ℕ) (i : Item) (w : Written) → e < length (c .entries) → Standing (length (c .entries)) w
+        → StandingIn (length (c .entries)) (put-whole find room c k e i w)
+    standing-whole k e i w l s =
+        standing-then (length (c .entries)) (put find room k i w) (λ v. done (push c e v)) (standing-put k i w s) (λ v h. standing-push e v l h)
+
+    standing-choose : (k : List Todo) (e : ℕ) (w : Written) (full : Outcome) → e < length (c .entries) → Standing (length (c .entries)) w
+        → StandingIn (length (c .entries)) full → (o : Option (List Bool))
+        → StandingIn (length (c .entries)) (choose o (λ path. put-whole find room c k e (reference-item path) w) full)
+    standing-choose k e w full l s h none = h
+    standing-choose k e w full l s h (some path) = standing-whole k e (reference-item path) w l s
+
+    standing-write : (u : Unfolded) (k : List Todo) (w : Written) → Standing (length (c .entries)) w → StandingIn (length (c .entries)) (write find room c u k w)
+    unfolding write
+    standing-write hole k w s = s
+    standing-write (leaf h bytes) k w s =
+        standing-choose k (atom-entry c bytes) w (put-whole find room c k (atom-entry c bytes) (atom-item bytes) w) (atom-entry-below bytes) s
+        (standing-whole k (atom-entry c bytes) (atom-item bytes) w (atom-entry-below bytes) s) (find c (w .marked) (w .stack) h (atom-entry c bytes))
+    standing-write (node h l r) k w s =
+        standing-choose k (pair-entry c h) w
+        (and-then (put find room k cons-item w) (λ w₁.
+        and-then (write find room c l (parse r ∷ close h ∷ k) w₁) (λ w₂.
+        and-then (write find room c r (close h ∷ k) w₂) (λ w₃. done (close-up c h w₃)))))
+        (pair-entry-below h) s
+        (standing-then (length (c .entries)) (put find room k cons-item w) _ (standing-put k cons-item w s) (λ w₁ s₁.
+        standing-then (length (c .entries)) (write find room c l (parse r ∷ close h ∷ k) w₁) _ (standing-write l (parse r ∷ close h ∷ k) w₁ s₁) (λ w₂ s₂.
+        standing-then (length (c .entries)) (write find room c r (close h ∷ k) w₂) _ (standing-write r (close h ∷ k) w₂ s₂) (λ w₃ s₃. standing-close h w₃ s₃))))
+        (find c (w .marked) (w .stack) h (pair-entry c h))
+
+    pub standing-resume : (k : List Todo) (w : Written) → Standing (length (c .entries)) w → StandingIn (length (c .entries)) (resume find room c k w)
+    unfolding resume
+    standing-resume [] w s = s
+    standing-resume (parse u ∷ k) w s =
+        standing-then (length (c .entries)) (write find room c u k w) (λ v. resume find room c k v) (standing-write u k w s) (λ v h. standing-resume k v h)
+    standing-resume (close h ∷ k) w s = standing-resume k (close-up c h w) (standing-close h w s)
+
+-- Of a session and the states before the adds on the present history.
+pub record AllStanding (past : List UndoState) (s : Session) : Type 0 where
+  pub now-standing : Standing (length (s .cache .entries)) (s .written)
+  pub before-standing : All (λ (u : UndoState). Standing (length (s .cache .entries)) (u .written)) past
+
+pub standing-start : AllStanding [] start
+standing-start = record { now-standing = record { on-stack = tt; among-marked = tt }; before-standing = tt }
+
+past-standing : (n m : ℕ) → n ≤ m → (past : List UndoState) (s : Session) → Standing n (s .written) → All (λ (u : UndoState). Standing n (u .written)) past
+    → All (λ (u : UndoState). Standing m (u .written)) (past ++ undo-state s ∷ [])
+past-standing n m l past s h k =
+    all-append (λ (u : UndoState). Standing m (u .written)) past (undo-state s ∷ [])
+    (all-map (λ (u : UndoState). Standing n (u .written)) (λ (u : UndoState). Standing m (u .written)) (λ u. standing-mono n m l (u .written)) past k)
+    (standing-mono n m l (s .written) h, tt)
+
+settle-standing : (past : List UndoState) (s : Session) (c : Cache) (o : Outcome) → All (λ (u : UndoState). Standing (length (c .entries)) (u .written)) past
+    → StandingIn (length (c .entries)) o → AllStanding past (session-of (settle s c o))
+settle-standing past s c (done w) a h = record { now-standing = h; before-standing = a }
+settle-standing past s c (stopped k w) a h = record { now-standing = h; before-standing = a }
+settle-standing past s c (refused n w) a h = record { now-standing = h; before-standing = a }
+
+-- An add, refused or not.
+pub standing-add : (find : Cache → List ℕ → List ℕ → ℕ → ℕ → Option (List Bool)) (room : List Todo → List Item → Item → ℕ)
+    → (n : ℕ) (past : List UndoState) (t : Unfolded) (s : Session) → Under n t → Bounded n (s .cache) → AllStanding past s
+    → AllStanding (past ++ undo-state s ∷ []) (session-of (add-tree find room t s))
+standing-add find room n past t s u b h = go (s .waiting)
+  where
+    go : (o : Option (List Todo)) → AllStanding (past ++ undo-state s ∷ []) (session-of (add-at find room t s o))
+    go none = record {
+      now-standing = h .now-standing;
+      before-standing =
+          past-standing (length (s .cache .entries)) (length (s .cache .entries)) (omega arith) past s (h .now-standing) (h .before-standing);
+    }
+    go (some k) =
+        let c : Cache = update t (s .cache) in
+        let g : Updated n (s .cache) c = update-grown n t (s .cache) u b in
+        settle-standing (past ++ undo-state s ∷ []) s c (resume find room c (parse t ∷ k) (s .written))
+        (past-standing (length (s .cache .entries)) (length (c .entries)) (g .entries-grow) past s (h .now-standing) (h .before-standing))
+        (standing-resume c (g .some-entry) (g .bounded .mapped-below) find room (parse t ∷ k) (s .written)
+        (standing-mono (length (s .cache .entries)) (length (c .entries)) (g .entries-grow) (s .written) (h .now-standing)))
+
+pub standing-restore : (i : ℕ) (past : List UndoState) (u : UndoState) (s : Session) → nth past i ≡ some u → AllStanding past s
+    → AllStanding (take i past) (restored u s)
+standing-restore i past u s q h = record {
+  now-standing = all-nth (λ (v : UndoState). Standing (length (s .cache .entries)) (v .written)) past i u (h .before-standing) q;
+  before-standing = all-take (λ (v : UndoState). Standing (length (s .cache .entries)) (v .written)) i past (h .before-standing);
+}
