@@ -519,10 +519,11 @@ module _ (f : File) where
       let new : Unfolded = node (handle-of (pair (length rows))) (unfold-with f rows (p .left)) (unfold-with f rows (p .right)) in
       let l : length (rows ++ new ∷ []) ≡ length rows + 1 = length-append rows (new ∷ []) in
       let e : length (rows ++ new ∷ []) + length ps ≡ length rows + suc (length ps) = omega (arith, l) in
-      let here : Under (length rows + 1) new =
-      (omega (arith, pair-handle (length rows)),
-      rw (pair-handle (length rows)) (with-under (length rows) rows (p .left) k),
-      rw (pair-handle (length rows)) (with-under (length rows) rows (p .right) k)) in
+      let here : Under (length rows + 1) new = (
+        omega (arith, pair-handle (length rows)),
+        rw (pair-handle (length rows)) (with-under (length rows) rows (p .left) k),
+        rw (pair-handle (length rows)) (with-under (length rows) rows (p .right) k),
+      ) in
       subst (λ (m : ℕ). All (Under m) (unfold-pairs f ps (rows ++ new ∷ []))) e
       (pairs-under ps (rows ++ new ∷ []) (subst (λ (m : ℕ). All (Under m) (rows ++ new ∷ [])) (sym l)
       (all-append (Under (length rows + 1)) rows (new ∷ [])
