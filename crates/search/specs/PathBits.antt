@@ -1,7 +1,7 @@
 -- The path that a search gives, whatever the parents say: how many bits and bytes it has, and that its last bit, the terminator, is set, so that the first
 -- byte is not 0 and no byte could be spared.
 -- Assumes nothing.
-use Prim.Native.Nat.{ℕ, zero, suc, _+_, _-_, _*_, _/_, _≤_, _<_}
+use Prim.Native.Nat.{ℕ, zero, suc, _+_, _≤_, _<_}
 use mathlib.Core.Path.{_≡_, refl, sym, ap, subst}
 use mathlib.Core.Bool.{Bool, true, false, cond}
 use mathlib.Core.List.{List, [], _∷_, _++_}
@@ -13,7 +13,7 @@ use Rattle.words.specs.Choice.{by-cond}
 use Rattle.words.specs.Lists.{All, all-append}
 use Rattle.path.specs.Bytes.{path-bytes}
 use Rattle.path.specs.BytesLaws.{length-path-bytes, path-bytes-first}
-use Rattle.search.specs.Search.{Trail, atEntry, onStack, Parents, Stepped, result, stays, dropped, capped, member, distance, upward, sideward, moves, visit, step, search, most-visits}
+use Rattle.search.specs.Search.{Trail, atEntry, onStack, Parents, Stepped, dropped, capped, member, distance, upward, sideward, moves, visit, step, search, most-visits}
 use Rattle.search.specs.Induction.{StepOK, search-ok}
 use Rattle.search.specs.Sound.{few}
 

@@ -1,13 +1,13 @@
 -- How large the cache grows: its entries, their parents, and the handles mapped; the bounds of a whole run.
 -- Assumes nothing.
-use Prim.Native.Nat.{ℕ, zero, suc, _+_, _-_, _*_, _/_, _%_, _^_, _≤_, _<_}
+use Prim.Native.Nat.{ℕ, zero, suc, _+_, _-_, _*_, _%_, _≤_, _<_}
 use mathlib.Core.Path.{_≡_, refl, sym, ap, _∙_, subst}
 use mathlib.Core.Bool.{Bool, true, false, cond}
 use mathlib.Core.List.{List, [], _∷_, _++_}
 use mathlib.Core.Option.{Option, none, some, Option·none-ne-some, Option·some-injective}
 use native.Mathlib.Omega.{arith}
 use lib.Dec.{eqb, ltb}
-use lib.ListN.{length, getD, set, take, drop, length-append, length-set, length-drop}
+use lib.ListN.{length, getD, set, take, length-append, length-set, length-drop}
 use borrow.Author.Tests.{eqb-true, eqb-false, eq-eqb, ne-eqb, ltb-true, ltb-false}
 use Rattle.words.specs.Choice.{by-cond, by-lt}
 use Rattle.words.specs.Lists.{All, all-append, all-drop, all-take, all-map}
@@ -15,12 +15,12 @@ use Rattle.path.specs.Bytes.{bit}
 use Rattle.allocator.specs.Handle.{Node, pair, listed-atom, small-atom, unknown, node-of, handle-of}
 use Rattle.session_file.specs.File.{File, Pair, Step, add, restore}
 use Rattle.session_file.specs.Unfold.{Unfolded, hole, leaf, node, is-sentinel, named-by, unfold-with, unfold-pairs, unfolded}
-use Rattle.session.specs.Cache.{Key, Parent, Entry, Cache, same-key, later, find-key, lookup, adjust, parents-at, add-parent, move-parents, no-parents, new-entry, with-entries, keep-or-add, find-or-add, meet-sentinel, link-pair, join-pair, known-or, fresh, enter, sentinel-parents, clear-sentinel, place-root, update}
+use Rattle.session.specs.Cache.{Key, Parent, Entry, Cache, same-key, later, find-key, lookup, adjust, parents-at, add-parent, move-parents, no-parents, new-entry, with-entries, keep-or-add, find-or-add, link-pair, join-pair, known-or, fresh, enter, sentinel-parents, clear-sentinel, place-root, update}
 use Rattle.session.specs.Items.{Item}
 use Rattle.session.specs.Writer.{Todo, parse, Outcome, done, stopped, refused, resume, Session, start, Added, added, turned-down, settle, add-at, add-tree}
 use Rattle.session.specs.Trees.{nth}
 use Rattle.session.specs.FindPath.{find-in}
-use Rattle.session.specs.Steps.{UndoState, undo-state, or-known, restored, room-in, Run, stop-at, after-add, unless-full, after-restore, run-steps}
+use Rattle.session.specs.Steps.{UndoState, undo-state, or-known, restored, room-in, Run, after-add, unless-full, after-restore, run-steps}
 
 -- ---- all parents
 

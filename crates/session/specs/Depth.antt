@@ -2,24 +2,24 @@
 -- values as pairs are open, which question 12 keeps to 4,096, and one more right after a value is pushed. What is on it are entries of the cache.
 -- Assumes nothing.
 use Prim.Native.Nat.{ℕ, zero, suc, _+_, _≤_, _<_}
-use mathlib.Core.Path.{_≡_, refl, sym, ap, _∙_, subst}
+use mathlib.Core.Path.{_≡_, refl}
 use mathlib.Core.Bool.{Bool, true, false, cond}
 use mathlib.Core.List.{List, [], _∷_, _++_}
 use mathlib.Core.Option.{Option, none, some}
 use native.Mathlib.Omega.{arith}
 use lib.Dec.{ltb}
 use lib.ListN.{length, take}
-use borrow.Author.Tests.{ltb-true, ltb-false}
+use borrow.Author.Tests.{ltb-false}
 use Rattle.words.specs.Choice.{by-cond}
 use Rattle.words.specs.Lists.{All, all-append, all-take, all-map}
-use Rattle.session_file.specs.File.{File, Step, add, restore}
+use Rattle.session_file.specs.File.{File, Step}
 use Rattle.session_file.specs.Unfold.{Unfolded, hole, leaf, node, unfolded}
 use Rattle.session.specs.Cache.{Cache, atom-key, find-key, lookup, length-at, update}
-use Rattle.session.specs.Items.{Item, cons-item, atom-item, reference-item, item-size, size-of}
+use Rattle.session.specs.Items.{Item, cons-item, atom-item, reference-item, size-of}
 use Rattle.session.specs.Writer.{Todo, parse, close, Written, Outcome, done, stopped, refused, and-then, or-zero, atom-entry, pair-entry, push, pop2, close-up, choose, put-if, put, put-whole, write, resume, Session, start, Added, added, turned-down, settle, add-at, add-tree}
 use Rattle.session.specs.Trees.{nth}
 use Rattle.session.specs.FindPath.{find-in}
-use Rattle.session.specs.Steps.{open-pairs, too-deep, room-in, UndoState, undo-state, restored, run-steps}
+use Rattle.session.specs.Steps.{open-pairs, room-in, UndoState, undo-state, restored, run-steps}
 use Rattle.session.specs.Bounds.{find-below, lookup-below, Bounded, Under, Updated, update-grown, session-of, all-nth, AddKept, StepsKept, run-kept}
 
 -- ---- what is left to write
