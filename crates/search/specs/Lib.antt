@@ -5,4 +5,5 @@ pub mod Sound
 pub mod Reference
 pub mod Enough
 pub mod Flat
+pub mod PathBits
 pub mod Examples

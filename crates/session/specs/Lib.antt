@@ -22,6 +22,8 @@ pub mod Cases
 pub mod BytesRead
 pub mod TheoremBytes
 pub mod Kept
+pub mod Bounds
+pub mod Depth
 pub mod Formed
 pub mod FileAtoms
 pub mod TheoremFile
