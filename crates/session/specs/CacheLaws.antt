@@ -4,13 +4,10 @@ use Prim.Native.Nat.{_-_, _≤_}
 use mathlib.Core.Path.{_≡_}
 use mathlib.Core.List.{List, _++_}
 use native.Mathlib.Omega.{arith}
-use lib.ListN.{length, drop, length-append, length-drop}
+use lib.ListN.{length, drop, length-append}
 use lib.Seq.{drop-append-le}
 use Rattle.session.specs.Cache.{Parent, move-parents}
 
 pub moved-last : (moved ps : List Parent) → length moved ≤ 100 → (kept : List Parent) × (move-parents moved ps ≡ kept ++ moved)
 moved-last moved ps few =
     (drop (length (ps ++ moved) - 100) ps, drop-append-le (length (ps ++ moved) - 100) ps moved (omega (arith, length-append ps moved)))
-
-pub moved-few : (moved ps : List Parent) → length (move-parents moved ps) ≤ 100
-moved-few moved ps = omega (arith, length-drop (length (ps ++ moved) - 100) (ps ++ moved))
