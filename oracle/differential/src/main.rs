@@ -1,6 +1,6 @@
 //! `read COUNT SEED [MOST]` compares, `benchmark` measures.
 
-use differential::{benchmark, compare};
+use differential::{benchmark, compare, one_atom};
 
 #[cfg(not(feature = "stand-in"))]
 unsafe extern "C" {
@@ -46,6 +46,7 @@ fn run(args: &[&str]) -> Result<(), String> {
         }
         ["benchmark"] => {
             benchmark::run(call);
+            one_atom::run(call);
             Ok(())
         }
         _ => Err(USAGE.to_string()),
