@@ -19,10 +19,10 @@ struct Case {
 /// A file that only has the slices zeroed: no atoms, pairs, sentinel and steps.
 const EMPTY: &[u8] = b"BRS\x00\x01\x00\x00\x00\x00\xff\xff\xff\xff";
 
-/// A builder with small atom 7 as the sentinel.
+/// A builder with a listed atom of its own as the sentinel.
 fn begin() -> (Builder, u32) {
     let mut b = Builder::default();
-    let s = b.small(7);
+    let s = b.list_atom(b"\xff sentinel");
     b.sentinel(s);
     (b, s)
 }
