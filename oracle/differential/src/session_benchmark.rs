@@ -1,7 +1,7 @@
 //! How long the port's session call takes, and the unchanged `Serializer`, on the
 //! same sessions.
 
-use crate::session_call::{self, CHECKPOINTS, NikvoldraSession, WORDS, WORK};
+use crate::session_call::{self, CHECKPOINTS, NikvoldraSession, SessionAnswer, WORDS, WORK};
 use crate::times::measure;
 use clvm_rs::Allocator;
 use clvm_rs::serde::{Serializer, UndoState};
@@ -102,6 +102,25 @@ fn undo(rng: &mut Rng) -> Vec<u8> {
     b.done()
 }
 
+/// 16 adds and 16 restores, the last add first, 31 times.
+fn undo_in_a_row(rng: &mut Rng) -> Vec<u8> {
+    let (mut b, s) = begin();
+    let pool = b.pool(rng, 8, 40);
+    let trees: Vec<u32> = (0..16)
+        .map(|_| {
+            let items: Vec<u32> = (0..20).map(|_| *rng.pick(&pool)).collect();
+            b.right(&items, s)
+        })
+        .collect();
+    for i in 0..31 * 32 {
+        match i % 32 {
+            k @ 0..16 => b.add(trees[k]),
+            k => b.restore(31 - k),
+        }
+    }
+    b.done()
+}
+
 /// Pairs of the atoms i and n - i, whose entries have numbers i and n - i: all
 /// keys have the same sum.
 fn one_slot(rng: &mut Rng) -> Vec<u8> {
@@ -154,6 +173,7 @@ fn cases() -> Vec<Case> {
         case("left list of 1,023, 900 atoms", list(rng, 900, true)),
         case("four atoms of 8,000 bytes, at 32 places", big_atoms(rng)),
         case("511 adds, each taken back", undo(rng)),
+        case("16 adds, 16 restores, 31 times", undo_in_a_row(rng)),
         case("keys with equal sums, 340 pairs", one_slot(rng)),
         case("an atom with 500 parents", parents(rng)),
         case("one search to the visit limit", visits(rng, 1)),
@@ -177,6 +197,50 @@ fn steps(s: &SessionFile, a: &Allocator) -> u64 {
     serializer.size()
 }
 
+/// The call and the Rust on a case: a line of the table.
+fn row(c: &Case, port: &mut dyn FnMut(&[u8]) -> SessionAnswer) -> String {
+    let expected = session::run(&c.file, MAX_OUTPUT, true);
+    let parsed = session::parse(&c.file).expect("a good file");
+    let now = port(&c.file);
+    assert_eq!(
+        (now.number, now.steps as usize, now.size as usize),
+        (0, expected.words.len(), expected.output.len()),
+        "{}",
+        c.name
+    );
+    assert_eq!((expected.number, port(EMPTY).number), (0, 0), "{}", c.name);
+    let store = parsed.allocator();
+    let mut once = |file: &[u8]| {
+        port(file);
+    };
+    let mut alone = || {
+        black_box(steps(black_box(&parsed), &store));
+    };
+    let mut whole = || {
+        let s = session::parse(black_box(&c.file)).expect("a good file");
+        black_box(steps(&s, &s.allocator()));
+    };
+    let r = measure(&mut once, &c.file, EMPTY, &mut [&mut alone, &mut whole]);
+    let counts = format!(
+        "{} | {} | {} | {}",
+        c.file.len(),
+        parsed.pairs.len(),
+        parsed.steps.len(),
+        now.size
+    );
+    let [alone, whole] = r.rust[..] else {
+        unreachable!()
+    };
+    format!(
+        "| {} | {counts} | {:.1} | {:.1} | {:.1} | {alone:.1} | {whole:.1} | {:.2} |",
+        c.name,
+        r.whole,
+        r.zeroing,
+        r.difference,
+        r.difference / alone
+    )
+}
+
 pub fn run(call: NikvoldraSession) {
     let (mut work, mut words) = (vec![0; WORK], vec![0; WORDS]);
     let (mut checkpoints, mut output) = (vec![[0; 4]; CHECKPOINTS], vec![0; MAX_OUTPUT]);
@@ -192,43 +256,7 @@ pub fn run(call: NikvoldraSession) {
     };
     heading();
     for c in cases() {
-        let expected = session::run(&c.file, MAX_OUTPUT, true);
-        let now = port(&c.file);
-        let parsed = session::parse(&c.file).expect("a good file");
-        assert_eq!(
-            (now.number, now.steps as usize, now.size as usize),
-            (0, expected.words.len(), expected.output.len()),
-            "{}",
-            c.name
-        );
-        assert_eq!((expected.number, port(EMPTY).number), (0, 0), "{}", c.name);
-        let store = parsed.allocator();
-        let mut once = |file: &[u8]| {
-            port(file);
-        };
-        let mut alone = || {
-            black_box(steps(black_box(&parsed), &store));
-        };
-        let mut whole = || {
-            let s = session::parse(black_box(&c.file)).expect("a good file");
-            black_box(steps(&s, &s.allocator()));
-        };
-        let r = measure(&mut once, &c.file, EMPTY, &mut [&mut alone, &mut whole]);
-        let [alone, whole] = r.rust[..] else {
-            unreachable!()
-        };
-        println!(
-            "| {} | {} | {} | {} | {} | {:.1} | {:.1} | {:.1} | {alone:.1} | {whole:.1} | {:.2} |",
-            c.name,
-            c.file.len(),
-            parsed.pairs.len(),
-            parsed.steps.len(),
-            now.size,
-            r.whole,
-            r.zeroing,
-            r.difference,
-            r.difference / alone
-        );
+        println!("{}", row(&c, &mut port));
     }
 }
 

@@ -179,32 +179,33 @@ impl Comparison {
         self.tally.kinds.entry(kind).or_default()[number as usize] += 1;
     }
 
-    /// A call with room for the output, one with too little, and at times one with
-    /// more than may be used and one with slices that are too short.
+    /// Lengths of the output: enough, at times more than may be used, and too few.
+    fn outputs(&mut self, full: &SessionAnswer, turn: usize) -> Vec<usize> {
+        let size = needed(full);
+        let mut outputs = vec![*self.rng.pick(&[size, size, size + 1, MAX_OUTPUT])];
+        if full.number == 13 || self.rng.percent(10) {
+            outputs.push(MAX_OUTPUT + self.rng.range(1, ABOVE));
+        }
+        if size > 0 {
+            outputs.push(match turn % 2 {
+                0 => size - 1,
+                _ => self.rng.below(size),
+            });
+        }
+        outputs
+    }
+
+    /// A call for each of `outputs`, and at times one with slices that are too short.
     pub fn compare(&mut self, kind: &'static str, file: &[u8], turn: usize) -> Result<(), String> {
         // panics where the rig's driver and Serializer differ
         let full = session::run(file, MAX_OUTPUT, true);
-        let size = needed(&full);
-        let enough = *self.rng.pick(&[size, size, size + 1, MAX_OUTPUT]);
-        let beyond = MAX_OUTPUT + self.rng.range(1, ABOVE);
-        let less = match turn % 2 {
-            0 => size.saturating_sub(1),
-            _ => self.rng.below(size.max(1)),
-        };
-        let more = full.number == 13 || self.rng.percent(10);
-        let outputs = [
-            Some(enough),
-            more.then_some(beyond),
-            (size > 0).then_some(less),
-        ];
-        for output in outputs.into_iter().flatten() {
-            let expected = Self::expected(file, &full, output);
+        let outputs = self.outputs(&full, turn);
+        for output in &outputs {
+            let expected = Self::expected(file, &full, *output);
             let lengths = self.lengths();
-            self.once(file, lengths, output, &expected)?;
+            self.once(file, lengths, *output, &expected)?;
             self.count(kind, expected.number);
-            if output == enough {
-                self.read_back(file, &expected)?;
-            }
+            self.read_back(file, &expected)?;
         }
         self.tally.files += 1;
         if turn % SHORT_EACH == 1 {
@@ -213,7 +214,7 @@ impl Comparison {
                 number: 1,
                 ..SessionAnswer::default()
             };
-            self.once(file, lengths, enough, &refused)?;
+            self.once(file, lengths, outputs[0], &refused)?;
             self.count(kind, 1);
         }
         Ok(())
@@ -261,7 +262,7 @@ fn run_one(c: &mut Comparison, set: &Set, turn: usize, i: usize) -> Result<(), S
 
 fn summary(t: &Tally) -> String {
     format!(
-        "{} calls, by number {}; {} finished, {} of them read back",
+        "{} calls, by number {}; {} calls finished, {} of them read back",
         t.calls,
         t.numbers(),
         t.finished,
