@@ -133,14 +133,7 @@ pub fn run(call: NikvoldraRead) {
             call, input, &mut work, &mut pairs, &mut atoms, &mut bytes,
         ))
     };
-    println!(
-        "Medians in microseconds. *Zeroing* is a call on the one byte `80`; *reading* is a call less the zeroing right after it."
-    );
-    println!("The Rust makes and drops an `Allocator` each time.\n");
-    println!(
-        "| input | bytes | pairs | the call | zeroing | reading | the Rust | reading : Rust |"
-    );
-    println!("|---|--:|--:|--:|--:|--:|--:|--:|");
+    heading();
     for c in cases() {
         let expected = reading::read(&c.input);
         let now = port(&c.input);
@@ -166,6 +159,17 @@ pub fn run(call: NikvoldraRead) {
             r.difference / theirs
         );
     }
+}
+
+fn heading() {
+    println!(
+        "Medians in microseconds. *Zeroing* is a call on the one byte `80`; *reading* is a call less the zeroing right after it."
+    );
+    println!("The Rust makes and drops an `Allocator` each time.\n");
+    println!(
+        "| input | bytes | pairs | the call | zeroing | reading | the Rust | reading : Rust |"
+    );
+    println!("|---|--:|--:|--:|--:|--:|--:|--:|");
 }
 
 /// The Rust's reader with a fresh store.

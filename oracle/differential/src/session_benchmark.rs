@@ -197,10 +197,9 @@ fn steps(s: &SessionFile, a: &Allocator) -> u64 {
     serializer.size()
 }
 
-/// The call and the Rust on a case: a line of the table.
-fn row(c: &Case, port: &mut dyn FnMut(&[u8]) -> SessionAnswer) -> String {
+/// The call's answer, which is the Rust's.
+fn checked(c: &Case, port: &mut dyn FnMut(&[u8]) -> SessionAnswer) -> SessionAnswer {
     let expected = session::run(&c.file, MAX_OUTPUT, true);
-    let parsed = session::parse(&c.file).expect("a good file");
     let now = port(&c.file);
     assert_eq!(
         (now.number, now.steps as usize, now.size as usize),
@@ -209,6 +208,13 @@ fn row(c: &Case, port: &mut dyn FnMut(&[u8]) -> SessionAnswer) -> String {
         c.name
     );
     assert_eq!((expected.number, port(EMPTY).number), (0, 0), "{}", c.name);
+    now
+}
+
+/// The call and the Rust on a case: a line of the table.
+fn row(c: &Case, port: &mut dyn FnMut(&[u8]) -> SessionAnswer) -> String {
+    let now = checked(c, port);
+    let parsed = session::parse(&c.file).expect("a good file");
     let store = parsed.allocator();
     let mut once = |file: &[u8]| {
         port(file);
