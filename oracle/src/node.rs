@@ -11,7 +11,7 @@ pub const SMALL: u32 = 2;
 pub const NONE: u32 = 0xffff_ffff;
 pub const NIL: u32 = SMALL << INDEX_BITS;
 
-pub fn handle(kind: u32, index: u32) -> u32 {
+pub const fn handle(kind: u32, index: u32) -> u32 {
     kind << INDEX_BITS | index
 }
 

@@ -404,8 +404,8 @@ impl Interner {
             number.push(match n {
                 Node::Atom(bytes) => self.atom(bytes),
                 Node::Pair(l, r) => self.pair(number[*l], number[*r]),
-                // no atom has these bytes: it is longer than any
-                Node::Open => self.atom(&[0; 70_000]),
+                // no other tree has this number
+                Node::Open => usize::MAX,
             });
         }
         number[root]

@@ -1,18 +1,13 @@
 //! How long the port's reading call takes, and the Rust's, on the same bytes.
 
 use crate::call::{self, ATOMS, BYTES, NikvoldraRead, PAIRS, WORK};
+use crate::times::measure;
 use clvm_rs::Allocator;
 use clvm_rs::serde::node_from_bytes_backrefs;
 use oracle::generate::trees::{encode_atom, path_bytes};
 use oracle::reading::{self, MAX_INPUT};
 use oracle::rng::Rng;
 use std::hint::black_box;
-use std::time::{Duration, Instant};
-
-/// Rounds of measured blocks, calls in a block, and how long an input may take.
-const ROUNDS: usize = 25;
-const CALLS: usize = 16;
-const AT_MOST: Duration = Duration::from_secs(5);
 
 struct Case {
     name: &'static str,
@@ -34,7 +29,7 @@ fn list(length: usize, mut item: impl FnMut(usize) -> Vec<u8>) -> Vec<u8> {
     out
 }
 
-fn atom(bytes: &[u8]) -> Vec<u8> {
+pub(crate) fn atom(bytes: &[u8]) -> Vec<u8> {
     let mut out = vec![];
     encode_atom(&mut out, bytes);
     out
@@ -127,31 +122,6 @@ fn cases() -> Vec<Case> {
     ]
 }
 
-/// Times of the calls of one kind.
-#[derive(Default)]
-struct Times(Vec<Duration>);
-
-impl Times {
-    /// A block of calls, of which the first only warms up.
-    fn block(&mut self, calls: usize, mut call: impl FnMut()) {
-        call();
-        for _ in 0..calls {
-            let start = Instant::now();
-            call();
-            self.0.push(start.elapsed());
-        }
-    }
-
-    fn median(&mut self) -> Duration {
-        self.0.sort();
-        self.0[self.0.len() / 2]
-    }
-}
-
-fn micros(d: Duration) -> f64 {
-    d.as_secs_f64() * 1e6
-}
-
 pub fn run(call: NikvoldraRead) {
     let mut work = vec![0; WORK];
     let mut pairs = vec![0; PAIRS];
@@ -163,19 +133,7 @@ pub fn run(call: NikvoldraRead) {
             call, input, &mut work, &mut pairs, &mut atoms, &mut bytes,
         ))
     };
-    let rust = |input: &[u8]| {
-        let mut a = Allocator::new();
-        let root = node_from_bytes_backrefs(&mut a, black_box(input));
-        black_box((root.is_ok(), a));
-    };
-    println!("Medians in microseconds, measured in turns. *Zeroing* is a call on the one byte");
-    println!(
-        "`80`; *reading* is the call less that. The Rust makes and drops an `Allocator` each time.\n"
-    );
-    println!(
-        "| input | bytes | pairs | the call | zeroing | reading | the Rust | reading : Rust |"
-    );
-    println!("|---|--:|--:|--:|--:|--:|--:|--:|");
+    heading();
     for c in cases() {
         let expected = reading::read(&c.input);
         let now = port(&c.input);
@@ -185,36 +143,38 @@ pub fn run(call: NikvoldraRead) {
             "{}",
             c.name
         );
-        let [mut whole, mut zeroing, mut theirs] = <[Times; 3]>::default();
-        let began = Instant::now();
-        rust(&c.input);
-        let calls = if began.elapsed().as_millis() > 50 {
-            1
-        } else {
-            CALLS
+        let mut once = |input: &[u8]| {
+            port(input);
         };
-        for round in 0..ROUNDS {
-            if round >= 3 && began.elapsed() > AT_MOST {
-                break;
-            }
-            whole.block(calls, || {
-                port(&c.input);
-            });
-            zeroing.block(calls, || {
-                port(&[0x80]);
-            });
-            theirs.block(calls, || rust(&c.input));
-        }
-        let whole = micros(whole.median());
-        let zeroing = micros(zeroing.median());
-        let theirs = micros(theirs.median());
-        let reading = whole - zeroing;
+        let r = measure(&mut once, &c.input, &[0x80], &mut [&mut || rust(&c.input)]);
+        let [theirs] = r.rust[..] else { unreachable!() };
         println!(
-            "| {} | {} | {} | {whole:.1} | {zeroing:.1} | {reading:.1} | {theirs:.1} | {:.2} |",
+            "| {} | {} | {} | {:.1} | {:.1} | {:.1} | {theirs:.1} | {:.2} |",
             c.name,
             c.input.len(),
             now.pairs,
-            reading / theirs
+            r.whole,
+            r.zeroing,
+            r.difference,
+            r.difference / theirs
         );
     }
+}
+
+fn heading() {
+    println!(
+        "Medians in microseconds. *Zeroing* is a call on the one byte `80`; *reading* is a call less the zeroing right after it."
+    );
+    println!("The Rust makes and drops an `Allocator` each time.\n");
+    println!(
+        "| input | bytes | pairs | the call | zeroing | reading | the Rust | reading : Rust |"
+    );
+    println!("|---|--:|--:|--:|--:|--:|--:|--:|");
+}
+
+/// The Rust's reader with a fresh store.
+pub(crate) fn rust(input: &[u8]) {
+    let mut a = Allocator::new();
+    let root = node_from_bytes_backrefs(&mut a, black_box(input));
+    black_box((root.is_ok(), a));
 }

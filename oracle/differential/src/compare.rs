@@ -2,10 +2,10 @@
 
 use crate::call::{self, NikvoldraRead, ReadAnswer};
 use crate::inputs::{Set, sets};
-use crate::lent::{ABOVE, Lent};
+use crate::lent::{Lent, long, short};
+use crate::share::{self, Part};
 use oracle::rng::Rng;
 use oracle::{hex, reading};
-use std::sync::atomic::{AtomicBool, Ordering::Relaxed};
 use std::time::Instant;
 
 /// Bytes of rubbish after the input.
@@ -96,12 +96,7 @@ impl Comparison {
         if self.rng.percent(50) {
             return least;
         }
-        least.map(|n| match self.rng.below(4) {
-            0 => n,
-            1 => n + 1,
-            2 => n + self.rng.range(2, 64),
-            _ => n + self.rng.range(1, ABOVE),
-        })
+        least.map(|n| long(&mut self.rng, n))
     }
 
     /// One slice, or each with some chance, one below its minimum or far below.
@@ -112,11 +107,7 @@ impl Comparison {
         let more = self.rng.percent(30);
         for i in 0..4 {
             if i == one || more && self.rng.percent(50) {
-                lengths[i] = if self.rng.percent(70) {
-                    least[i] - 1
-                } else {
-                    self.rng.below(least[i])
-                };
+                lengths[i] = short(&mut self.rng, least[i]);
             }
         }
         lengths
@@ -202,76 +193,20 @@ impl Comparison {
     }
 }
 
-/// The numbers of the inputs to take of a set, at most `most`.
-struct Part {
-    from: usize,
-    step: usize,
-}
-
-impl Part {
-    fn of(set: &Set, most: usize, seed: u64) -> Self {
-        let mut step = set.size.div_ceil(most.max(1)).max(1);
-        // no common factor with 12 or 256: each letter and byte comes at each place
-        while step > 1 && (step.is_multiple_of(2) || step.is_multiple_of(3)) {
-            step += 1;
-        }
-        Self {
-            from: (seed % step as u64) as usize,
-            step,
-        }
+/// One input of a set.
+fn run_one(c: &mut Comparison, set: &Set, turn: usize, i: usize) -> Result<(), String> {
+    let input = (set.get)(i);
+    let mut result = c.compare(&input, turn.is_multiple_of(set.whole_each));
+    if result.is_ok() && turn % SHORT_EACH == 1 && set.whole_each == 1 {
+        result = c.compare_short(&input);
     }
-}
-
-fn run_share(
-    c: &mut Comparison,
-    set: &Set,
-    numbers: impl Iterator<Item = usize>,
-    stop: &AtomicBool,
-) -> Result<(), String> {
-    for (turn, i) in numbers.enumerate() {
-        if stop.load(Relaxed) {
-            break;
-        }
-        let input = (set.get)(i);
-        let mut result = c.compare(&input, turn % set.whole_each == 0);
-        if result.is_ok() && turn % SHORT_EACH == 1 && set.whole_each == 1 {
-            result = c.compare_short(&input);
-        }
-        if let Err(text) = result {
-            stop.store(true, Relaxed);
-            return Err(format!(
-                "{}, input {i}: the port and the Rust differ\n{text}\ninput: {}",
-                set.name,
-                hex::encode(&input)
-            ));
-        }
-    }
-    Ok(())
-}
-
-/// The set's inputs, shared by the threads.
-fn run_set(cs: &mut [Comparison], set: &Set, part: &Part) -> Result<(), String> {
-    let threads = cs.len();
-    let stop = AtomicBool::new(false);
-    let results: Vec<Result<(), String>> = std::thread::scope(|s| {
-        let running: Vec<_> = cs
-            .iter_mut()
-            .enumerate()
-            .map(|(t, c)| {
-                let numbers = (part.from..set.size)
-                    .step_by(part.step)
-                    .skip(t)
-                    .step_by(threads);
-                let stop = &stop;
-                s.spawn(move || run_share(c, set, numbers, stop))
-            })
-            .collect();
-        running
-            .into_iter()
-            .map(|r| r.join().expect("a thread"))
-            .collect()
-    });
-    results.into_iter().collect()
+    result.map_err(|text| {
+        format!(
+            "{}, input {i}: the port and the Rust differ\n{text}\ninput: {}",
+            set.name,
+            hex::encode(&input)
+        )
+    })
 }
 
 /// All sets, at most `most` inputs of each but the generated ones; `say` gets a
@@ -296,7 +231,9 @@ pub fn run(
         } else {
             most
         };
-        run_set(&mut cs, &set, &Part::of(&set, most, seed))?;
+        share::run(&mut cs, &Part::of(set.size, most, seed), |c, turn, i| {
+            run_one(c, &set, turn, i)
+        })?;
         let mut tally = Tally::default();
         for c in &mut cs {
             tally.add(&c.tally);

@@ -40,6 +40,35 @@ macro_rules! word {
 word!(u8);
 word!(u32);
 
+impl Word for [u32; 4] {
+    fn rubbish(rng: &mut Rng) -> Self {
+        [(); 4].map(|()| u32::rubbish(rng))
+    }
+
+    fn all_zero(words: &[Self]) -> bool {
+        words.iter().all(|w| *w == [0; 4])
+    }
+}
+
+/// A length at or above the minimum.
+pub fn long(rng: &mut Rng, minimum: usize) -> usize {
+    match rng.below(4) {
+        0 => minimum,
+        1 => minimum + 1,
+        2 => minimum + rng.range(2, 64),
+        _ => minimum + rng.range(1, ABOVE),
+    }
+}
+
+/// A length one below the minimum or far below.
+pub fn short(rng: &mut Rng, minimum: usize) -> usize {
+    if rng.percent(70) {
+        minimum - 1
+    } else {
+        rng.below(minimum)
+    }
+}
+
 pub struct Lent<T> {
     name: &'static str,
     minimum: usize,

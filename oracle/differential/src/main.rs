@@ -1,6 +1,7 @@
-//! `read COUNT SEED [MOST]` compares, `benchmark` measures.
+//! `read` and `session` compare, `benchmark` and `session-benchmark` measure.
 
-use differential::{benchmark, compare};
+use differential::session_call::NikvoldraSession;
+use differential::{benchmark, compare, one_atom, session_benchmark, session_compare};
 
 #[cfg(not(feature = "stand-in"))]
 unsafe extern "C" {
@@ -20,12 +21,48 @@ unsafe extern "C" {
 #[cfg(feature = "stand-in")]
 use differential::stand_in::with_fault as nikvoldra_read;
 
+#[cfg(session_call)]
+unsafe extern "C" {
+    fn nikvoldra_session(
+        file: *const u8,
+        file_length: usize,
+        work: *mut u32,
+        work_length: usize,
+        words: *mut u32,
+        words_length: usize,
+        checkpoints: *mut differential::session_call::Record,
+        checkpoints_length: usize,
+        output: *mut u8,
+        output_length: usize,
+    ) -> differential::session_call::SessionAnswer;
+}
+
 const USAGE: &str = "\
-usage: differential read COUNT SEED [MOST]   COUNT generated inputs, and at most MOST of each other set
-       differential benchmark                a table in Markdown";
+usage: differential read COUNT SEED [MOST]     COUNT generated inputs, and at most MOST of each other set
+       differential session COUNT SEED [MOST]  COUNT generated session files, and at most MOST of each other set
+       differential benchmark                  the reading call, a table in Markdown
+       differential session-benchmark          the session call, a table in Markdown";
+
+/// The session call, where there is one.
+fn session_call() -> Result<NikvoldraSession, String> {
+    #[cfg(session_call)]
+    return Ok(nikvoldra_session);
+    #[cfg(feature = "stand-in")]
+    return Ok(differential::session_stand_in::with_fault::<0>);
+    #[cfg(not(any(session_call, feature = "stand-in")))]
+    return Err("this program was built without the session call's library".to_string());
+}
 
 fn number(text: &str) -> Result<u64, String> {
     text.parse().map_err(|_| format!("not a number: {text}"))
+}
+
+fn most(rest: &[&str]) -> Result<usize, String> {
+    match rest {
+        [] => Ok(usize::MAX),
+        [most] => Ok(number(most)? as usize),
+        _ => Err(USAGE.to_string()),
+    }
 }
 
 fn run(args: &[&str]) -> Result<(), String> {
@@ -34,22 +71,23 @@ fn run(args: &[&str]) -> Result<(), String> {
     #[cfg(not(feature = "stand-in"))]
     let call = nikvoldra_read;
     match args {
-        ["read", count, seed, rest @ ..] if rest.len() <= 1 => {
-            let most = match rest {
-                [most] => number(most)? as usize,
-                _ => usize::MAX,
-            };
-            compare::run(call, number(count)? as usize, number(seed)?, most, |line| {
-                println!("read: {line}")
-            })?;
-            Ok(())
+        ["read", count, seed, rest @ ..] => {
+            let (count, seed, most) = (number(count)? as usize, number(seed)?, most(rest)?);
+            compare::run(call, count, seed, most, |line| println!("read: {line}"))?;
+        }
+        ["session", count, seed, rest @ ..] => {
+            let (count, seed, most) = (number(count)? as usize, number(seed)?, most(rest)?);
+            let call = session_call()?;
+            session_compare::run(call, count, seed, most, |line| println!("session: {line}"))?;
         }
         ["benchmark"] => {
             benchmark::run(call);
-            Ok(())
+            one_atom::run(call);
         }
-        _ => Err(USAGE.to_string()),
+        ["session-benchmark"] => session_benchmark::run(session_call()?),
+        _ => return Err(USAGE.to_string()),
     }
+    Ok(())
 }
 
 fn main() {

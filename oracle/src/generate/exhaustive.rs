@@ -3,38 +3,85 @@
 use crate::node::{ATOM, NIL, PAIR, SMALL, handle};
 use crate::session::{SessionFile, Step};
 
-/// Every file of three pairs over nil, foobar and the sentinel (small atom 7)
-/// with one to three adds: 928,800 files.
-pub fn sessions(mut each: impl FnMut(&[u8])) {
-    let sentinel = handle(SMALL, 7);
-    let leaves = [NIL, handle(ATOM, 0), sentinel];
-    let choice = |i: usize| {
-        if i < 3 {
-            leaves[i]
-        } else {
-            handle(PAIR, i as u32 - 3)
-        }
-    };
-    let mut s = SessionFile {
-        atoms: vec![b"foobar".to_vec()],
-        pairs: vec![(0, 0); 3],
-        sentinel: Some(sentinel),
-        steps: vec![],
-    };
-    for code in 0..9 * 16 * 25 {
-        let (p, q, r) = (code % 9, code / 9 % 16, code / 144);
-        s.pairs[0] = (choice(p % 3), choice(p / 3));
-        s.pairs[1] = (choice(q % 4), choice(q / 4));
-        s.pairs[2] = (choice(r % 5), choice(r / 5));
-        for adds in 1..=3_u32 {
-            for code in 0..6_usize.pow(adds) {
-                s.steps = (0..adds)
-                    .map(|i| Step::Add(choice(code / 6_usize.pow(i) % 6)))
-                    .collect();
-                each(&s.to_bytes());
-            }
-        }
+/// The sentinel of these files.
+const SENTINEL: u32 = handle(SMALL, 7);
+
+/// nil, foobar, the sentinel, then the pairs.
+fn choice(i: usize) -> u32 {
+    match i {
+        0 => NIL,
+        1 => handle(ATOM, 0),
+        2 => SENTINEL,
+        _ => handle(PAIR, i as u32 - 3),
     }
+}
+
+/// `n` pairs by number: each side is one of `choice`, of the pairs an earlier one.
+/// What is left of the number.
+fn pairs(s: &mut SessionFile, n: usize, mut code: usize) -> usize {
+    for i in 0..n {
+        let sides = i + 3;
+        s.pairs
+            .push((choice(code % sides), choice(code / sides % sides)));
+        code /= sides * sides;
+    }
+    code
+}
+
+/// Up to `most` of `choices` by number, the fewest first.
+fn up_to(most: u32, choices: usize, mut code: usize) -> Vec<usize> {
+    for n in 0..=most {
+        let all = choices.pow(n);
+        if code < all {
+            return (0..n).map(|i| code / choices.pow(i) % choices).collect();
+        }
+        code -= all;
+    }
+    unreachable!()
+}
+
+fn file() -> SessionFile {
+    SessionFile {
+        atoms: vec![b"foobar".to_vec()],
+        sentinel: Some(SENTINEL),
+        ..SessionFile::default()
+    }
+}
+
+/// Every file of three pairs over nil, foobar and the sentinel (small atom 7)
+/// with up to three adds, by number.
+pub const SESSIONS: usize = 9 * 16 * 25 * (1 + 6 + 36 + 216);
+
+pub fn session(i: usize) -> Vec<u8> {
+    let mut s = file();
+    let steps = pairs(&mut s, 3, i);
+    s.steps = up_to(3, 6, steps)
+        .into_iter()
+        .map(|c| Step::Add(choice(c)))
+        .collect();
+    s.to_bytes()
+}
+
+/// Every file of two such pairs with up to four steps, adds or restores 0 to 2,
+/// by number.
+pub const UNDO_SESSIONS: usize = 9 * 16 * (1 + 8 + 64 + 512 + 4096);
+
+pub fn undo_session(i: usize) -> Vec<u8> {
+    let mut s = file();
+    let steps = pairs(&mut s, 2, i);
+    s.steps = up_to(4, 8, steps)
+        .into_iter()
+        .map(|c| match c {
+            0..5 => Step::Add(choice(c)),
+            _ => Step::Restore(c as u16 - 5),
+        })
+        .collect();
+    s.to_bytes()
+}
+
+/// Every file of `session` that has an add: 928,800 files.
+pub fn sessions(mut each: impl FnMut(&[u8])) {
+    (9 * 16 * 25..SESSIONS).for_each(|i| each(&session(i)));
 }
 
 pub const LETTERS: [u8; 12] = [

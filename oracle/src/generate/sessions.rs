@@ -60,19 +60,21 @@ pub const KINDS: &[Kind] = &[
     ("refused-11", 20, refused_11),
     ("refused-12", 1, refused_12),
     ("refused-13", 1, refused_13),
+    ("short-10", 10, short_10),
+    ("short-12", 4, short_12),
 ];
 
 /// A session file under construction.
 #[derive(Default, Clone)]
-struct Builder(SessionFile);
+pub struct Builder(SessionFile);
 
 impl Builder {
-    fn small(&self, v: u32) -> u32 {
+    pub fn small(&self, v: u32) -> u32 {
         handle(SMALL, v)
     }
 
     /// A new listed atom. The bytes must not fit a small one.
-    fn list_atom(&mut self, bytes: &[u8]) -> u32 {
+    pub fn list_atom(&mut self, bytes: &[u8]) -> u32 {
         assert!(fits_in_small_atom(bytes).is_none());
         self.0.atoms.push(bytes.to_vec());
         handle(ATOM, self.0.atoms.len() as u32 - 1)
@@ -93,34 +95,34 @@ impl Builder {
         MAX_PAIRS - self.0.pairs.len()
     }
 
-    fn pair(&mut self, left: u32, right: u32) -> u32 {
+    pub fn pair(&mut self, left: u32, right: u32) -> u32 {
         self.0.pairs.push((left, right));
         handle(PAIR, self.0.pairs.len() as u32 - 1)
     }
 
     /// (i0 . (i1 . .. (in . end)))
-    fn right(&mut self, items: &[u32], end: u32) -> u32 {
+    pub fn right(&mut self, items: &[u32], end: u32) -> u32 {
         items.iter().rev().fold(end, |t, i| self.pair(*i, t))
     }
 
     /// (((end . in) .. ) . i0)
-    fn left(&mut self, items: &[u32], end: u32) -> u32 {
+    pub fn left(&mut self, items: &[u32], end: u32) -> u32 {
         items.iter().rev().fold(end, |t, i| self.pair(t, *i))
     }
 
-    fn sentinel(&mut self, h: u32) {
+    pub fn sentinel(&mut self, h: u32) {
         self.0.sentinel = Some(h);
     }
 
-    fn add(&mut self, h: u32) {
+    pub fn add(&mut self, h: u32) {
         self.0.steps.push(Step::Add(h));
     }
 
-    fn restore(&mut self, k: usize) {
+    pub fn restore(&mut self, k: usize) {
         self.0.steps.push(Step::Restore(k as u16));
     }
 
-    fn done(self) -> Vec<u8> {
+    pub fn done(self) -> Vec<u8> {
         self.0.to_bytes()
     }
 
@@ -144,7 +146,7 @@ impl Builder {
 
     /// A pool of handles without the sentinel: atoms, and `n` pairs over
     /// them that share subtrees.
-    fn pool(&mut self, rng: &mut Rng, atoms: usize, n: usize) -> Vec<u32> {
+    pub fn pool(&mut self, rng: &mut Rng, atoms: usize, n: usize) -> Vec<u32> {
         let mut pool = self.atoms(rng, atoms);
         for _ in 0..n.min(self.room()) {
             let left = recent(rng, &pool);
@@ -1366,5 +1368,46 @@ fn refused_13(rng: &mut Rng) -> Vec<u8> {
         b.add(b.small(1));
     }
     b.add(big);
+    b.done()
+}
+
+/// More than 16 adds in a file of few pairs, some taken back on the way.
+fn short_10(rng: &mut Rng) -> Vec<u8> {
+    let mut b = Builder::default();
+    let s = *rng.pick(&[b.small(7), NIL]);
+    b.sentinel(s);
+    let foobar = b.list_atom(b"foobar");
+    let p = b.pair(foobar, s);
+    let q = b.pair(s, foobar);
+    let mut adds = 0;
+    while adds <= 16 {
+        if adds > 0 && rng.percent(5) {
+            adds -= 1;
+            b.restore(adds);
+        } else {
+            b.add(*rng.pick(&[s, p, q]));
+            adds += 1;
+        }
+    }
+    b.done()
+}
+
+/// A chain of few pairs that ends in the sentinel, added 16 times: pair 4,097 is
+/// to be opened in one of the last adds, or 4,096 are open.
+fn short_12(rng: &mut Rng) -> Vec<u8> {
+    let mut b = Builder::default();
+    let s = b.small(7);
+    b.sentinel(s);
+    let other = *rng.pick(&[b.small(1), NIL, s]);
+    let n = *rng.pick(&[255, 256, 257, 273, 274, 300]);
+    let left = rng.percent(50);
+    let chain = (0..n).fold(s, |t, _| {
+        if left || other == s {
+            b.pair(t, other)
+        } else {
+            b.pair(other, t)
+        }
+    });
+    (0..16).for_each(|_| b.add(chain));
     b.done()
 }

@@ -1,0 +1,281 @@
+//! How long the port's session call takes, and the unchanged `Serializer`, on the
+//! same sessions.
+
+use crate::session_call::{self, CHECKPOINTS, NikvoldraSession, SessionAnswer, WORDS, WORK};
+use crate::times::measure;
+use clvm_rs::Allocator;
+use clvm_rs::serde::{Serializer, UndoState};
+use oracle::generate::sessions::Builder;
+use oracle::node::{NIL, from_word};
+use oracle::rng::Rng;
+use oracle::session::{self, MAX_OUTPUT, SessionFile, Step};
+use std::hint::black_box;
+
+struct Case {
+    name: &'static str,
+    file: Vec<u8>,
+}
+
+/// A file that only has the slices zeroed: no atoms, pairs, sentinel and steps.
+const EMPTY: &[u8] = b"BRS\x00\x01\x00\x00\x00\x00\xff\xff\xff\xff";
+
+/// A builder with a listed atom of its own as the sentinel.
+fn begin() -> (Builder, u32) {
+    let mut b = Builder::default();
+    let s = b.list_atom(b"\xff sentinel");
+    b.sentinel(s);
+    (b, s)
+}
+
+/// A listed atom of `n` bytes.
+fn atom(b: &mut Builder, rng: &mut Rng, n: usize) -> u32 {
+    b.list_atom(&[vec![0x81], rng.bytes(n - 1)].concat())
+}
+
+fn atoms(b: &mut Builder, rng: &mut Rng, count: usize, n: usize) -> Vec<u32> {
+    (0..count).map(|_| atom(b, rng, n)).collect()
+}
+
+/// Pairs that share subtrees, over `atoms` atoms of mixed sizes: a list of all of
+/// them in two adds.
+fn mixed(rng: &mut Rng, atoms: usize, pairs: usize) -> Vec<u8> {
+    let (mut b, s) = begin();
+    let pool = b.pool(rng, atoms, pairs / 2);
+    let items: Vec<u32> = (0..pairs - pairs / 2).map(|_| *rng.pick(&pool)).collect();
+    let (first, rest) = items.split_at(items.len() / 2);
+    let t = b.right(first, s);
+    b.add(t);
+    let t = b.right(rest, NIL);
+    b.add(t);
+    b.done()
+}
+
+/// A list of 1,023 items, `kinds` of them different, right or left.
+fn list(rng: &mut Rng, kinds: usize, left: bool) -> Vec<u8> {
+    let (mut b, _) = begin();
+    let pool = atoms(&mut b, rng, kinds, 32);
+    let items: Vec<u32> = (0..1_023).map(|_| *rng.pick(&pool)).collect();
+    let t = if left {
+        b.left(&items, NIL)
+    } else {
+        b.right(&items, NIL)
+    };
+    b.add(t);
+    b.done()
+}
+
+/// Each pair twice the one before it, 1,000 of them.
+fn doubling(rng: &mut Rng) -> Vec<u8> {
+    let (mut b, _) = begin();
+    let first = atom(&mut b, rng, 32);
+    let top = (0..1_000).fold(first, |t, _| b.pair(t, t));
+    b.add(top);
+    b.done()
+}
+
+/// Four atoms of 8,000 bytes, each listed once and at eight places.
+fn big_atoms(rng: &mut Rng) -> Vec<u8> {
+    let (mut b, s) = begin();
+    let big = atoms(&mut b, rng, 4, 8_000);
+    let items: Vec<u32> = (0..32).map(|i| big[i % 4]).collect();
+    let t = b.right(&items[..16], s);
+    b.add(t);
+    let t = b.right(&items[16..], NIL);
+    b.add(t);
+    b.done()
+}
+
+/// 512 times an add that is taken back right after it.
+fn undo(rng: &mut Rng) -> Vec<u8> {
+    let (mut b, s) = begin();
+    let pool = b.pool(rng, 8, 40);
+    let items: Vec<u32> = (0..100).map(|_| *rng.pick(&pool)).collect();
+    let open = b.right(&items, s);
+    b.add(open);
+    let trees: Vec<u32> = (0..8)
+        .map(|i| b.right(&items[i * 10..i * 10 + 10], s))
+        .collect();
+    for i in 0..511 {
+        b.add(trees[i % 8]);
+        b.restore(1);
+    }
+    b.done()
+}
+
+/// 16 adds and 16 restores, the last add first, 31 times.
+fn undo_in_a_row(rng: &mut Rng) -> Vec<u8> {
+    let (mut b, s) = begin();
+    let pool = b.pool(rng, 8, 40);
+    let trees: Vec<u32> = (0..16)
+        .map(|_| {
+            let items: Vec<u32> = (0..20).map(|_| *rng.pick(&pool)).collect();
+            b.right(&items, s)
+        })
+        .collect();
+    for i in 0..31 * 32 {
+        match i % 32 {
+            k @ 0..16 => b.add(trees[k]),
+            k => b.restore(31 - k),
+        }
+    }
+    b.done()
+}
+
+/// Pairs of the atoms i and n - i, whose entries have numbers i and n - i: all
+/// keys have the same sum.
+fn one_slot(rng: &mut Rng) -> Vec<u8> {
+    let (mut b, s) = begin();
+    let all = atoms(&mut b, rng, 340, 8);
+    let t = b.right(&all, s);
+    b.add(t);
+    let pairs: Vec<u32> = (0..340).map(|i| b.pair(all[i], all[339 - i])).collect();
+    let t = b.right(&pairs, NIL);
+    b.add(t);
+    b.done()
+}
+
+/// An atom with 500 parents, which comes again between them.
+fn parents(rng: &mut Rng) -> Vec<u8> {
+    let (mut b, _) = begin();
+    let x = atom(&mut b, rng, 60);
+    let made: Vec<u32> = (0..500).map(|i| b.pair(b.small(i), x)).collect();
+    let t = b.right(&made, x);
+    b.add(t);
+    b.done()
+}
+
+/// A list of 1,024 pairs, of whose first atoms `again` come last again: so many
+/// searches make about 1,000 visits.
+fn visits(rng: &mut Rng, again: usize) -> Vec<u8> {
+    let (mut b, _) = begin();
+    let far = atoms(&mut b, rng, again, 140);
+    let between = (0..1_024 - 2 * again + 1).map(|i| b.small(i as u32 % 100));
+    let mut items = far.clone();
+    items.extend(between);
+    items.extend(&far[..again - 1]);
+    let t = b.right(&items, far[again - 1]);
+    b.add(t);
+    b.done()
+}
+
+fn cases() -> Vec<Case> {
+    let case = |name, file| Case { name, file };
+    let mut rng = Rng::new(1);
+    let rng = &mut rng;
+    vec![
+        case("10 pairs", mixed(rng, 4, 10)),
+        case("200 pairs", mixed(rng, 20, 200)),
+        case("1,024 pairs", mixed(rng, 60, 1_024)),
+        case("each pair twice the one before, 1,000 pairs", doubling(rng)),
+        case("right list of 1,023, 20 atoms", list(rng, 20, false)),
+        case("right list of 1,023, 900 atoms", list(rng, 900, false)),
+        case("left list of 1,023, 20 atoms", list(rng, 20, true)),
+        case("left list of 1,023, 900 atoms", list(rng, 900, true)),
+        case("four atoms of 8,000 bytes, at 32 places", big_atoms(rng)),
+        case("511 adds, each taken back", undo(rng)),
+        case("16 adds, 16 restores, 31 times", undo_in_a_row(rng)),
+        case("keys with equal sums, 340 pairs", one_slot(rng)),
+        case("an atom with 500 parents", parents(rng)),
+        case("one search to the visit limit", visits(rng, 1)),
+        case("40 searches of about 1,000 visits", visits(rng, 40)),
+    ]
+}
+
+/// The steps by the unchanged `Serializer`; the size at the end.
+fn steps(s: &SessionFile, a: &Allocator) -> u64 {
+    let mut serializer = Serializer::new(s.sentinel.map(from_word));
+    let mut undo: Vec<UndoState> = vec![];
+    for step in &s.steps {
+        match *step {
+            Step::Add(h) => undo.push(serializer.add(a, from_word(h)).expect("an add").1),
+            Step::Restore(k) => {
+                undo.truncate(usize::from(k) + 1);
+                serializer.restore(undo.pop().expect("a state"));
+            }
+        }
+    }
+    serializer.size()
+}
+
+/// The call's answer, which is the Rust's.
+fn checked(c: &Case, port: &mut dyn FnMut(&[u8]) -> SessionAnswer) -> SessionAnswer {
+    let expected = session::run(&c.file, MAX_OUTPUT, true);
+    let now = port(&c.file);
+    assert_eq!(
+        (now.number, now.steps as usize, now.size as usize),
+        (0, expected.words.len(), expected.output.len()),
+        "{}",
+        c.name
+    );
+    assert_eq!((expected.number, port(EMPTY).number), (0, 0), "{}", c.name);
+    now
+}
+
+/// The call and the Rust on a case: a line of the table.
+fn row(c: &Case, port: &mut dyn FnMut(&[u8]) -> SessionAnswer) -> String {
+    let now = checked(c, port);
+    let parsed = session::parse(&c.file).expect("a good file");
+    let store = parsed.allocator();
+    let mut once = |file: &[u8]| {
+        port(file);
+    };
+    let mut alone = || {
+        black_box(steps(black_box(&parsed), &store));
+    };
+    let mut whole = || {
+        let s = session::parse(black_box(&c.file)).expect("a good file");
+        black_box(steps(&s, &s.allocator()));
+    };
+    let r = measure(&mut once, &c.file, EMPTY, &mut [&mut alone, &mut whole]);
+    let counts = format!(
+        "{} | {} | {} | {}",
+        c.file.len(),
+        parsed.pairs.len(),
+        parsed.steps.len(),
+        now.size
+    );
+    let [alone, whole] = r.rust[..] else {
+        unreachable!()
+    };
+    format!(
+        "| {} | {counts} | {:.1} | {:.1} | {:.1} | {alone:.1} | {whole:.1} | {:.2} |",
+        c.name,
+        r.whole,
+        r.zeroing,
+        r.difference,
+        r.difference / alone
+    )
+}
+
+pub fn run(call: NikvoldraSession) {
+    let (mut work, mut words) = (vec![0; WORK], vec![0; WORDS]);
+    let (mut checkpoints, mut output) = (vec![[0; 4]; CHECKPOINTS], vec![0; MAX_OUTPUT]);
+    let mut port = |file: &[u8]| {
+        black_box(session_call::session(
+            call,
+            black_box(file),
+            &mut work,
+            &mut words,
+            &mut checkpoints,
+            &mut output,
+        ))
+    };
+    heading();
+    for c in cases() {
+        println!("{}", row(&c, &mut port));
+    }
+}
+
+fn heading() {
+    println!(
+        "Medians in microseconds. *Zeroing* is a call on a file without steps; *session* is a call less the zeroing right after it."
+    );
+    println!(
+        "*`Serializer`* is the Rust's steps on a store that is there; *with the file* has the file read into a fresh store too."
+    );
+    println!("Its SHA-1 and its arena are the rig's plain ones.\n");
+    println!(
+        "| session | bytes | pairs | steps | output | the call | zeroing | session | `Serializer` | with the file | session : `Serializer` |"
+    );
+    println!("|---|--:|--:|--:|--:|--:|--:|--:|--:|--:|--:|");
+}

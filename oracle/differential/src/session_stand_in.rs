@@ -1,0 +1,153 @@
+//! The session call made of `oracle::model` (01's text), right or with one
+//! fault, to try the comparison itself.
+
+use crate::session_call::{CHECKPOINTS, Record, SessionAnswer, WORDS, WORK};
+use oracle::model;
+use oracle::session::{self, MAX_OUTPUT};
+use std::slice::from_raw_parts_mut;
+
+#[derive(Clone, Copy, PartialEq)]
+#[repr(u8)]
+pub enum Fault {
+    None,
+    /// 12 for 13
+    Number,
+    /// a refused step is counted
+    Steps,
+    /// the size is that of the last finished step
+    Size,
+    /// the last finished word says unfinished
+    Finished,
+    /// a refused add keeps nothing
+    DropsItems,
+    /// a byte of the output differs
+    Byte,
+    /// the words past the steps keep what they held
+    WordsBeyond,
+    /// a byte past the size keeps what it held
+    OutputBeyond,
+    /// the last word of work keeps what it held
+    WorkEnd,
+    /// only the minimum of work is cleared
+    WorkBeyond,
+    /// a checkpoint record keeps a word
+    Checkpoint,
+    /// a word past the slice of words
+    Outside,
+    /// a refused file has its output cleared
+    TouchedBy8,
+    /// slices that are too short are cleared
+    TouchedBy1,
+    /// more than 65,535 bytes of the output are used
+    LongOutput,
+    /// bytes past the file's end are read
+    Overread,
+}
+
+struct Slices<'a> {
+    work: &'a mut [u32],
+    words: &'a mut [u32],
+    checkpoints: &'a mut [Record],
+    output: &'a mut [u8],
+}
+
+/// # Safety
+/// As the call's: each pointer is good for its length.
+#[allow(clippy::too_many_arguments)]
+pub unsafe extern "C" fn with_fault<const FAULT: u8>(
+    file: *const u8,
+    file_length: usize,
+    work: *mut u32,
+    work_length: usize,
+    words: *mut u32,
+    words_length: usize,
+    checkpoints: *mut Record,
+    checkpoints_length: usize,
+    output: *mut u8,
+    output_length: usize,
+) -> SessionAnswer {
+    let extra = usize::from(FAULT == Fault::Overread as u8 && file_length % 7 == 3);
+    let file = unsafe { std::slice::from_raw_parts(file, file_length + extra) };
+    let mut slices = unsafe {
+        Slices {
+            work: from_raw_parts_mut(work, work_length),
+            words: from_raw_parts_mut(words, words_length),
+            checkpoints: from_raw_parts_mut(checkpoints, checkpoints_length),
+            output: from_raw_parts_mut(output, output_length),
+        }
+    };
+    answer(FAULT, file, &mut slices)
+}
+
+fn answer(fault: u8, file: &[u8], s: &mut Slices) -> SessionAnswer {
+    let fault = |f: Fault| f as u8 == fault;
+    let refusal = |number| SessionAnswer {
+        number,
+        ..SessionAnswer::default()
+    };
+    if s.work.len() < WORK || s.words.len() < WORDS || s.checkpoints.len() < CHECKPOINTS {
+        if fault(Fault::TouchedBy1) {
+            s.output.fill(0);
+        }
+        return refusal(1);
+    }
+    if let Err(number) = session::parse(file) {
+        if fault(Fault::TouchedBy8) {
+            s.output.fill(0);
+        }
+        return refusal(number);
+    }
+    let (mut r, _) = model::run(file, s.output.len());
+    if fault(Fault::LongOutput) && r.number == 13 && s.output.len() > MAX_OUTPUT {
+        r.number = 0;
+    }
+    if fault(Fault::DropsItems) && matches!(r.number, 12 | 13) {
+        let size = r.words.last().map_or(0, |w| w / 2);
+        r.output.truncate(size as usize);
+    }
+    clear(&fault, s, r.words.len(), r.output.len());
+    s.words[..r.words.len()].copy_from_slice(&r.words);
+    s.output[..r.output.len()].copy_from_slice(&r.output);
+    if let (true, Some(w)) = (fault(Fault::Finished), r.words.last()) {
+        s.words[r.words.len() - 1] = w & !1;
+    }
+    if fault(Fault::Byte) && r.output.len() > 9 {
+        s.output[9] ^= 1;
+    }
+    SessionAnswer {
+        number: match r.number {
+            13 if fault(Fault::Number) => 12,
+            n => n,
+        },
+        steps: r.words.len() as u32 + u32::from(fault(Fault::Steps) && r.number != 0),
+        size: match r.words.last() {
+            Some(w) if fault(Fault::Size) => w / 2,
+            _ => r.output.len() as u32,
+        },
+    }
+}
+
+/// What a session leaves in the slices besides `words` words and `size` bytes.
+fn clear(fault: &impl Fn(Fault) -> bool, s: &mut Slices, words: usize, size: usize) {
+    let cleared = match s.work.len() {
+        n if fault(Fault::WorkEnd) => n - 1,
+        _ if fault(Fault::WorkBeyond) => WORK,
+        n => n,
+    };
+    s.work[..cleared].fill(0);
+    s.checkpoints.fill([0; 4]);
+    if fault(Fault::Checkpoint) {
+        s.checkpoints[15][3] = 1;
+    }
+    let from = words + usize::from(fault(Fault::WordsBeyond));
+    if from < s.words.len() {
+        s.words[from..].fill(0);
+    }
+    let from = size + usize::from(fault(Fault::OutputBeyond));
+    if from < s.output.len() {
+        s.output[from..].fill(0);
+    }
+    if fault(Fault::Outside) {
+        unsafe { *s.words.as_mut_ptr().add(s.words.len()) ^= 1 };
+    }
+}

@@ -1,0 +1,143 @@
+"""The session file: its parts, its bytes, and questions 2 to 8."""
+
+MARK = b"BRS\x00\x01"
+PAIR, ATOM, SMALL = 0, 1, 2
+NONE = 0xFFFFFFFF
+INDEX_BITS = 26
+NIL = SMALL << INDEX_BITS
+MAX_FILE, MAX_ATOMS, MAX_PAIRS = 65535, 1024, 1024
+MAX_ATOM_BYTES, MAX_STEPS = 32768, 1024
+
+
+def handle(kind, index):
+    return kind << INDEX_BITS | index
+
+
+def kind(h):
+    return h >> INDEX_BITS
+
+
+def index(h):
+    return h & ((1 << INDEX_BITS) - 1)
+
+
+def number_bytes(value):
+    """The shortest bytes of a whole number, two's complement; none for 0."""
+    if value == 0:
+        return b""
+    length = 1
+    while not -(1 << 8 * length - 1) <= value < 1 << 8 * length - 1:
+        length += 1
+    return value.to_bytes(length, "big", signed=True)
+
+
+def small_value(atom):
+    """The value of an atom that fits in a small one, or None."""
+    value = int.from_bytes(atom, "big", signed=True)
+    if 0 <= value < 1 << INDEX_BITS and number_bytes(value) == atom:
+        return value
+    return None
+
+
+class Refused(Exception):
+    """The number of the first question that fails, and where."""
+
+    def __init__(self, number, at):
+        super().__init__(f"refused {number} at byte {at}")
+        self.number = number
+
+
+class Session:
+    """atoms: bytes; pairs: two handles; sentinel: a handle or NONE; steps: ("add", handle) and ("restore", number)."""
+
+    def __init__(self):
+        self.atoms, self.pairs, self.sentinel, self.steps = [], [], NONE, []
+
+    def to_bytes(self):
+        out = bytearray(MARK)
+        out += len(self.atoms).to_bytes(2, "big")
+        for atom in self.atoms:
+            out += len(atom).to_bytes(2, "big") + atom
+        out += len(self.pairs).to_bytes(2, "big")
+        for left, right in self.pairs:
+            out += left.to_bytes(4, "big") + right.to_bytes(4, "big")
+        out += self.sentinel.to_bytes(4, "big")
+        for name, operand in self.steps:
+            out += b"\x01" + operand.to_bytes(4, "big") if name == "add" else b"\x02" + operand.to_bytes(2, "big")
+        return bytes(out)
+
+
+class Fields:
+    """A file's fields from the left."""
+
+    def __init__(self, file):
+        self.file, self.at = file, len(MARK)
+
+    def take(self, length):
+        part = self.file[self.at : self.at + length]
+        if len(part) < length:
+            raise Refused(4, self.at)
+        self.at += length
+        return part
+
+    def number(self, length):
+        return int.from_bytes(self.take(length), "big")
+
+    def handle(self, atoms, pairs, or_none=False):
+        at = self.at
+        h = self.number(4)
+        named = {PAIR: index(h) < pairs, ATOM: index(h) < atoms, SMALL: True}.get(kind(h), or_none and h == NONE)
+        if not named:
+            raise Refused(7, at)
+        return h
+
+
+def count(fields, most):
+    at = fields.at
+    n = fields.number(2)
+    if n > most:
+        raise Refused(5, at)
+    return n
+
+
+def read_atoms(fields):
+    atoms, total = [], 0
+    for _ in range(count(fields, MAX_ATOMS)):
+        at = fields.at
+        atom = bytes(fields.take(fields.number(2)))
+        total += len(atom)
+        if total > MAX_ATOM_BYTES:
+            raise Refused(5, at)
+        if small_value(atom) is not None:
+            raise Refused(6, at)
+        atoms.append(atom)
+    return atoms
+
+
+def read_step(fields, session):
+    at = fields.at
+    code = fields.number(1)
+    if len(session.steps) == MAX_STEPS:
+        raise Refused(5, at)
+    if code == 1:
+        return "add", fields.handle(len(session.atoms), len(session.pairs))
+    if code == 2:
+        return "restore", fields.number(2)
+    raise Refused(8, at)
+
+
+def parse(file):
+    """The session of a file that passes questions 2 to 8."""
+    if len(file) > MAX_FILE:
+        raise Refused(2, MAX_FILE)
+    if file[: len(MARK)] != MARK:
+        raise Refused(3, 0)
+    fields, session = Fields(file), Session()
+    session.atoms = read_atoms(fields)
+    atoms = len(session.atoms)
+    for i in range(count(fields, MAX_PAIRS)):
+        session.pairs.append((fields.handle(atoms, i), fields.handle(atoms, i)))
+    session.sentinel = fields.handle(atoms, len(session.pairs), or_none=True)
+    while fields.at < len(file):
+        session.steps.append(read_step(fields, session))
+    return session
