@@ -117,17 +117,6 @@ impl NodePtr {
     }
 }
 
-// The number of an entry of the cache. It is no handle, and a handle is no entry's number.
-pub struct EntryIndex(pub u32);
-
-impl EntryIndex {
-    pub fn as_usize(self) -> usize
-        ensures { λ r. ⌜ r ≡ self .0 ⌝ }
-    {
-        self.0 as usize
-    }
-}
-
 // Whether an atom's bytes are those of a small atom.
 pub enum FitsInSmallAtom {
     // They are, and this is its value.
