@@ -1,0 +1,7 @@
+pub mod Rows
+pub mod Chain
+pub mod NewEntry
+pub mod Single
+pub mod Parents
+pub mod Move
+pub mod Fresh

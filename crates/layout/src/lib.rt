@@ -1,0 +1,111 @@
+// What lies where in work, 524,288 words: the offset of each region. The sizes stand in specs/Layout.antt, with the proof that no two
+// regions meet.
+
+// Two words for each listed atom of the file: where its bytes start and end: 2,048 words.
+pub const ATOMS: usize = 0;
+
+// Two words for each pair of the file: its left and its right handle: 2,048 words.
+pub const PAIRS: usize = 2048;
+
+// For each listed atom the first one with the same bytes: 1,024 words.
+pub const FIRST: usize = 4096;
+
+// The serialized length of each listed atom: 1,024 words.
+pub const ATOM_LENGTHS: usize = 5120;
+
+// Listed atoms by slot: one more than the last one of the slot, or 0: 1,024 words.
+pub const ATOM_HEADS: usize = 6144;
+
+// One more than the listed atom before it in the same slot, or 0: 1,024 words.
+pub const ATOM_NEXT: usize = 7168;
+
+// How many listed atoms the file has: 1 word.
+pub const ATOM_COUNT: usize = 8192;
+
+// How many pairs the file has: 1 word.
+pub const PAIR_COUNT: usize = 8193;
+
+// The sentinel's handle, or ffffffff: 1 word.
+pub const SENTINEL: usize = 8194;
+
+// Open pairs: the pair's number, doubled, and 1 where its right side is still to come: 4,096 words.
+pub const OPEN: usize = 8195;
+
+// The stack of entries, the top last: 4,097 words.
+pub const STACK: usize = 12291;
+
+// For each place of the stack what TOPS held before it was pushed: 4,097 words.
+pub const BELOW: usize = 16388;
+
+// For each entry one more than its highest place on the stack, or 0: 3,072 words.
+pub const TOPS: usize = 20485;
+
+// A bit for each entry that is marked written: 96 words.
+pub const WRITTEN: usize = 23557;
+
+// The parents that an update moves, while the added tree is entered: 100 words.
+pub const MOVED: usize = 23653;
+
+// For each pair of the file one more than its entry, or 0: 1,024 words.
+pub const MAPS: usize = 23753;
+
+// One more than the sentinel's latest entry, or 0: 1 word.
+pub const SENTINEL_ENTRY: usize = 24777;
+
+// How many entries there are: 1 word.
+pub const USED: usize = 24778;
+
+// How many parents each entry has: 3,072 words.
+pub const COUNTS: usize = 24779;
+
+// The key of each entry, first word: 3,072 words.
+pub const LEFT: usize = 27851;
+
+// The key of each entry, second word: 3,072 words.
+pub const RIGHT: usize = 30923;
+
+// The length of each entry, low word: 3,072 words.
+pub const LOW: usize = 33995;
+
+// The length of each entry, high word: 3,072 words.
+pub const HIGH: usize = 37067;
+
+// One more than the entry before it in the same slot, or 0: 3,072 words.
+pub const NEXT: usize = 40139;
+
+// Entries by slot: one more than the last one of the slot, or 0: 4,096 words.
+pub const HEADS: usize = 43211;
+
+// A row of 100 words for each entry: a parent's entry, doubled, and its position: 307,200 words.
+pub const PARENTS: usize = 47307;
+
+// The search: a bit for each entry that is seen: 96 words.
+pub const SEEN: usize = 354507;
+
+// The search: for each node the node before it: 1,025 words.
+pub const PREVS: usize = 354603;
+
+// The search: for each node the entry visited, doubled, and the position bit: 1,025 words.
+pub const NODES: usize = 355628;
+
+// The search: the bits of each node: 1,025 words.
+pub const LENS: usize = 356653;
+
+// The search: three words for each path under way: node, place, extra: 9,999 words.
+pub const PATHS: usize = 357678;
+
+// Undo: sixteen copies of open pairs, stack and marks: 132,624 words.
+pub const COPIES: usize = 367677;
+
+// An entry of the tree cache, by its number. A handle (NodePtr) and an entry number never stand for each other.
+pub struct EntryIndex(pub u32);
+
+// The most entries, the parents kept of each, and the slots of the table of entries.
+pub const ENTRIES: usize = 3072;
+
+pub const ROW: usize = 100;
+
+pub const SLOTS: usize = 4096;
+
+// The words of one undo copy.
+pub const COPY: usize = 8289;

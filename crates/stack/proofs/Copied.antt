@@ -1,0 +1,77 @@
+-- Laws of the copies of undo: what a copy leaves, and what the copies of a save and of a restore leave together.
+-- Assumes nothing.
+use mathlib.Core.Path.{_≡_, sym, ap, _∙_}
+use mathlib.Core.List.{List, _++_}
+use Prim.Native.Nat.{ℕ, _+_, _≤_, _<_}
+use native.Mathlib.Omega.{arith}
+use lib.ListN.{length, getD, take, drop, length-drop, List·getD-append}
+use lib.Seq.{paste, length-paste-head, getD-take, getD-drop, getD-append-add, length-take-le}
+use Rattle.words.specs.Words.{at}
+use Rattle.words.proofs.Copies.{paste-other}
+use Rattle.layout.specs.Layout.{OPEN, STACK, WRITTEN, MOVED, COPIES, ENTRIES, DEPTH}
+use Rattle.stack.specs.Contracts.{PoppedAll, PushedAll, copied-open, copied-stack, copied-marks, Saved, Restored}
+use Rattle.stack.proofs.Stacks.{stacked-same}
+
+-- The n words from `from` on stand from `to` on, and nothing else is touched.
+pub record Copied (w w′ : List ℕ) (from to n : ℕ) : Type 0 where
+  pub here : (i : ℕ) → i < n → at w′ (to + i) ≡ at w (from + i)
+  pub other : (j : ℕ) → (to ≤ j → to + n ≤ j) → at w′ j ≡ at w j
+
+module _ (w : List ℕ) (from to n : ℕ) (f : from + n ≤ length w) (t : to + n ≤ length w) where
+  enough : n ≤ length (drop from w)
+  enough = simp length-drop (omega arith)
+
+  copied-here : (i : ℕ) → i < n → at (paste w to (drop from w) n) (to + i) ≡ at w (from + i)
+  copied-here i l =
+      List·getD-append (take to w ++ take n (drop from w)) (drop (to + n) w) 0 (to + i)
+      (omega (arith, length-paste-head w to (drop from w) n (omega arith) enough))
+      ∙ ap (λ (k : ℕ). getD (take to w ++ take n (drop from w)) (k + i) 0) (sym (length-take-le to w (omega arith)))
+      ∙ getD-append-add (take to w) (take n (drop from w)) i 0 ∙ getD-take n (drop from w) i 0 l ∙ getD-drop from w i 0
+
+  pub copied : (w′ : List ℕ) → w′ ≡ paste w to (drop from w) n → Copied w w′ from to n
+  copied w′ e =
+      rw e (record { here = copied-here; other = λ j o. paste-other w to (drop from w) n j (omega arith) enough o })
+
+-- The three copies of a save.
+pub saved : (w u v w′ : List ℕ) (k opens d : ℕ) → opens ≤ 4096 → d ≤ DEPTH
+    → Copied w u OPEN (copied-open k) opens → Copied u v STACK (copied-stack k) d → Copied v w′ WRITTEN (copied-marks k) 96 → Saved w w′ k opens d
+saved w u v w′ k opens d short deep a b c =
+    record {
+      open-pairs = λ i l. c .other (copied-open k + i) (λ q. omega arith) ∙ b .other (copied-open k + i) (λ q. omega arith) ∙ a .here i l;
+      places = λ i l.
+          c .other (copied-stack k + i) (λ q. omega arith) ∙ b .here i l ∙ a .other (STACK + i) (λ q. omega arith);
+      marks = λ i l. c .here i l ∙ b .other (WRITTEN + i) (λ q. omega arith) ∙ a .other (WRITTEN + i) (λ q. omega arith);
+      low = λ j l. c .other j (λ q. omega arith) ∙ b .other j (λ q. omega arith) ∙ a .other j (λ q. omega arith);
+      high = λ j l. c .other j (λ q. omega arith) ∙ b .other j (λ q. omega arith) ∙ a .other j (λ q. omega arith);
+    }
+
+-- The present stack goes, the copy's is pushed, and open pairs and marks are copied back.
+module _ (w t u v w′ : List ℕ) (k opens d : ℕ) (short : opens ≤ 4096)
+    (gone : PoppedAll w t) (back : PushedAll t u (copied-stack k) d)
+    (pairs : Copied u v (copied-open k) OPEN opens) (bits : Copied v w′ (copied-marks k) WRITTEN 96) where
+  -- A word that no copy reaches.
+  restore-kept : (j : ℕ) → (OPEN ≤ j → OPEN + opens ≤ j) → (WRITTEN ≤ j → MOVED ≤ j) → at w′ j ≡ at u j
+  restore-kept j p q = bits .other j (λ r. q r) ∙ pairs .other j p
+
+  -- A copy's word is as it was before.
+  restore-still : (j : ℕ) → COPIES ≤ j → at u j ≡ at w j
+  restore-still j l = back .only .high j (omega arith) ∙ gone .only .high j (omega arith)
+
+  pub restored : Restored w w′ k opens d
+  restored =
+      record {
+        stacked = stacked-same u w′ d (back .stacked) (λ j l m. restore-kept j (λ q. omega arith) (λ q. omega arith));
+        open-pairs = λ i l. bits .other (OPEN + i) (λ q. omega arith) ∙ pairs .here i l ∙ restore-still (copied-open k + i) (omega arith);
+        places = λ i l.
+            restore-kept (STACK + i) (λ q. omega arith) (λ q. omega (arith, back .stacked .deep)) ∙ back .places i l
+            ∙ gone .only .high (copied-stack k + i) (omega arith);
+        marks = λ i l. bits .here i l ∙ pairs .other (copied-marks k + i) (λ q. omega arith) ∙ restore-still (copied-marks k + i) (omega arith);
+        low = λ j l. restore-kept j (λ q. omega arith) (λ q. omega arith) ∙ back .only .low j (omega arith) ∙ gone .only .low j (omega arith);
+        later = λ j l m. restore-kept j (λ q. l) (λ q. omega arith) ∙ back .only .low j m ∙ gone .only .low j m;
+        high = λ j l. restore-kept j (λ q. omega arith) (λ q. l) ∙ back .only .high j (omega arith) ∙ gone .only .high j (omega arith);
+      }
+
+-- The copy's entries are still entries once the present stack is gone.
+pub entries-still : (w t : List ℕ) (k d : ℕ) → PoppedAll w t → ((i : ℕ) → i < d → at w (copied-stack k + i) < ENTRIES)
+    → (i : ℕ) → i < d → at t (copied-stack k + i) < ENTRIES
+entries-still w t k d gone h i l = rw (gone .only .high (copied-stack k + i) (omega arith)) (h i l)

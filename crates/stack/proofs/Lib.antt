@@ -1,0 +1,5 @@
+pub mod Prev
+pub mod Stacks
+pub mod Marks
+pub mod Copied
+pub mod Undone

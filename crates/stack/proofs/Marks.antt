@@ -1,0 +1,97 @@
+-- Laws of the marks: which words they depend on, and what a bit that is set leaves.
+-- Assumes nothing.
+use mathlib.Core.Path.{_≡_, refl, sym, ap, _∙_}
+use mathlib.Core.Bool.{Bool, true, false, _||_}
+use mathlib.Core.List.{List}
+use Prim.Native.Nat.{ℕ, _+_, _-_, _/_, _%_, _^_, _≤_, _<_}
+use native.Mathlib.Omega.{arith}
+use native.Mathlib.Decide.{ℕ-discrete}
+use lib.Dec.{eqb}
+use lib.ListN.{length, getD, set}
+use lib.Seq.{getD-set-same, getD-set-other}
+use borrow.Author.Tests.{eq-eqb, ne-eqb, lt-ltb, le-ltb}
+use borrow.Rule.Slice.PartMut.{putMid}
+use Rattle.words.specs.Words.{at, part}
+use Rattle.words.proofs.Words.{part-length, part-at, put-length, put-part, put-other}
+use Rattle.path.specs.Bytes.{odd}
+use Rattle.path.specs.BitSet.{bits-of}
+use Rattle.path.specs.BitSetLaws.{bits-of-at, length-bits-of}
+use Rattle.layout.specs.Layout.{STACK, WRITTEN, MOVED, ENTRIES}
+use Rattle.stack.specs.Contracts.{marked-at, Marked, Pushed, PushedMarked}
+use Rattle.stack.proofs.Stacks.{stacked-same, stack-same}
+
+-- A mark depends on the words from WRITTEN to MOVED alone.
+pub marked-same : (w w′ : List ℕ) (x : ℕ) → x < ENTRIES → ((i : ℕ) → i < 96 → at w′ (WRITTEN + i) ≡ at w (WRITTEN + i)) → marked-at w′ x ≡ marked-at w x
+unfolding marked-at
+marked-same w w′ x l h = ap (λ (y : ℕ). odd (y / 2 ^ (x % 32))) (h (x / 32) (omega arith))
+
+-- The mark is the bit of the lent part.
+pub marked-part : (w : List ℕ) (x : ℕ) → 524288 ≤ length w → x < ENTRIES → getD (bits-of (part w WRITTEN 96)) x false ≡ marked-at w x
+unfolding marked-at
+marked-part w x long l =
+    bits-of-at (part w WRITTEN 96) x (omega (arith, part-length w WRITTEN 96 (omega arith)))
+    ∙ ap (λ (y : ℕ). odd (y / 2 ^ (x % 32))) (part-at w WRITTEN 96 (x / 32) (omega arith))
+
+-- The part comes back with bit e set.
+module _ (w r : List ℕ) (e : ℕ) (long : 524288 ≤ length w) (small : e < ENTRIES) (len : length r ≡ 96)
+    (bit : bits-of r ≡ set (bits-of (part w WRITTEN 96)) e true) where
+  after-mark : List ℕ
+  after-mark = putMid WRITTEN 96 w r
+
+  mark-fits : WRITTEN + 96 ≤ length w
+  mark-fits = omega arith
+
+  mark-bits : (x : ℕ) → x < ENTRIES → marked-at after-mark x ≡ getD (set (bits-of (part w WRITTEN 96)) e true) x false
+  unfolding after-mark
+  mark-bits x l =
+      sym (marked-part after-mark x (omega (arith, put-length WRITTEN 96 w r mark-fits len)) l)
+      ∙ ap (λ (z : List ℕ). getD (bits-of z) x false) (put-part WRITTEN 96 w r mark-fits len) ∙ ap (λ (z : List Bool). getD z x false) bit
+
+  mark-each : (x : ℕ) → x < ENTRIES → Dec (x ≡ e) → marked-at after-mark x ≡ (eqb x e || marked-at w x)
+  mark-each x l (yes q) =
+      mark-bits x l
+      ∙ rw (eq-eqb x e q, q) (getD-set-same (bits-of (part w WRITTEN 96)) e true false
+      (omega (arith, length-bits-of (part w WRITTEN 96), part-length w WRITTEN 96 mark-fits)))
+  mark-each x l (no q) =
+      rw (ne-eqb x e q) (mark-bits x l ∙ getD-set-other (bits-of (part w WRITTEN 96)) e x true false q ∙ marked-part w x long l)
+
+  pub marked : Marked w (putMid WRITTEN 96 w r) e
+  unfolding after-mark
+  marked =
+      record {
+        marks = λ x l. mark-each x l (ℕ-discrete x e);
+        low = λ k l. put-other WRITTEN 96 w r mark-fits len k (λ j m q. omega arith);
+        high = λ k l. put-other WRITTEN 96 w r mark-fits len k (λ j m q. omega arith);
+      }
+
+-- The entry itself is marked, and every other one is as it was.
+pub mark-here : (w w′ : List ℕ) (e : ℕ) → e < ENTRIES → Marked w w′ e → marked-at w′ e ≡ true
+mark-here w w′ e l m = m .marks e l ∙ rw (eq-eqb e e refl)
+
+pub mark-past : (w w′ : List ℕ) (e x : ℕ) → x < ENTRIES → (x ≡ e → ⊥) → Marked w w′ e → marked-at w′ x ≡ marked-at w x
+mark-past w w′ e x l q m = m .marks x l ∙ rw (ne-eqb x e q)
+
+-- ---- a push, and a mark where the length is not below 4
+
+module _ (w v : List ℕ) (d e len : ℕ) (p : Pushed w v d e) where
+  pub push-only : len < 4 → PushedMarked w v d e len
+  push-only h =
+      record {
+        stacked = p .stacked;
+        stack = p .stack;
+        marks = λ x l. rw (lt-ltb len 4 h) (marked-same w v x l (λ i m. p .only .high (WRITTEN + i) (omega arith)));
+        low = p .only .low;
+        high = λ k l. p .only .high k (omega arith);
+      }
+
+  module _ (w′ : List ℕ) (m : Marked v w′ e) where
+    pub push-and-mark : 4 ≤ len → PushedMarked w w′ d e len
+    push-and-mark h =
+        record {
+          stacked = stacked-same v w′ (d + 1) (p .stacked) (λ k l r. m .low k r);
+          stack = stack-same v w′ (d + 1) (λ i l. m .low (STACK + i) (omega (arith, p .stacked .deep))) ∙ p .stack;
+          marks = λ x l.
+              rw (le-ltb len 4 h) (m .marks x l ∙ ap (λ (b : Bool). eqb x e || b) (marked-same w v x l (λ i n. p .only .high (WRITTEN + i) (omega arith))));
+          low = λ k l. m .low k (omega arith) ∙ p .only .low k l;
+          high = λ k l. m .high k l ∙ p .only .high k (omega arith);
+        }
