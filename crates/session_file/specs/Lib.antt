@@ -1,4 +1,12 @@
 pub mod File
 pub mod Unfold
+pub mod UnfoldLaws
 pub mod Filling
 pub mod Cases
+pub mod Answers
+pub mod Places
+pub mod FileLaws
+pub mod Checked
+pub mod PlaceLaws
+pub mod Loaded
+pub mod CheckedLaws

@@ -35,7 +35,7 @@ pub fn least_size(width: usize) -> u64
 }
 
 // The width of the shortest prefix for a size.
-fn shortest_width(size: u64) -> usize
+pub fn shortest_width(size: u64) -> usize
     requires { ⌜ size < 2 ^ 34 ⌝ }
     ensures { λ r. ⌜ width size ≡ some r ⌝ }
 {

@@ -1,0 +1,153 @@
+-- The first bit of a path that the search gives is set; so what is counted follows from the number of its bits.
+-- Assumes nothing.
+use native.Mathlib.Nat.{pow-suc}
+use mathlib.Core.Path.{_≡_, refl, sym, ap, subst, _∙_}
+use mathlib.Core.Bool.{Bool, true, false, cond, _&&_}
+use mathlib.Core.List.{List, [], _∷_, _++_}
+use mathlib.Core.Option.{Option, none, some}
+use Prim.Native.Nat.{ℕ, zero, suc, _+_, _/_, _%_, _^_, _≤_, _<_}
+use native.Mathlib.Omega.{arith}
+use native.Mathlib.Decide.{ℕ-discrete}
+use lib.ListN.{length, getD, length-append}
+use lib.Seq.{take-all}
+use lib.Dec.{ltb, leb, eqb}
+use borrow.Author.Tests.{le-leb, eq-eqb, ne-eqb, lt-ltb, le-ltb, eqb-true}
+use Rattle.search.specs.Search.{Trail, atEntry, onStack, Parents, dropped, capped, member, distance, upward, sideward, moves, visit, step, search, most-visits}
+use Rattle.words.specs.Choice.{by-cond, cond-true, cond-false}
+use Rattle.words.specs.Lists.{All, all-append}
+use Rattle.search.specs.Induction.{StepOK, search-ok}
+use Rattle.path.specs.Bytes.{value, octets, path-bytes}
+use Rattle.path.specs.BytesLaws.{length-path-bytes}
+use Rattle.path.specs.Measure.{counted, counted-bytes}
+use Rattle.find_path.specs.declared.Way.the-variants.{By, Nothing}
+use Rattle.find_path.specs.declared.Path.the-variants.{At, NoPath}
+use Rattle.find_path.specs.State.{parents-of-all, path-at}
+use Rattle.find_path.specs.Answers.{Finds, used, FoundPath}
+use Rattle.layout.specs.Rows.{stack-of}
+use Rattle.find_path.specs.Bits.{counted-of}
+
+pub record Ends (bits : List Bool) : Type 0 where
+  pub steps : List Bool
+  pub ends : bits ≡ steps ++ true ∷ []
+
+ends-more : (b : Bool) (bits : List Bool) → Ends bits → Ends (b ∷ bits)
+ends-more b bits h = record { steps = b ∷ h .steps; ends = ap (λ (x : List Bool). b ∷ x) (h .ends) }
+
+abbrev Set : List ℕ → Trail → Type 0
+Set seen (atEntry bits x pos) = Ends (pos ∷ bits)
+Set seen (onStack bits d) = Ends bits
+
+set-upward : (seen seen′ : List ℕ) (bits : List Bool) → Ends bits → (qs : List (ℕ × Bool)) → All (Set seen′) (upward seen bits qs)
+set-upward seen seen′ bits h [] = tt
+set-upward seen seen′ bits h (q ∷ qs) =
+    by-cond (All (Set seen′)) (member (q .0) seen) (upward seen bits qs) (atEntry bits (q .0) (q .1) ∷ upward seen bits qs)
+    (λ c. set-upward seen seen′ bits h qs) (λ c. (ends-more (q .1) bits h, set-upward seen seen′ bits h qs))
+
+set-sideward : (seen : List ℕ) (bits : List Bool) → Ends bits → (o : Option ℕ) → All (Set seen) (sideward bits o)
+set-sideward seen bits h none = tt
+set-sideward seen bits h (some d) = (ends-more false bits h, tt)
+
+later : (seen seen′ : List ℕ) (q : Trail) → Set seen q → Set seen′ q
+later seen seen′ (atEntry bits x pos) h = h
+later seen seen′ (onStack bits d) h = h
+
+set-moves : (seen seen′ : List ℕ) (ps qs : List Trail) → All (Set seen′) ps → All (Set seen′) qs → StepOK Set Ends seen (moves ps qs seen′)
+set-moves seen seen′ [] qs h k = (k, later seen seen′)
+set-moves seen seen′ (p ∷ ps) qs h k = (h .0, all-append (Set seen′) ps qs (h .1) k, later seen seen′)
+
+module _ (parents : Parents) (stack : List ℕ) where
+  set-step : (seen : List ℕ) (p : Trail) → Set seen p → StepOK Set Ends seen (step parents stack seen p)
+  set-step seen (onStack bits zero) h = h
+  set-step seen (onStack bits (suc d)) h = (ends-more true bits h, tt, later seen seen)
+  set-step seen (atEntry bits x pos) h =
+      by-cond (StepOK Set Ends seen) (member x seen) (dropped [] seen) (cond (ltb (length seen) most-visits) (visit parents stack seen bits x pos) capped)
+      (λ c. (tt, later seen seen))
+      (λ c. by-cond (StepOK Set Ends seen) (ltb (length seen) most-visits) (visit parents stack seen bits x pos) capped
+      (λ c′. set-moves seen (x ∷ seen) (upward (x ∷ seen) (pos ∷ bits) (parents x)) (sideward (pos ∷ bits) (distance x stack))
+      (set-upward (x ∷ seen) (x ∷ seen) (pos ∷ bits) h (parents x)) (set-sideward (x ∷ seen) (pos ∷ bits) h (distance x stack)))
+      (λ c′. tt))
+
+  pub search-ends : (len e : ℕ) (bits : List Bool) → search parents stack len e ≡ some bits → Ends bits
+  search-ends len e bits q = search-ok Set Ends parents stack len e bits (λ L l seen p s h. set-step seen p h) (record { steps = []; ends = refl }) q
+
+-- ---- what is counted
+
+value-ends : (steps : List Bool) → 2 ^ length steps ≤ value (steps ++ true ∷ [])
+value-ends [] = omega arith
+value-ends (false ∷ bs) = omega (arith, value-ends bs, pow-suc 2 (length bs))
+value-ends (true ∷ bs) = omega (arith, value-ends bs, pow-suc 2 (length bs))
+
+first-byte : (bits : List Bool) → Ends bits → length bits ≡ 8 → 80 ≤ getD (path-bytes bits) 0 0
+unfolding path-bytes octets
+first-byte bits h l =
+    let k : (length bits + 7) / 8 ≡ 1 = omega arith in
+    let s : length (h .steps) ≡ 7 = omega (arith, l, ap length (h .ends), length-append (h .steps) (true ∷ [])) in
+    let v : 128 ≤ value bits = rw (h .ends) (subst (λ (n : ℕ). 2 ^ n ≤ value (h .steps ++ true ∷ [])) s (value-ends (h .steps))) in
+    rw (k, take-all 8 bits (omega arith)) (omega arith)
+
+only-one : (f g : Bool) (n : ℕ) → (n ≡ 1 → f ≡ g) → counted-bytes f n ≡ counted-bytes g n
+only-one f g n h = go (ℕ-discrete n 1)
+  where
+    go : Dec (n ≡ 1) → counted-bytes f n ≡ counted-bytes g n
+    go (yes e) = ap (λ (b : Bool). counted-bytes b n) (h e)
+    go (no e) = let q : eqb n 1 ≡ false = ne-eqb n 1 e in rw q
+
+pub counted-is : (bits : List Bool) → Ends bits → counted bits ≡ counted-of (length bits)
+counted-is bits h =
+    ap (counted-bytes (eqb (length bits % 8) 0 && leb 80 (getD (path-bytes bits) 0 0))) (length-path-bytes bits)
+    ∙ only-one _ (eqb (length bits % 8) 0) ((length bits + 7) / 8) (λ e. full e (eqb (length bits % 8) 0) refl)
+  where
+    full : (length bits + 7) / 8 ≡ 1 → (c : Bool) → eqb (length bits % 8) 0 ≡ c → (c && leb 80 (getD (path-bytes bits) 0 0)) ≡ c
+    full e true q = le-leb 80 (getD (path-bytes bits) 0 0) (first-byte bits h (omega (arith, eqb-true (length bits % 8) 0 q)))
+    full e false q = refl
+
+-- ---- the code's cases
+
+module _ (n : ℕ) where
+  k : ℕ
+  k = (n + 7) / 8
+
+  pub counted-empty : (n + 7) / 8 ≡ 0 → 1 ≡ counted-of n
+  counted-empty h = sym (cond-true _ _ _ (eq-eqb ((n + 7) / 8) 0 h))
+
+  pub counted-full : n ≡ 8 → 2 ≡ counted-of n
+  counted-full h = rw h
+
+  pub counted-one : (n + 7) / 8 ≡ 1 → (n ≡ 8 → ⊥) → 1 ≡ counted-of n
+  counted-one h d =
+      let q : eqb (n % 8) 0 ≡ false = ne-eqb (n % 8) 0 (λ e. d (omega arith)) in
+      rw (h, q)
+
+  other : ((n + 7) / 8 ≡ 0 → ⊥) → ((n + 7) / 8 ≡ 1 → ⊥) → counted-of n
+      ≡ cond (ltb ((n + 7) / 8) 64) (1 + (n + 7) / 8)
+      (cond (ltb ((n + 7) / 8) 512) (2 + (n + 7) / 8) (cond (ltb ((n + 7) / 8) 1048576) (3 + (n + 7) / 8) (cond (ltb ((n + 7) / 8) 16777216) (5 + (n + 7) / 8) (cond (ltb ((n + 7) / 8) 134217728) (4 + (n + 7) / 8) (5 + (n + 7) / 8)))))
+  other a b = cond-false _ _ _ (ne-eqb ((n + 7) / 8) 0 a) ∙ cond-false _ _ _ (ne-eqb ((n + 7) / 8) 1 b)
+
+  pub counted-short : ((n + 7) / 8 ≡ 0 → ⊥) → ((n + 7) / 8 ≡ 1 → ⊥) → (n + 7) / 8 < 64 → (n + 7) / 8 + 1 ≡ counted-of n
+  counted-short a b c = omega (arith, other a b ∙ cond-true _ _ _ (lt-ltb ((n + 7) / 8) 64 c))
+
+  pub counted-mid : ((n + 7) / 8 ≡ 0 → ⊥) → ((n + 7) / 8 ≡ 1 → ⊥) → 64 ≤ (n + 7) / 8 → (n + 7) / 8 < 512 → (n + 7) / 8 + 2 ≡ counted-of n
+  counted-mid a b c d = omega (arith, other a b ∙ cond-false _ _ _ (le-ltb ((n + 7) / 8) 64 c) ∙ cond-true _ _ _ (lt-ltb ((n + 7) / 8) 512 d))
+
+  pub counted-long : ((n + 7) / 8 ≡ 0 → ⊥) → ((n + 7) / 8 ≡ 1 → ⊥) → 64 ≤ (n + 7) / 8 → 512 ≤ (n + 7) / 8 → (n + 7) / 8 < 1048576
+      → (n + 7) / 8 + 3 ≡ counted-of n
+  counted-long a b c d f =
+      omega (arith, other a b ∙ cond-false _ _ _ (le-ltb ((n + 7) / 8) 64 c) ∙ cond-false _ _ _ (le-ltb ((n + 7) / 8) 512 d) ∙ cond-true _ _ _ (lt-ltb ((n + 7) / 8) 1048576 f))
+
+-- ---- the whole
+
+module _ (w w′ : List ℕ) (d len e : ℕ) where
+  pub path-none : Finds w w′ d len e Nothing → FoundPath w w′ d len e NoPath
+  path-none f = record { answer = ap (used counted len) (f .answer); usable = tt; kept = f .kept }
+
+  module _ (i : ℕ) (f : Finds w w′ d len e (By i)) (t c : ℕ) (et : t ≡ length (path-at w′ i)) (ec : c ≡ counted-of t) where
+    is-counted : counted (path-at w′ i) ≡ c
+    is-counted = counted-is (path-at w′ i) (search-ends (parents-of-all w) (stack-of w d) len e (path-at w′ i) (f .answer)) ∙ ap counted-of (sym et) ∙ sym ec
+
+    pub path-long : len ≤ c → FoundPath w w′ d len e NoPath
+    path-long h =
+        record { answer = ap (used counted len) (f .answer) ∙ cond-false _ _ _ (ap (λ (q : ℕ). ltb q len) is-counted ∙ le-ltb c len h); usable = tt; kept = f .kept }
+
+    pub path-used : c < len → FoundPath w w′ d len e (At i)
+    path-used h =
+        record { answer = ap (used counted len) (f .answer) ∙ cond-true _ _ _ (ap (λ (q : ℕ). ltb q len) is-counted ∙ lt-ltb c len h); usable = f .usable; kept = f .kept }

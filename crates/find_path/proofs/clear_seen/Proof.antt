@@ -1,0 +1,38 @@
+-- `find_path::clear_seen` meets its contract: the words of the bit set come back zero.
+-- Assumes nothing.
+use lib.ListN.{replicate}
+use Prim.Native.Nat.{ℕ}
+use mathlib.Core.Path.{_∙_, ap}
+use Rattle.words.specs.Words.{part}
+use Rattle.find_path.proofs.Marks.{seen-length, cleared}
+use borrow.Author.Needs.{needs}
+use Rattle.find_path.proofs.clear_seen.Statement.{statement}
+use Rattle.find_path.proofs.clear_seen.Tie as tie
+
+sub-clear : tie.Need-sub-clear
+sub-clear c = search needs
+
+part-clear-start : tie.Need-part-clear-start
+part-clear-start c = search needs
+
+part-clear-end : tie.Need-part-clear-end
+part-clear-end c = search needs
+
+clear-requires : tie.Need-clear-requires
+clear-requires c κs = search needs
+
+same-length : tie.Need-same-length
+same-length c = search needs
+
+returns : tie.Need-returns
+unfolding part
+returns c =
+    let s = c .before .before .before .before .before in
+    let r = c .before .before .clear in
+    let long = seen-length (s .args .work .now) (s .pre) in
+    cleared (s .args .work .now) (r .last .0) (s .pre) (r .kept .0 ∙ long) (r .ensures ∙ ap (λ (k : ℕ). replicate k 0) long)
+
+pub clear-seen-spec : {M : Type 1} → statement M
+clear-seen-spec =
+    tie.close
+    (tie.spec sub-clear part-clear-start part-clear-end clear-requires same-length returns)

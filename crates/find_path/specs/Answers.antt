@@ -1,0 +1,74 @@
+-- What the crate's functions answer: the search, the path that is used, and the path's bytes.
+-- Assumes nothing.
+use mathlib.Core.Path.{_≡_}
+use mathlib.Core.Bool.{Bool, cond}
+use mathlib.Core.List.{List}
+use mathlib.Core.Option.{Option, none, some}
+use Prim.Native.Nat.{ℕ, _+_, _/_, _≤_, _<_}
+use lib.Dec.{ltb}
+use lib.ListN.{length, take, drop}
+use Rattle.words.specs.Words.{at}
+use Rattle.path.specs.Bytes.{path-bytes}
+use Rattle.path.specs.Measure.{counted}
+use Rattle.search.specs.Search.{search}
+use Rattle.layout.specs.Layout.{SEEN, COPIES}
+use Rattle.layout.specs.Rows.{stack-of}
+use Rattle.find_path.specs.declared.Way.{Way}
+use Rattle.find_path.specs.declared.Way.the-variants.{By, Nothing}
+use Rattle.find_path.specs.declared.Path.{Path}
+use Rattle.find_path.specs.declared.Path.the-variants.{At, NoPath}
+use Rattle.find_path.specs.State.{parents-of-all, path-at, Readable}
+
+-- Nothing but the search's own words was touched.
+pub record Kept (w w′ : List ℕ) : Type 0 where
+  pub low : (k : ℕ) → k < SEEN → at w′ k ≡ at w k
+  pub high : (k : ℕ) → COPIES ≤ k → at w′ k ≡ at w k
+
+-- ---- the search
+
+abbrev pub way-of : List ℕ → Way → Option (List Bool)
+way-of w (By i) = some (path-at w i)
+way-of w Nothing = none
+
+-- A path that was found can be read.
+abbrev pub Usable : List ℕ → Way → Type 0
+Usable w (By i) = Readable w i
+Usable w Nothing = Unit {0}
+
+-- What the search of entry e gives, of length len and from a stack of d entries.
+pub record Finds (w w′ : List ℕ) (d len e : ℕ) (r : Way) : Type 0 where
+  pub answer : search (parents-of-all w) (stack-of w d) len e ≡ way-of w′ r
+  pub usable : Usable w′ r
+  pub kept : Kept w w′
+
+-- ---- the path that is used
+
+-- The path that the search gave is used where its measure is below the entry's length.
+abbrev pub used : (measure : List Bool → ℕ) → (len : ℕ) → Option (List Bool) → Option (List Bool)
+used measure len none = none
+used measure len (some bits) = cond (ltb (measure bits) len) (some bits) none
+
+abbrev pub path-of : List ℕ → Path → Option (List Bool)
+path-of w (At i) = some (path-at w i)
+path-of w NoPath = none
+
+-- A path that is used can be read.
+abbrev pub Ready : List ℕ → Path → Type 0
+Ready w (At i) = Readable w i
+Ready w NoPath = Unit {0}
+
+pub record FoundPath (w w′ : List ℕ) (d len e : ℕ) (r : Path) : Type 0 where
+  pub answer : used counted len (search (parents-of-all w) (stack-of w d) len e) ≡ path-of w′ r
+  pub usable : Ready w′ r
+  pub kept : Kept w w′
+
+-- ---- its bytes
+
+-- How many bytes path i has.
+abbrev pub bytes-at : List ℕ → ℕ → ℕ
+bytes-at w i = (length (path-at w i) + 7) / 8
+
+-- The bytes of path i stand at the front of the output; the rest of it is as it was.
+pub record Written (w : List ℕ) (i : ℕ) (out out′ : List ℕ) : Type 0 where
+  pub bytes : take (bytes-at w i) out′ ≡ path-bytes (path-at w i)
+  pub rest : drop (bytes-at w i) out′ ≡ drop (bytes-at w i) out

@@ -1,0 +1,5 @@
+pub mod State
+pub mod Answers
+pub mod Cursor
+pub mod Steps
+pub mod Bits

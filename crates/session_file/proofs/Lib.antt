@@ -1,0 +1,4 @@
+pub mod FieldLaws
+pub mod ListLaws
+pub mod CheckLaws
+pub mod LoadLaws

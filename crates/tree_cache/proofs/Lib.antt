@@ -1,0 +1,13 @@
+pub mod Atoms
+pub mod Entering
+pub mod Entries
+pub mod Finding
+pub mod Frames
+pub mod Fresh
+pub mod Joining
+pub mod Keys
+pub mod Lengths
+pub mod Lift
+pub mod Making
+pub mod Meeting
+pub mod Updating
