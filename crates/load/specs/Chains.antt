@@ -1,0 +1,38 @@
+-- The lookup of an atom by its bytes: its slot, the chains of the atoms that are the first of their bytes, and the tables while they are loaded.
+use Prim.Native.Nat.{ℕ, _+_, _%_, _^_, _≤_, _<_}
+use mathlib.Core.Path.{_≡_}
+use mathlib.Core.Bool.{cond}
+use mathlib.Core.List.{List, [], _∷_}
+use lib.Dec.{eqb}
+use lib.ListN.{length}
+use Rattle.words.specs.Words.{at, tabulate}
+use Rattle.atom.specs.Write.{serialized-length}
+use Rattle.layout.specs.Layout.{FIRST, ATOM-LENGTHS, ATOM-HEADS, ATOM-NEXT}
+use Rattle.layout.specs.Rows.{prev}
+use Rattle.tree_cache.specs.Meaning.{first-same}
+
+-- A sum over bytes that wraps at 32 bits: each turn doubles it and adds the next byte.
+unfoldable pub wrapped-sum : ℕ → List ℕ → ℕ
+wrapped-sum s [] = s
+wrapped-sum s (x ∷ xs) = wrapped-sum (((s + s) % 2 ^ 32 + x) % 2 ^ 32) xs
+
+-- The slot at which the lookup of these bytes starts.
+unfoldable pub slot-of : List ℕ → ℕ
+slot-of bytes = wrapped-sum 0 bytes % 1021
+
+-- The first atom with the bytes of atom k; at the latest k itself.
+unfoldable pub first-of : (ℕ → List ℕ) → ℕ → ℕ
+first-of b k = first-same (b k) (tabulate k b)
+
+-- The chain of atom k: the slot of its bytes where it is the first one with them; otherwise none.
+unfoldable pub chain-of : (ℕ → List ℕ) → ℕ → ℕ
+chain-of b k = cond (eqb (first-of b k) k) (slot-of (b k)) 1024
+
+-- The first i atoms are loaded: their tables, and the chain of each slot, the last atom first.
+pub record Loading (b : ℕ → List ℕ) (w : List ℕ) (i : ℕ) : Type 0 where
+  pub long : 524288 ≤ length w
+  pub few : i ≤ 1024
+  pub firsts : (k : ℕ) → k < i → at w (FIRST + k) ≡ first-of b k
+  pub lengths : (k : ℕ) → k < i → at w (ATOM-LENGTHS + k) ≡ serialized-length (b k)
+  pub heads : (s : ℕ) → s < 1024 → at w (ATOM-HEADS + s) ≡ prev (chain-of b) s i
+  pub nexts : (k : ℕ) → k < i → first-of b k ≡ k → at w (ATOM-NEXT + k) ≡ prev (chain-of b) (slot-of (b k)) k
