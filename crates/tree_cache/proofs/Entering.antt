@@ -304,7 +304,7 @@ module _ (w : List ℕ) (h i : ℕ) (wh : Whole w) (n : Names w (at w PAIR-COUNT
               let u = unmapped-above w w₃ (suc i) m g y maps-above in
               record { room = omega (arith, c .room); counts = omega (arith, c .counts) }
 
-          acts : (f : File) (c : Cache) → Tables f w → Holds f w c → Acts (enter-action h) w w₃ x f c
+          acts : (f : File) (c : Cache) → Tables f w → Holds f w c → Acts (enter-action h) w₃ x f c
           acts f c t ho =
               record {
                 holds = subst (λ (y : Cache × ℕ). Holds f w₃ (y .0)) (sym is) (dj .holds);
@@ -317,13 +317,13 @@ module _ (w : List ℕ) (h i : ℕ) (wh : Whole w) (n : Names w (at w PAIR-COUNT
               t₂ : Tables f w₂
               t₂ = tables-kept w₁ w₂ (λ k y. s .outside .below k (omega arith)) f (p .whole .handles) t₁
 
-              da : Acts (enter-action a) w w₁ l f c
+              da : Acts (enter-action a) w₁ l f c
               da = p .does f c t ho
 
-              db : Acts (enter-action b) w₁ w₂ r f (enter (unfolded f a) c .0)
+              db : Acts (enter-action b) w₂ r f (enter (unfolded f a) c .0)
               db = s .does f (enter (unfolded f a) c .0) t₁ (da .holds)
 
-              dj : Acts (join-action i l r) w₂ w₃ x f (enter (unfolded f b) (enter (unfolded f a) c .0) .0)
+              dj : Acts (join-action i l r) w₃ x f (enter (unfolded f b) (enter (unfolded f a) c .0) .0)
               dj = j .does f (enter (unfolded f b) (enter (unfolded f a) c .0) .0) t₂ (db .holds)
 
               sides : join-pair i (enter (unfolded f a) c .1) (enter (unfolded f b) (enter (unfolded f a) c .0))

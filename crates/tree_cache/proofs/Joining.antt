@@ -123,10 +123,10 @@ module _ (w w₁ w₂ w₃ : List ℕ) (i l r x : ℕ) (wh : Whole w) (named : i
           let s = other (MAPS + k) (λ e. q (omega arith)) in
           omega (arith, wh₃ .maps k h)
 
-  acts : (f : File) (c : Cache) → Tables f w → Holds f w c → Acts (join-action i l r) w w₄ x f c
+  acts : (f : File) (c : Cache) → Tables f w → Holds f w c → Acts (join-action i l r) w₄ x f c
   acts f c t ho = record { holds = subst (λ (y : ℕ). Holds f w₄ (link-pair i l r (pair-action l r f c .0, y) .0)) (d .answer) h₄; answer = d .answer }
     where
-      d : Acts (pair-action l r) w w₁ x f c
+      d : Acts (pair-action l r) w₁ x f c
       d = m .does f c t ho
 
       c₁ : Cache

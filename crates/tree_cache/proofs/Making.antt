@@ -112,7 +112,7 @@ module _ (w w′ : List ℕ) (l r n x : ℕ) (i : Interned w w′ l r n x) (wh :
       (λ k h. let q = same (MAPS + k) (omega arith) in omega (arith, wh .maps k h))
       (let q = same SENTINEL-ENTRY (omega arith) in omega (arith, wh .sentinel-entry))
 
-  interned-acts : (a : Action) (f : File) (c : Cache) → Looks a w l r n f c → Tables f w → Holds f w c → Acts a w w′ x f c
+  interned-acts : (a : Action) (f : File) (c : Cache) → Looks a w l r n f c → Tables f w → Holds f w c → Acts a w′ x f c
   interned-acts a f c look t ho = go (find-row l r (rows-of w)) refl (i .made)
     where
       act : (o : Option ℕ) → find-row l r (rows-of w) ≡ o → a f c ≡ keep-or-add o (look .key) n c
@@ -124,7 +124,7 @@ module _ (w w′ : List ℕ) (l r n x : ℕ) (i : Interned w w′ l r n x) (wh :
       sent : c .sentinel-entry ≡ entry-or-none (at w′ SENTINEL-ENTRY)
       sent = ho .sentinel-entry ∙ ap entry-or-none (sym (same SENTINEL-ENTRY (omega arith)))
 
-      go : (o : Option ℕ) → find-row l r (rows-of w) ≡ o → _≡_ {A = List Row × ℕ} (rows-of w′, x) (found-or-added o l r n (rows-of w)) → Acts a w w′ x f c
+      go : (o : Option ℕ) → find-row l r (rows-of w) ≡ o → _≡_ {A = List Row × ℕ} (rows-of w′, x) (found-or-added o l r n (rows-of w)) → Acts a w′ x f c
       go (some y) e q =
           let ho′ : Holds f w′ c =
           record { entries = ho .entries ∙ ap (λ (z : List Row × ℕ). map (entry-of f) (z .0)) (sym q); mapped = mapped; sentinel-entry = sent } in

@@ -87,7 +87,7 @@ module _ (w w₁ : List ℕ) (x : ℕ) (wh : Whole w) (ins : Inserted w w₁ SEN
       (λ i h. let m = other (MAPS + i) (λ z. omega arith) in omega (arith, y .maps i h))
       (let s = here in omega (arith, made .low))
 
-  acts : (f : File) (c : Cache) → Tables f w → Holds f w c → Acts sentinel-action w w₂ x f c
+  acts : (f : File) (c : Cache) → Tables f w → Holds f w c → Acts sentinel-action w₂ x f c
   unfolding new-sentinel
   acts f c t ho =
       let a = made .does f c t ho in

@@ -164,7 +164,7 @@ module _ (w w₁ : List ℕ) (h n : ℕ) (wh : Whole w) (names : Names w (at w P
           d : Cache × ℕ
           d = enter (unfolded f h) (with-entries (clear-sentinel (c .sentinel-entry) (c .entries)) c)
 
-          a : Acts (enter-action h) w₁ w₂ x f (with-entries (clear-sentinel (c .sentinel-entry) (c .entries)) c)
+          a : Acts (enter-action h) w₂ x f (with-entries (clear-sentinel (c .sentinel-entry) (c .entries)) c)
           a = e₂ .does f (with-entries (clear-sentinel (c .sentinel-entry) (c .entries)) c) t₁ (c₁ .holds f c t ho)
 
       -- The added tree is in the cache.

@@ -53,13 +53,13 @@ abbrev pub enter-action : ℕ → Action
 enter-action h f c = enter (unfolded f h) c
 
 -- The words did what the action does, with the entry x as the answer.
-pub record Acts (a : Action) (w w′ : List ℕ) (x : ℕ) (f : File) (c : Cache) : Type 0 where
+pub record Acts (a : Action) (w′ : List ℕ) (x : ℕ) (f : File) (c : Cache) : Type 0 where
   pub holds : Holds f w′ (a f c .0)
   pub answer : x ≡ a f c .1
 
 -- Whatever file and cache the words hold.
 abbrev pub Does : Action → List ℕ → List ℕ → ℕ → Type 0
-Does a w w′ x = (f : File) (c : Cache) → Tables f w → Holds f w c → Acts a w w′ x f c
+Does a w w′ x = (f : File) (c : Cache) → Tables f w → Holds f w c → Acts a w′ x f c
 
 -- All words but those of the map and of the entries are as they were.
 pub record Outside (w w′ : List ℕ) : Type 0 where
