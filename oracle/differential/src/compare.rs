@@ -216,6 +216,17 @@ pub fn run(
     generated: usize,
     seed: u64,
     most: usize,
+    say: impl FnMut(&str),
+) -> Result<Tally, String> {
+    run_sets(call, sets(generated, seed), seed, most, say)
+}
+
+/// The sets one after the other.
+pub fn run_sets(
+    call: NikvoldraRead,
+    sets: Vec<Set>,
+    seed: u64,
+    most: usize,
     mut say: impl FnMut(&str),
 ) -> Result<Tally, String> {
     let threads = std::thread::available_parallelism().map_or(1, usize::from);
@@ -224,7 +235,7 @@ pub fn run(
         .collect();
     let mut total = Tally::default();
     let mut names = vec![];
-    for set in sets(generated, seed) {
+    for set in sets {
         let began = Instant::now();
         let most = if set.name == "generated" {
             set.size

@@ -56,6 +56,15 @@ pub fn sets(generated: usize, seed: u64) -> Vec<Set> {
     ]
 }
 
+/// The inputs of 3 bytes whose first byte is one of these.
+pub fn three(first: u8, last: u8) -> Set {
+    let (first, last) = (first as usize, last as usize);
+    let size = (last + 1).saturating_sub(first) << 16;
+    set("of 3 bytes", size, 16, move |i| {
+        bytes_of((first << 16) + i, 3)
+    })
+}
+
 /// Each input has its own numbers.
 fn of(seed: u64, set: u64, i: usize) -> Rng {
     Rng::new(

@@ -1,7 +1,7 @@
 //! `read` and `session` compare, `benchmark` and `session-benchmark` measure.
 
 use differential::session_call::NikvoldraSession;
-use differential::{benchmark, compare, one_atom, session_benchmark, session_compare};
+use differential::{benchmark, compare, inputs, one_atom, session_benchmark, session_compare};
 
 #[cfg(not(feature = "stand-in"))]
 unsafe extern "C" {
@@ -39,6 +39,7 @@ unsafe extern "C" {
 
 const USAGE: &str = "\
 usage: differential read COUNT SEED [MOST]     COUNT generated inputs, and at most MOST of each other set
+       differential read-three FIRST LAST      all inputs of 3 bytes whose first byte lies there
        differential session COUNT SEED [MOST]  COUNT generated session files, and at most MOST of each other set
        differential benchmark                  the reading call, a table in Markdown
        differential session-benchmark          the session call, a table in Markdown";
@@ -74,6 +75,12 @@ fn run(args: &[&str]) -> Result<(), String> {
         ["read", count, seed, rest @ ..] => {
             let (count, seed, most) = (number(count)? as usize, number(seed)?, most(rest)?);
             compare::run(call, count, seed, most, |line| println!("read: {line}"))?;
+        }
+        ["read-three", first, last] => {
+            let three = inputs::three(number(first)? as u8, number(last)? as u8);
+            compare::run_sets(call, vec![three], 1, usize::MAX, |line| {
+                println!("read: {line}")
+            })?;
         }
         ["session", count, seed, rest @ ..] => {
             let (count, seed, most) = (number(count)? as usize, number(seed)?, most(rest)?);
