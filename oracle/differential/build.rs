@@ -19,10 +19,10 @@ fn main() {
         println!("cargo:rustc-link-arg-bins={library}");
     };
     link("libde_br.a");
-    let session = format!("{libraries}/libincremental.a");
+    let session = format!("{libraries}/libsession_call.a");
     println!("cargo:rerun-if-changed={session}");
     if Path::new(&session).exists() {
-        link("libincremental.a");
+        link("libsession_call.a");
         println!("cargo:rustc-cfg=session_call");
     }
 }
