@@ -84,14 +84,14 @@ pair-low w p h i n e = ltb-true i p (subst (λ (m : Node). named (at w ATOM-COUN
 -- ---- the sentinel, in the words and in the file
 
 module _ (f : File) (w : List ℕ) (h : ℕ) (t : Tables f w) where
-  sentinel-is : Names w (at w PAIR-COUNT) h → at w SENTINEL ≡ h → is-sentinel (f .sentinel) h ≡ true
+  pub sentinel-is : Names w (at w PAIR-COUNT) h → at w SENTINEL ≡ h → is-sentinel (f .sentinel) h ≡ true
   sentinel-is n e = go (f .sentinel) (sym e ∙ t .sentinel)
     where
       go : (o : Option ℕ) → h ≡ sentinel-word o → is-sentinel o h ≡ true
       go none q = absurd (nothing-named w (at w PAIR-COUNT) h n q)
       go (some s) q = eq-eqb h s q
 
-  sentinel-not : (at w SENTINEL ≡ h → ⊥) → is-sentinel (f .sentinel) h ≡ false
+  pub sentinel-not : (at w SENTINEL ≡ h → ⊥) → is-sentinel (f .sentinel) h ≡ false
   sentinel-not q = go (f .sentinel) (t .sentinel)
     where
       go : (o : Option ℕ) → at w SENTINEL ≡ sentinel-word o → is-sentinel o h ≡ false
@@ -126,16 +126,21 @@ sentinel-entered w w′ h x n e m =
     made-entered sentinel-action w w′ h x m
     (λ f c t ho. sym (ap (λ (u : Unfolded). enter u c) (unfolded-sentinel f h (sentinel-is f w h t n e)) ∙ enter-hole c))
 
+-- The unfolding of an atom.
+pub is-leaf : (w : List ℕ) (h : ℕ) → (at w SENTINEL ≡ h → ⊥) → is-atom (node-of h) ≡ true → (f : File) → Tables f w
+    → unfolded f h ≡ leaf h (bytes-named f (node-of h))
+is-leaf w h q a f t = go (node-of h) refl a
+  where
+    go : (n : Node) → node-of h ≡ n → is-atom n ≡ true → unfolded f h ≡ leaf h (bytes-named f (node-of h))
+    go (pair i) e b = absurd (not-true b)
+    go (listed-atom i) e b = unfolded-listed f h i (sentinel-not f w h t q) e ∙ ap (λ (m : Node). leaf h (bytes-named f m)) (sym e)
+    go (small-atom v) e b = unfolded-small f h v (sentinel-not f w h t q) e ∙ ap (λ (m : Node). leaf h (bytes-named f m)) (sym e)
+    go (unknown k i) e b = absurd (not-true b)
+
 pub atom-entered : (w w′ : List ℕ) (h x : ℕ) → (at w SENTINEL ≡ h → ⊥) → is-atom (node-of h) ≡ true → Made (atom-action h) w w′ x → Entered w w′ h x
 atom-entered w w′ h x q a m =
     made-entered (atom-action h) w w′ h x m
-    (λ f c t ho. sym (ap (λ (u : Unfolded). enter u c) (leaf-is f t (node-of h) refl a) ∙ enter-leaf h (bytes-named f (node-of h)) c))
-  where
-    leaf-is : (f : File) → Tables f w → (n : Node) → node-of h ≡ n → is-atom n ≡ true → unfolded f h ≡ leaf h (bytes-named f (node-of h))
-    leaf-is f t (pair i) e b = absurd (not-true b)
-    leaf-is f t (listed-atom i) e b = unfolded-listed f h i (sentinel-not f w h t q) e ∙ ap (λ (m : Node). leaf h (bytes-named f m)) (sym e)
-    leaf-is f t (small-atom v) e b = unfolded-small f h v (sentinel-not f w h t q) e ∙ ap (λ (m : Node). leaf h (bytes-named f m)) (sym e)
-    leaf-is f t (unknown k i) e b = absurd (not-true b)
+    (λ f c t ho. sym (ap (λ (u : Unfolded). enter u c) (is-leaf w h q a f t) ∙ enter-leaf h (bytes-named f (node-of h)) c))
 
 -- ---- a pair
 
@@ -150,7 +155,7 @@ module _ (w : List ℕ) (h i : ℕ) (wh : Whole w) (n : Names w (at w PAIR-COUNT
   abbrev right : ℕ
   right = at w (PAIRS + 2 * i + 1)
 
-  is-node : (f : File) → Tables f w → unfolded f h ≡ node i (unfolded f left) (unfolded f right)
+  pub is-node : (f : File) → Tables f w → unfolded f h ≡ node i (unfolded f left) (unfolded f right)
   is-node f t =
       let c = t .pair-count in
       let b : i < length (f .pairs) = omega (arith, low) in

@@ -12,12 +12,12 @@ use lib.Dec.{eqb}
 use Rattle.words.specs.Words.{at}
 use Rattle.allocator.specs.Handle.{Node, pair, listed-atom, small-atom, unknown, node-of}
 use Rattle.session_file.specs.File.{File}
-use Rattle.layout.specs.Layout.{PAIRS, FIRST, ATOM-LENGTHS, ATOM-COUNT, PAIR-COUNT, SENTINEL, MOVED, MAPS}
+use Rattle.layout.specs.Layout.{PAIRS, FIRST, ATOM-LENGTHS, ATOM-COUNT, PAIR-COUNT, SENTINEL, OPEN, MAPS}
 use Rattle.tree_cache.specs.Meaning.{Tables, Names, Handles, FirstOf, KeyOK, sentinel-words, atom-words, pair-words, unmapped}
 
--- ---- the file's tables lie below MOVED
+-- ---- the file's tables lie below OPEN
 
-module _ (w w′ : List ℕ) (same : (k : ℕ) → k < MOVED → at w′ k ≡ at w k) where
+module _ (w w′ : List ℕ) (same : (k : ℕ) → k < OPEN → at w′ k ≡ at w k) where
   names-kept : (p g h : ℕ) → g ≡ h → Names w p h → Names w′ p g
   names-kept p g h e n = rw (same ATOM-COUNT (omega arith), e) n
 

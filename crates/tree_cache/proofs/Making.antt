@@ -11,7 +11,7 @@ use Rattle.words.specs.Words.{at}
 use Rattle.words.proofs.Words.{map-append}
 use Rattle.session_file.specs.File.{File}
 use Rattle.session.specs.Cache.{Key, Parent, Entry, Cache, lookup, find-key, adjust, new-entry, with-entries, keep-or-add, find-or-add}
-use Rattle.layout.specs.Layout.{PAIR-COUNT, MOVED, MAPS, SENTINEL-ENTRY, USED, LEFT, RIGHT}
+use Rattle.layout.specs.Layout.{PAIR-COUNT, OPEN, MAPS, SENTINEL-ENTRY, USED, LEFT, RIGHT}
 use Rattle.layout.specs.Rows.{Row, rows-of, new-row, adjust-row, Sound}
 use Rattle.cache_entries.specs.Contracts.{find-row, found-or-added, Interned}
 use Rattle.tree_cache.specs.Meaning.{key-of, entry-of, Tables, KeyOK, entry-or-none, Whole, Holds}
@@ -21,7 +21,7 @@ use Rattle.tree_cache.proofs.Frames.{handles-kept, key-kept}
 
 -- ---- when the words are whole again
 
-module _ (w w′ : List ℕ) (wh : Whole w) (so : Sound w′) (same : (k : ℕ) → k < MOVED → at w′ k ≡ at w k) where
+module _ (w w′ : List ℕ) (wh : Whole w) (so : Sound w′) (same : (k : ℕ) → k < OPEN → at w′ k ≡ at w k) where
   pub whole-of : ((e : ℕ) → e < at w′ USED → KeyOK w e (at w′ (LEFT + e)) (at w′ (RIGHT + e)))
       → ((i : ℕ) → i < at w PAIR-COUNT → at w′ (MAPS + i) ≤ at w′ USED) → at w′ SENTINEL-ENTRY ≤ at w′ USED → Whole w′
   whole-of keys maps sent =

@@ -74,7 +74,7 @@ module _ (w w′ : List ℕ) (e n : ℕ) (wh : Whole w) (nz : at w SENTINEL-ENTR
     pub cleared-some : Cleared w w′ n
     cleared-some =
         record {
-          whole = adjusted-whole w w′ wh (t .sound) (t .low) e no-parents (t .used) (t .rows) maps sent;
+          whole = adjusted-whole w w′ wh (t .sound) (λ k l. t .low k (omega arith)) e no-parents (t .used) (t .rows) maps sent;
           used = t .used;
           few = t .few;
           links = t .links;
@@ -84,7 +84,7 @@ module _ (w w′ : List ℕ) (e n : ℕ) (wh : Whole w) (nz : at w SENTINEL-ENTR
           above = t .high;
           holds = λ f c tb ho.
               subst (λ (o : Option ℕ). Holds f w′ (with-entries (clear-sentinel o (c .entries)) c)) (sym (here f c ho))
-              (adjusted-holds w w′ wh (t .sound) (t .low) e no-parents (t .used) (t .rows) maps sent f c tb ho);
+              (adjusted-holds w w′ wh (t .sound) (λ k l. t .low k (omega arith)) e no-parents (t .used) (t .rows) maps sent f c tb ho);
           moved = λ f c tb ho.
               t .moved ∙ sym (parents-of-rows f w e sentinel-low) ∙ ap (parents-at e) (sym (ho .entries))
               ∙ ap (λ (o : Option ℕ). sentinel-parents o (c .entries)) (sym (here f c ho));
@@ -153,10 +153,10 @@ module _ (w w₁ : List ℕ) (h n : ℕ) (wh : Whole w) (names : Names w (at w P
       holds f c t ho =
           subst (λ (y : ℕ). Holds f w₃ (place-root (sentinel-parents (c .sentinel-entry) (c .entries)) (d .0, y))) (a .answer)
           (subst (λ (ps : List Parent). Holds f w₃ (place-root ps (d .0, x))) (still-moved ∙ c₁ .moved f c t ho)
-          (adjusted-holds w₂ w₃ (e₂ .whole) (p .sound) below₃ x (move-parents (moved-of w₂ n)) (p .used) (p .rows) maps₃ sent₃ f (d .0) t₂ (a .holds)))
+          (adjusted-holds w₂ w₃ (e₂ .whole) (p .sound) (λ k l. below₃ k (omega arith)) x (move-parents (moved-of w₂ n)) (p .used) (p .rows) maps₃ sent₃ f (d .0) t₂ (a .holds)))
         where
           t₁ : Tables f w₁
-          t₁ = tables-kept w w₁ (c₁ .below) f (wh .handles) t
+          t₁ = tables-kept w w₁ (λ k l. c₁ .below k (omega arith)) f (wh .handles) t
 
           t₂ : Tables f w₂
           t₂ = tables-kept w₁ w₂ (λ k l. e₂ .outside .below k (omega arith)) f (c₁ .whole .handles) t₁
@@ -173,7 +173,7 @@ module _ (w w₁ : List ℕ) (h n : ℕ) (wh : Whole w) (names : Names w (at w P
           let u = c₁ .used in
           let v = p .used in
           record {
-            whole = adjusted-whole w₂ w₃ (e₂ .whole) (p .sound) below₃ x (move-parents (moved-of w₂ n)) v (p .rows) maps₃ sent₃;
+            whole = adjusted-whole w₂ w₃ (e₂ .whole) (p .sound) (λ k l. below₃ k (omega arith)) x (move-parents (moved-of w₂ n)) v (p .rows) maps₃ sent₃;
             more = omega (arith, e₂ .more);
             bounded = bounded;
             below = λ k l. below₃ k l ∙ e₂ .outside .below k (omega arith) ∙ c₁ .below k l;

@@ -17,7 +17,7 @@ ghost use Rattle.tree_cache.specs.Meaning.{Names, Whole, unmapped};
 ghost use Rattle.tree_cache.specs.Contracts.{is-listed, Stands, Measured, sentinel-action, atom-action, pair-action, Made, Joined, Entered, Room, Cleared, Updated};
 
 // The first word of an atom's key; the second one is its handle.
-const ATOM_KEY: u32 = 0xfffffffe;
+pub const ATOM_KEY: u32 = 0xfffffffe;
 
 // The first word of a sentinel's key; the second one is its own entry number.
 const SENTINEL_KEY: u32 = 0xffffffff;
@@ -35,7 +35,7 @@ fn long(x: u32) -> u64
 }
 
 // One more than the entry of pair i, or 0.
-fn map_of(work: &[u32], i: usize) -> u32
+pub fn map_of(work: &[u32], i: usize) -> u32
     requires { ⌜ (524288 ≤ length (now work)) × (i < 1024) ⌝ }
     ensures { λ r. ⌜ r ≡ at (now (work .entry)) (MAPS + i) ⌝ }
 {
@@ -43,7 +43,7 @@ fn map_of(work: &[u32], i: usize) -> u32
 }
 
 // The left handle of pair i.
-fn left_of(work: &[u32], i: usize) -> NodePtr
+pub fn left_of(work: &[u32], i: usize) -> NodePtr
     requires { ⌜ (524288 ≤ length (now work)) × (i < 1024) ⌝ }
     ensures { λ r. ⌜ r .0 ≡ at (now (work .entry)) (PAIRS + 2 * i) ⌝ }
 {
@@ -51,7 +51,7 @@ fn left_of(work: &[u32], i: usize) -> NodePtr
 }
 
 // The right handle of pair i.
-fn right_of(work: &[u32], i: usize) -> NodePtr
+pub fn right_of(work: &[u32], i: usize) -> NodePtr
     requires { ⌜ (524288 ≤ length (now work)) × (i < 1024) ⌝ }
     ensures { λ r. ⌜ r .0 ≡ at (now (work .entry)) (PAIRS + 2 * i + 1) ⌝ }
 {
@@ -59,7 +59,7 @@ fn right_of(work: &[u32], i: usize) -> NodePtr
 }
 
 // Whether the handle is the sentinel's.
-fn is_sentinel(work: &[u32], h: NodePtr) -> bool
+pub fn is_sentinel(work: &[u32], h: NodePtr) -> bool
     requires { ⌜ 524288 ≤ length (now work) ⌝ }
     ensures { λ r. ⌜ r ≡ eqb (at (now (work .entry)) SENTINEL) (h .0) ⌝ }
 {
@@ -67,7 +67,7 @@ fn is_sentinel(work: &[u32], h: NodePtr) -> bool
 }
 
 // Whether the handle names a listed atom.
-fn is_listed(h: NodePtr) -> bool
+pub fn is_listed(h: NodePtr) -> bool
     ensures { λ r. ⌜ r ≡ is-listed (node-of (h .0)) ⌝ }
 {
     match h.object_type() {
@@ -87,7 +87,7 @@ fn first_of(work: &[u32], i: usize) -> u32
 }
 
 // The handle of an atom that stands for all atoms with the same bytes.
-fn atom_key(work: &[u32], h: NodePtr) -> u32
+pub fn atom_key(work: &[u32], h: NodePtr) -> u32
     requires { ⌜ (Whole (now work)) × (Names (now work) (at (now work) PAIR-COUNT) (h .0)) × (is-atom (node-of (h .0)) ≡ true) ⌝ }
     ensures { λ r. ⌜ Stands (now (work .entry)) (h .0) r ⌝ }
 {

@@ -1,0 +1,10 @@
+pub mod Frames
+pub mod Items
+pub mod Turning
+pub mod Storing
+pub mod Atoms
+pub mod Values
+pub mod Opening
+pub mod Closing
+pub mod Looping
+pub mod Adding
