@@ -10,7 +10,7 @@ use lib.Seq.{paste, length-paste, length-paste-head, length-take-le, getD-set-sa
 use Rattle.words.specs.Words.{at, part}
 use Rattle.words.proofs.Words.{part-length, part-at, map-append}
 use Rattle.words.proofs.Copies.{paste-other}
-use Rattle.session.specs.Cache.{move-parents, no-parents}
+use Rattle.serializer.specs.Cache.{move-parents, no-parents}
 use Rattle.layout.specs.Layout.{MOVED, USED, COUNTS, PARENTS, SEEN, ENTRIES}
 use Rattle.layout.specs.Rows.{parent-of, parents-of, Sound}
 use Rattle.cache_entries.specs.Contracts.{moved-of, MovedLinks, Taken, Placed}

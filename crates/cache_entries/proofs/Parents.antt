@@ -12,7 +12,7 @@ use lib.Seq.{getD-set-same, getD-set-other}
 use borrow.Author.Tests.{lt-ltb, le-ltb}
 use Rattle.words.specs.Words.{at, part}
 use Rattle.words.proofs.Words.{part-length, part-same, part-more, part-store, map-append, map-set}
-use Rattle.session.specs.Cache.{add-parent}
+use Rattle.serializer.specs.Cache.{add-parent}
 use Rattle.layout.specs.Layout.{USED, COUNTS, PARENTS, ENTRIES}
 use Rattle.layout.specs.Rows.{parent-of, parents-of, Sound}
 use Rattle.cache_entries.specs.Contracts.{ParentAdded}

@@ -7,7 +7,7 @@ use mathlib.Core.Option.{Option, none, some}
 use lib.Dec.{eqb}
 use lib.ListN.{length}
 use Rattle.words.specs.Words.{at, part}
-use Rattle.session.specs.Cache.{later, add-parent, move-parents, no-parents}
+use Rattle.serializer.specs.Cache.{later, add-parent, move-parents, no-parents}
 use Rattle.layout.specs.Layout.{MOVED, USED, LEFT, RIGHT, SEEN, ENTRIES}
 use Rattle.layout.specs.Rows.{Row, rows-of, new-row, adjust-row, parent-of, parents-of, Sound, all-counts}
 use Rattle.cache_entries.specs.declared.Found.{Found}

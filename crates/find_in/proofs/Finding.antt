@@ -11,8 +11,8 @@ use Rattle.path.specs.Measure.{counted}
 use Rattle.allocator.specs.Handle.{nil, handle-of}
 use Rattle.search.specs.Search.{Parents, search}
 use Rattle.search.specs.PathBits.{search-ends}
-use Rattle.session.specs.FindPath as definition
-use Rattle.session.specs.FindPath.{without-terminator, find-in}
+use Rattle.serializer.specs.FindPath as definition
+use Rattle.serializer.specs.FindPath.{without-terminator, find-in}
 use Rattle.layout.specs.Layout.{ENTRIES}
 use Rattle.layout.specs.Rows.{stack-of, Sound}
 use Rattle.find_path.specs.declared.Path.{Path}

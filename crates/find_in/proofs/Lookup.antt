@@ -13,9 +13,9 @@ use Rattle.words.specs.Choice.{by-cond, by-lt, cond-true}
 use Rattle.words.specs.Words.{at, part}
 use Rattle.allocator.specs.Handle.{Node, pair, listed-atom, small-atom, unknown, node-of, index-of, is-atom}
 use Rattle.session_file.specs.File.{File, named}
-use Rattle.session.specs.Cache.{Entry, Cache, atom-key, find-key, length-at, parents-at}
-use Rattle.session.specs.Writer.{or-zero, atom-entry}
-use Rattle.session.specs.FindPath.{parents-in}
+use Rattle.serializer.specs.Cache.{Entry, Cache, atom-key, find-key, length-at, parents-at}
+use Rattle.serializer.specs.Writer.{or-zero, atom-entry}
+use Rattle.serializer.specs.FindPath.{parents-in}
 use Rattle.layout.specs.Layout.{MAPS, USED, PAIR-COUNT, ENTRIES}
 use Rattle.layout.specs.Rows.{row-of, rows-of, parents-of, length-of, Sound}
 use Rattle.cache_entries.specs.declared.Found.{Found}

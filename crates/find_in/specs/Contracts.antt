@@ -9,9 +9,9 @@ use Rattle.allocator.specs.Handle.{pair, node-of, is-atom}
 use Rattle.search.specs.Search.{member}
 use Rattle.search.specs.PathBits.{Ends}
 use Rattle.session_file.specs.File.{File}
-use Rattle.session.specs.Cache.{Cache, length-at}
-use Rattle.session.specs.Writer.{atom-entry, pair-entry}
-use Rattle.session.specs.FindPath.{without-terminator, find-in}
+use Rattle.serializer.specs.Cache.{Cache, length-at}
+use Rattle.serializer.specs.Writer.{atom-entry, pair-entry}
+use Rattle.serializer.specs.FindPath.{without-terminator, find-in}
 use Rattle.layout.specs.Layout.{ENTRIES}
 use Rattle.layout.specs.Rows.{stack-of}
 use Rattle.find_path.specs.declared.Path.{Path}

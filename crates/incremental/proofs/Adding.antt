@@ -11,8 +11,8 @@ use Rattle.words.specs.Words.{at}
 use Rattle.path.specs.Bytes.{odd}
 use Rattle.session_file.specs.File.{File}
 use Rattle.session_file.specs.Unfold.{unfolded}
-use Rattle.session.specs.Cache.{Cache, update}
-use Rattle.session.specs.Writer.{Written}
+use Rattle.serializer.specs.Cache.{Cache, update}
+use Rattle.serializer.specs.Writer.{Written}
 use Rattle.layout.specs.Layout.{ATOMS, ATOM-COUNT, PAIR-COUNT, OPEN, STACK, TOPS, WRITTEN, ENTRIES}
 use Rattle.layout.specs.Rows.{all-counts, stack-of}
 use Rattle.stack.specs.Contracts.{marked-at}

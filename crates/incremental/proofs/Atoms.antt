@@ -14,7 +14,7 @@ use Rattle.allocator.specs.Handle.{Node, pair, listed-atom, small-atom, unknown
 use Rattle.allocator.specs.SmallAtom.{small-bytes}
 use Rattle.allocator.specs.SmallAtomLaws.{len-at-most, length-small-bytes}
 use Rattle.session_file.specs.File.{named}
-use Rattle.session.specs.Items.{atom-item, item-bytes}
+use Rattle.serializer.specs.Items.{atom-item, item-bytes}
 use Rattle.layout.specs.Layout.{ATOMS, PAIR-COUNT}
 use Rattle.write_item.specs.declared.Put.{Put}
 use Rattle.write_item.specs.Answers.{written}

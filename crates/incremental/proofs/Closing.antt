@@ -10,11 +10,11 @@ use Rattle.path.specs.Measure.{counted}
 use Rattle.allocator.specs.declared.NodePtr.{NodePtr}
 use Rattle.session_file.specs.File.{File}
 use Rattle.session_file.specs.Unfold.{unfolded}
-use Rattle.session.specs.Cache.{Cache}
-use Rattle.session.specs.Writer.{Todo, parse, close, Written, push, pop2}
-use Rattle.session.specs.FindPath.{find-in}
-use Rattle.session.specs.Steps.{room-in}
-use Rattle.session.specs.Loop.{turn-done, turn-close}
+use Rattle.serializer.specs.Cache.{Cache}
+use Rattle.serializer.specs.Writer.{Todo, parse, close, Written, push, pop2}
+use Rattle.serializer.specs.FindPath.{find-in}
+use Rattle.serializer.specs.Steps.{room-in}
+use Rattle.serializer.specs.Loop.{turn-done, turn-close}
 use Rattle.layout.specs.Layout.{PAIRS, PAIR-COUNT, OPEN, WRITTEN}
 use Rattle.layout.specs.Rows.{stack-of}
 use Rattle.stack.specs.Contracts.{PoppedTwo}

@@ -7,7 +7,7 @@ use native.Mathlib.Omega.{arith}
 use lib.ListN.{length}
 use Rattle.words.specs.Words.{at}
 use Rattle.session_file.specs.File.{File}
-use Rattle.session.specs.Cache.{Cache}
+use Rattle.serializer.specs.Cache.{Cache}
 use Rattle.layout.specs.Layout.{ATOMS, PAIRS, ATOM-COUNT, PAIR-COUNT, OPEN, STACK, MOVED, MAPS, SENTINEL-ENTRY, USED, LEFT, RIGHT, SEEN, COPIES, ENTRIES}
 use Rattle.layout.specs.Rows.{Row, all-counts}
 use Rattle.stack.specs.Contracts.{Stacked}

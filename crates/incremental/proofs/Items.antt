@@ -15,11 +15,11 @@ use Rattle.atom.specs.RoundTrip.{has-form}
 use Rattle.atom.specs.Write as atom
 use Rattle.atom.specs.Write.{put}
 use Rattle.atom.specs.WriteLaws.{put-full, put-room}
-use Rattle.session.specs.Items.{Item, cons-item, atom-item, reference-item, item-size, size-of, bytes-or-none, item-bytes, output}
-use Rattle.session.specs.Output.{item-size-is}
-use Rattle.session.specs.BytesRead.{nonempty}
-use Rattle.session.specs.Writer.{Todo, Written}
-use Rattle.session.specs.Steps.{too-deep, room-in}
+use Rattle.serializer.specs.Items.{Item, cons-item, atom-item, reference-item, item-size, size-of, bytes-or-none, item-bytes, output}
+use Rattle.serializer.specs.Output.{item-size-is}
+use Rattle.serializer.specs.BytesRead.{nonempty}
+use Rattle.serializer.specs.Writer.{Todo, Written}
+use Rattle.serializer.specs.Steps.{too-deep, room-in}
 use Rattle.write_item.specs.declared.Put.the-variants.{Next, Full}
 use Rattle.write_item.specs.Answers.{written}
 

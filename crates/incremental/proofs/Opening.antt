@@ -19,12 +19,12 @@ use Rattle.allocator.specs.Handle.{Node, pair, listed-atom, small-atom, unknown
 use Rattle.session_file.specs.File.{File}
 use Rattle.session_file.specs.Unfold.{Unfolded, unfolded}
 use Rattle.session_file.specs.UnfoldLaws.{is-pair-handle}
-use Rattle.session.specs.Cache.{Cache}
-use Rattle.session.specs.Items.{cons-item, item-bytes}
-use Rattle.session.specs.Writer.{Todo, parse, close, Written, and-then, pair-entry, put-if}
-use Rattle.session.specs.FindPath.{find-in}
-use Rattle.session.specs.Steps.{open-pairs, too-deep, room-in}
-use Rattle.session.specs.Loop.{turn-pair}
+use Rattle.serializer.specs.Cache.{Cache}
+use Rattle.serializer.specs.Items.{cons-item, item-bytes}
+use Rattle.serializer.specs.Writer.{Todo, parse, close, Written, and-then, pair-entry, put-if}
+use Rattle.serializer.specs.FindPath.{find-in}
+use Rattle.serializer.specs.Steps.{open-pairs, too-deep, room-in}
+use Rattle.serializer.specs.Loop.{turn-pair}
 use Rattle.layout.specs.Layout.{PAIRS, PAIR-COUNT, OPEN}
 use Rattle.find_path.specs.declared.Path.the-variants.{NoPath}
 use Rattle.write_item.specs.declared.Put.the-variants as item

@@ -11,8 +11,8 @@ use borrow.Author.Tests.{eq-eqb, ne-eqb}
 use Rattle.words.specs.Words.{at}
 use Rattle.session_file.specs.File.{File}
 use Rattle.session_file.specs.Unfold.{unfolded}
-use Rattle.session.specs.Cache.{Cache}
-use Rattle.session.specs.Writer.{Todo, parse, close, Written}
+use Rattle.serializer.specs.Cache.{Cache}
+use Rattle.serializer.specs.Writer.{Todo, parse, close, Written}
 use Rattle.layout.specs.Layout.{PAIRS, PAIR-COUNT, OPEN, STACK, WRITTEN}
 use Rattle.stack.specs.Contracts.{Stacked}
 use Rattle.stack.proofs.Stacks.{stacked-same, stack-same}

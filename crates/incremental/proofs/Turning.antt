@@ -12,11 +12,11 @@ use Rattle.allocator.specs.declared.NodePtr.{NodePtr}
 use Rattle.session_file.specs.File.{File}
 use Rattle.session_file.specs.Unfold.{unfolded}
 use Rattle.session_file.specs.UnfoldLaws.{unfolded-sentinel}
-use Rattle.session.specs.Cache.{Cache}
-use Rattle.session.specs.Writer.{Todo, parse, Written}
-use Rattle.session.specs.FindPath.{find-in}
-use Rattle.session.specs.Steps.{room-in}
-use Rattle.session.specs.Loop.{turn-hole}
+use Rattle.serializer.specs.Cache.{Cache}
+use Rattle.serializer.specs.Writer.{Todo, parse, Written}
+use Rattle.serializer.specs.FindPath.{find-in}
+use Rattle.serializer.specs.Steps.{room-in}
+use Rattle.serializer.specs.Loop.{turn-hole}
 use Rattle.layout.specs.Layout.{PAIR-COUNT, SENTINEL, STACK, WRITTEN}
 use Rattle.layout.specs.Rows.{stack-of}
 use Rattle.find_path.specs.declared.Path.{Path}

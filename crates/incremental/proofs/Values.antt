@@ -18,14 +18,14 @@ use Rattle.search.specs.PathBits.{Ends}
 use Rattle.session_file.specs.File.{File}
 use Rattle.session_file.specs.Unfold.{Unfolded, leaf, unfolded}
 use Rattle.session_file.specs.UnfoldLaws.{is-pair-handle}
-use Rattle.session.specs.Cache.{Cache, length-at}
-use Rattle.session.specs.Items.{Item, atom-item, reference-item, item-bytes}
-use Rattle.session.specs.Output.{item-size-is}
-use Rattle.session.specs.Writer as session
-use Rattle.session.specs.Writer.{Todo, parse, Written, done, and-then, atom-entry, pair-entry, push, put-if, put-whole}
-use Rattle.session.specs.FindPath.{without-terminator, find-in}
-use Rattle.session.specs.Steps.{room-in}
-use Rattle.session.specs.Loop.{turn-atom, turn-atom-ref, turn-pair-ref}
+use Rattle.serializer.specs.Cache.{Cache, length-at}
+use Rattle.serializer.specs.Items.{Item, atom-item, reference-item, item-bytes}
+use Rattle.serializer.specs.Output.{item-size-is}
+use Rattle.serializer.specs.Writer as session
+use Rattle.serializer.specs.Writer.{Todo, parse, Written, done, and-then, atom-entry, pair-entry, push, put-if, put-whole}
+use Rattle.serializer.specs.FindPath.{without-terminator, find-in}
+use Rattle.serializer.specs.Steps.{room-in}
+use Rattle.serializer.specs.Loop.{turn-atom, turn-atom-ref, turn-pair-ref}
 use Rattle.layout.specs.Layout.{PAIR-COUNT, ENTRIES, DEPTH}
 use Rattle.find_path.specs.declared.Path.{Path}
 use Rattle.find_path.specs.declared.Path.the-variants.{At, NoPath}

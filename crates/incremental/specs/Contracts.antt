@@ -10,12 +10,12 @@ use Rattle.path.specs.Measure.{counted}
 use Rattle.allocator.specs.Handle.{node-of}
 use Rattle.session_file.specs.File.{File}
 use Rattle.session_file.specs.Unfold.{unfolded}
-use Rattle.session.specs.Cache.{Cache}
-use Rattle.session.specs.Items.{atom-item, item-bytes}
-use Rattle.session.specs.Writer as session
-use Rattle.session.specs.Writer.{Todo, parse, Written, resume}
-use Rattle.session.specs.Steps.{room-in}
-use Rattle.session.specs.FindPath.{find-in}
+use Rattle.serializer.specs.Cache.{Cache}
+use Rattle.serializer.specs.Items.{atom-item, item-bytes}
+use Rattle.serializer.specs.Writer as session
+use Rattle.serializer.specs.Writer.{Todo, parse, Written, resume}
+use Rattle.serializer.specs.Steps.{room-in}
+use Rattle.serializer.specs.FindPath.{find-in}
 use Rattle.layout.specs.Layout.{PAIR-COUNT, SENTINEL}
 use Rattle.find_path.specs.declared.Path.{Path}
 use Rattle.stack.specs.Contracts.{PushedMarked, PoppedTwo}

@@ -9,9 +9,9 @@ use Rattle.words.specs.Words.{at}
 use Rattle.search.specs.Search.{member}
 use Rattle.session_file.specs.File.{File}
 use Rattle.session_file.specs.Unfold.{unfolded}
-use Rattle.session.specs.Cache.{Cache}
-use Rattle.session.specs.Items.{size-of, output}
-use Rattle.session.specs.Writer.{Todo, parse, close, Written}
+use Rattle.serializer.specs.Cache.{Cache}
+use Rattle.serializer.specs.Items.{size-of, output}
+use Rattle.serializer.specs.Writer.{Todo, parse, close, Written}
 use Rattle.layout.specs.Layout.{ATOMS, PAIRS, ATOM-COUNT, PAIR-COUNT, OPEN, MOVED, SEEN, COPIES, ENTRIES}
 use Rattle.layout.specs.Rows.{stack-of, all-counts}
 use Rattle.stack.specs.Contracts.{Stacked, marked-at}

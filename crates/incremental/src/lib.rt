@@ -12,7 +12,7 @@ ghost use lib.ListN.{length};
 ghost use Rattle.words.specs.Words.{at};
 ghost use Rattle.atom.specs.Write.{put};
 ghost use Rattle.allocator.specs.Handle.{node-of, is-atom, is-pair};
-ghost use Rattle.session.specs.Items.{atom-item, item-bytes};
+ghost use Rattle.serializer.specs.Items.{atom-item, item-bytes};
 ghost use Rattle.layout.specs.Layout.{ATOMS, OPEN, ATOM-COUNT, PAIR-COUNT, ENTRIES, DEPTH};
 ghost use Rattle.stack.specs.Contracts.{Stacked};
 ghost use Rattle.find_path.specs.declared.Path.the-variants.{At, NoPath};

@@ -15,7 +15,7 @@ use Rattle.allocator.specs.Handle.{Node, pair, listed-atom, small-atom, unknown
 use Rattle.session_file.specs.File.{File, named}
 use Rattle.session_file.specs.Unfold.{Unfolded, hole, leaf, node, is-sentinel, unfolded}
 use Rattle.session_file.specs.UnfoldLaws.{unfolded-sentinel, unfolded-listed, unfolded-small, unfolded-pair}
-use Rattle.session.specs.Cache.{Cache, lookup, atom-key, find-or-add, meet-sentinel, join-pair, known-or, enter}
+use Rattle.serializer.specs.Cache.{Cache, lookup, atom-key, find-or-add, meet-sentinel, join-pair, known-or, enter}
 use Rattle.layout.specs.Layout.{PAIRS, ATOM-COUNT, PAIR-COUNT, SENTINEL, MAPS, USED, ENTRIES}
 use Rattle.tree_cache.specs.Meaning.{bytes-named, sentinel-word, no-pair, Tables, Names, entry-or-none, unmapped, Whole, Holds}
 use Rattle.tree_cache.specs.Contracts.{Action, sentinel-action, atom-action, join-action, enter-action, Acts, Made, Joined, span, Bounded, Entered, Room}

@@ -7,7 +7,7 @@ use native.Mathlib.Omega.{arith}
 use Rattle.words.specs.Words.{at}
 use Rattle.allocator.specs.Handle.{node-of}
 use Rattle.session_file.specs.File.{File}
-use Rattle.session.specs.Cache.{Cache, atom-key, pair-key, pair-length, length-at, find-or-add}
+use Rattle.serializer.specs.Cache.{Cache, atom-key, pair-key, pair-length, length-at, find-or-add}
 use Rattle.layout.specs.Layout.{USED}
 use Rattle.layout.specs.Rows.{length-of}
 use Rattle.cache_entries.specs.Contracts.{Interned}

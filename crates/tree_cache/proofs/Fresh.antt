@@ -13,7 +13,7 @@ use Rattle.words.specs.Lists.{same, same-refl}
 use Rattle.words.specs.Words.{at, tabulate}
 use Rattle.allocator.specs.Handle.{node-of}
 use Rattle.session_file.specs.File.{File, named}
-use Rattle.session.specs.Cache.{fresh}
+use Rattle.serializer.specs.Cache.{fresh}
 use Rattle.layout.specs.Layout.{FIRST, PAIR-COUNT, SENTINEL, MAPS, SENTINEL-ENTRY, USED, COUNTS, HEADS, SEEN, ENTRIES}
 use Rattle.layout.specs.Rows.{rows-of, prev, Chained, Sound, all-counts}
 use Rattle.tree_cache.specs.Meaning.{first-same, sentinel-word, no-pair, Tables, Handles, Names, unmapped, Whole, Holds}

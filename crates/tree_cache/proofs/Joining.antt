@@ -14,7 +14,7 @@ use lib.Seq.{getD-set-same, getD-set-other}
 use borrow.Author.Tests.{eq-eqb, ne-eqb}
 use Rattle.words.specs.Words.{at}
 use Rattle.session_file.specs.File.{File}
-use Rattle.session.specs.Cache.{Cache, lookup, adjust, add-parent, with-entries, link-pair}
+use Rattle.serializer.specs.Cache.{Cache, lookup, adjust, add-parent, with-entries, link-pair}
 use Rattle.layout.specs.Layout.{PAIR-COUNT, MAPS, SENTINEL-ENTRY, USED, LEFT, RIGHT, SEEN, ENTRIES}
 use Rattle.layout.specs.Rows.{Row}
 use Rattle.cache_entries.specs.Contracts.{ParentAdded}

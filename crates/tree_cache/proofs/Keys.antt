@@ -16,7 +16,7 @@ use Rattle.allocator.specs.Handle.{Node, pair, listed-atom, small-atom, unknown
 use Rattle.allocator.specs.HandleLaws.{index-of-handle, same-node}
 use Rattle.allocator.specs.SmallAtomLaws.{same-small-bytes, listed-not-small}
 use Rattle.session_file.specs.File.{File}
-use Rattle.session.specs.Cache.{Key, sentinel-key, atom-key, pair-key, same-key, find-key}
+use Rattle.serializer.specs.Cache.{Key, sentinel-key, atom-key, pair-key, same-key, find-key}
 use Rattle.layout.specs.Layout.{USED, LEFT, RIGHT, ENTRIES}
 use Rattle.layout.specs.Rows.{Row, row-of, rows-of}
 use Rattle.cache_entries.specs.Contracts.{find-row}

@@ -15,7 +15,7 @@ use Rattle.atom.specs.PrefixLaws.{carries-width, single-one, single-other}
 use Rattle.atom.specs.WriteLaws.{width-of-single, width-of-sized, length-some}
 use Rattle.allocator.specs.SmallAtom.{len-for-value, small-bytes}
 use Rattle.allocator.specs.SmallAtomLaws.{len-at-most, len-at-least, number-small-bytes, length-small-bytes, small-bytes-nil}
-use Rattle.session.specs.Cache.{pair-length}
+use Rattle.serializer.specs.Cache.{pair-length}
 
 -- ---- a pair
 

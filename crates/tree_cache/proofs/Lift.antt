@@ -8,7 +8,7 @@ use lib.ListN.{length, getD, List·getD-append}
 use Rattle.words.specs.Words.{at}
 use Rattle.words.proofs.Words.{length-tabulate, getD-tabulate}
 use Rattle.session_file.specs.File.{File}
-use Rattle.session.specs.Cache.{Entry, adjust, parents-at, length-at}
+use Rattle.serializer.specs.Cache.{Entry, adjust, parents-at, length-at}
 use Rattle.layout.specs.Layout.{USED, LEFT, RIGHT}
 use Rattle.layout.specs.Rows.{Row, row-of, rows-of, new-row, adjust-row, parents-of, length-of}
 use Rattle.tree_cache.specs.Meaning.{entry-of}

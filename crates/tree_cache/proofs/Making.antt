@@ -10,7 +10,7 @@ use Rattle.words.specs.Choice.{by-lt}
 use Rattle.words.specs.Words.{at}
 use Rattle.words.proofs.Words.{map-append}
 use Rattle.session_file.specs.File.{File}
-use Rattle.session.specs.Cache.{Key, Parent, Entry, Cache, lookup, find-key, adjust, new-entry, with-entries, keep-or-add, find-or-add}
+use Rattle.serializer.specs.Cache.{Key, Parent, Entry, Cache, lookup, find-key, adjust, new-entry, with-entries, keep-or-add, find-or-add}
 use Rattle.layout.specs.Layout.{PAIR-COUNT, OPEN, MAPS, SENTINEL-ENTRY, USED, LEFT, RIGHT}
 use Rattle.layout.specs.Rows.{Row, rows-of, new-row, adjust-row, Sound}
 use Rattle.cache_entries.specs.Contracts.{find-row, found-or-added, Interned}

@@ -10,7 +10,7 @@ use lib.ListN.{length, set, length-set}
 use lib.Seq.{getD-set-same, getD-set-other}
 use Rattle.words.specs.Words.{at}
 use Rattle.session_file.specs.File.{File}
-use Rattle.session.specs.Cache.{sentinel-key, Entry, Cache, find-key, find-or-add, keep-or-add}
+use Rattle.serializer.specs.Cache.{sentinel-key, Entry, Cache, find-key, find-or-add, keep-or-add}
 use Rattle.layout.specs.Layout.{MAPS, SENTINEL-ENTRY, USED, LEFT, RIGHT, SEEN, ENTRIES}
 use Rattle.layout.specs.Rows.{Row, rows-of}
 use Rattle.cache_entries.specs.Contracts.{Inserted, found-or-added, Interned}

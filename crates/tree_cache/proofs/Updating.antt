@@ -11,7 +11,7 @@ use Rattle.words.proofs.Words.{part-same}
 use Rattle.allocator.specs.Handle.{node-of}
 use Rattle.session_file.specs.File.{File}
 use Rattle.session_file.specs.Unfold.{unfolded}
-use Rattle.session.specs.Cache.{Parent, Cache, parents-at, no-parents, move-parents, with-entries, sentinel-parents, clear-sentinel, place-root, enter, update}
+use Rattle.serializer.specs.Cache.{Parent, Cache, parents-at, no-parents, move-parents, with-entries, sentinel-parents, clear-sentinel, place-root, enter, update}
 use Rattle.layout.specs.Layout.{ATOM-COUNT, PAIR-COUNT, MOVED, MAPS, SENTINEL-ENTRY, USED, ENTRIES}
 use Rattle.layout.specs.Rows.{parent-of}
 use Rattle.cache_entries.specs.Contracts.{moved-of, Taken, Placed, MovedLinks}

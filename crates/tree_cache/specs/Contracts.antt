@@ -8,7 +8,7 @@ use Rattle.atom.specs.Write.{serialized-length}
 use Rattle.allocator.specs.Handle.{Node, pair, listed-atom, small-atom, unknown, node-of}
 use Rattle.session_file.specs.File.{File}
 use Rattle.session_file.specs.Unfold.{unfolded}
-use Rattle.session.specs.Cache.{Cache, atom-key, pair-key, pair-length, length-at, find-or-add, meet-sentinel, join-pair, enter, update, with-entries, clear-sentinel, sentinel-parents}
+use Rattle.serializer.specs.Cache.{Cache, atom-key, pair-key, pair-length, length-at, find-or-add, meet-sentinel, join-pair, enter, update, with-entries, clear-sentinel, sentinel-parents}
 use Rattle.layout.specs.Layout.{PAIR-COUNT, MOVED, MAPS, USED, SEEN, ENTRIES}
 use Rattle.layout.specs.Rows.{all-counts}
 use Rattle.cache_entries.specs.Contracts.{moved-of}

@@ -13,7 +13,7 @@ use Rattle.atom.specs.Write.{serialized-length}
 use Rattle.allocator.specs.Handle.{Node, pair, listed-atom, small-atom, unknown, node-of}
 use Rattle.allocator.specs.SmallAtom.{small-bytes, fits-in-small-atom}
 use Rattle.session_file.specs.File.{File, Pair, named}
-use Rattle.session.specs.Cache.{Key, sentinel-key, atom-key, pair-key, Entry, Cache, lookup}
+use Rattle.serializer.specs.Cache.{Key, sentinel-key, atom-key, pair-key, Entry, Cache, lookup}
 use Rattle.layout.specs.Layout.{PAIRS, FIRST, ATOM-LENGTHS, ATOM-COUNT, PAIR-COUNT, SENTINEL, MAPS, SENTINEL-ENTRY, USED, LEFT, RIGHT, ENTRIES}
 use Rattle.layout.specs.Rows.{Row, rows-of, Sound}
 

@@ -11,7 +11,7 @@ ghost use Rattle.words.specs.Words.{at};
 ghost use Rattle.atom.specs.Write.{serialized-length};
 ghost use Rattle.allocator.specs.Handle.{node-of, is-atom};
 ghost use Rattle.allocator.specs.SmallAtom.{small-bytes};
-ghost use Rattle.session.specs.Cache.{pair-length};
+ghost use Rattle.serializer.specs.Cache.{pair-length};
 ghost use Rattle.layout.specs.Layout.{PAIRS, FIRST, ATOM-LENGTHS, PAIR-COUNT, SENTINEL, MAPS, USED, ENTRIES};
 ghost use Rattle.tree_cache.specs.Meaning.{Names, Whole, unmapped};
 ghost use Rattle.tree_cache.specs.Contracts.{is-listed, Stands, Measured, sentinel-action, atom-action, pair-action, Made, Joined, Entered, Room, Cleared, Updated};

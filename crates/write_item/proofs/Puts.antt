@@ -22,7 +22,7 @@ use Rattle.path.specs.Bytes.{path-bytes}
 use Rattle.path.specs.BytesLaws.{length-path-bytes}
 use Rattle.find_path.specs.State.{path-at}
 use Rattle.find_path.specs.Answers as path-read
-use Rattle.session.specs.Items.{bytes-or-none, reference-item, item-bytes}
+use Rattle.serializer.specs.Items.{bytes-or-none, reference-item, item-bytes}
 
 -- One byte stored is one byte pasted.
 pub set-paste : (out : List ℕ) (p b : ℕ) → p < length out → set out p b ≡ paste out p (b ∷ []) 1

@@ -15,7 +15,7 @@ ghost use Rattle.path.specs.Bytes.{«path-bytes»};
 ghost use Rattle.allocator.specs.SmallAtom.{«small-bytes»};
 ghost use Rattle.search.specs.PathBits.{Ends};
 ghost use Rattle.find_path.specs.State.{Readable, «path-at»};
-ghost use Rattle.session.specs.Items.{«cons-item», «atom-item», «reference-item», «item-bytes»};
+ghost use Rattle.serializer.specs.Items.{«cons-item», «atom-item», «reference-item», «item-bytes»};
 ghost use Rattle.write_item.specs.Answers.{written};
 
 // Where the next item goes; that the output has no room for the whole item.

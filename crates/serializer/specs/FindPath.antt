@@ -1,0 +1,33 @@
+-- Whether a reference is written for a subtree, and the path that it has: the exceptions of `find_path` in tree_cache.rs, the search, and the rule by which
+-- a path is used, over any measure of a path. 01's measure is `counted` of the crate path.
+use Prim.Native.Nat.{ℕ}
+use mathlib.Core.Bool.{Bool, cond}
+use mathlib.Core.List.{List, [], _∷_}
+use mathlib.Core.Option.{Option, none, some}
+use lib.Dec.{eqb, ltb}
+use Rattle.allocator.specs.Handle.{nil, handle-of}
+use Rattle.search.specs.Search.{Parents, member, search}
+use Rattle.serializer.specs.Cache.{Cache, parents-at, length-at}
+
+-- Bits without the terminator, which stands last.
+abbrev pub without-terminator : List Bool → List Bool
+without-terminator [] = []
+without-terminator (b ∷ []) = []
+without-terminator (b ∷ c ∷ bits) = b ∷ without-terminator (c ∷ bits)
+
+abbrev pub parents-in : Cache → Parents
+parents-in c x = parents-at x (c .entries)
+
+module _ (measure : List Bool → ℕ) where
+  -- The path that the search gave is used where its measure is below the entry's length.
+  abbrev pub used : (len : ℕ) → Option (List Bool) → Option (List Bool)
+  used len none = none
+  used len (some bits) = cond (ltb (measure bits) len) (some (without-terminator bits)) none
+
+  -- None for nil's handle, for an entry that is not marked written, and for a length below 4; else the path that the search gives, where it is used.
+  unfoldable pub find-in : Cache → (marked stack : List ℕ) → (handle entry : ℕ) → Option (List Bool)
+  find-in c marked stack h e =
+      cond (eqb h (handle-of nil)) none
+      (cond (member e marked)
+      (cond (ltb (length-at e (c .entries)) 4) none (used (length-at e (c .entries)) (search (parents-in c) stack (length-at e (c .entries)) e)))
+      none)
