@@ -1,0 +1,5 @@
+pub mod Opening
+pub mod Starting
+pub mod Rows
+pub mod Driving
+pub mod Calling

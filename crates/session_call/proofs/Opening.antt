@@ -1,0 +1,163 @@
+-- Loading a session file: the words lent to the loaders come back, and hold the tables of the file; all words after them are zero.
+-- Assumes nothing.
+use Prim.Native.Nat.{ℕ, zero, suc, _+_, _-_, _*_, _≤_, _<_}
+use mathlib.Core.Path.{_≡_, refl, sym, ap, subst, _∙_}
+use mathlib.Core.List.{List, [], _∷_}
+use mathlib.Core.Option.{Option, none, some}
+use native.Mathlib.Omega.{arith}
+use lib.ListN.{length, getD, set, take, drop, replicate, length-replicate, length-set}
+use borrow.Rule.Slice.PartMut.{putMid}
+use Rattle.words.specs.Words.{at, part}
+use Rattle.words.specs.Lists.{All, all-at}
+use Rattle.words.proofs.Words.{part-length, put-length, put-at, put-other, Store, stores, miss, hits}
+use Rattle.session_file.specs.File.{File}
+use Rattle.session_file.specs.Answers as file-answers
+use Rattle.session_file.specs.Places.{ListedAtom}
+use Rattle.session_file.specs.Checked.{Passed}
+use Rattle.session_file.specs.Loaded.{AtomPlace, AtomsLoaded, PairsLoaded}
+use Rattle.session_file.specs.declared.Checked.{Checked}
+use Rattle.layout.specs.Layout.{ATOMS, PAIRS, FIRST, ATOM-LENGTHS, ATOM-HEADS, ATOM-COUNT, PAIR-COUNT, SENTINEL, OPEN}
+use Rattle.tree_cache.specs.Meaning.{sentinel-word, no-pair, Tables}
+use Rattle.load.specs.Load.{atom-bytes, Ready, Loaded}
+use Rattle.load.proofs.Tables.{table-firsts, table-lengths}
+use Rattle.incremental.specs.State.{AtomPlaces, AtomsThere, bytes-at}
+use Rattle.session_call.specs.Opened.{Placed, Opened}
+
+pub zero-at : (n k : ℕ) → at (replicate n 0) k ≡ 0
+zero-at zero k = refl
+zero-at (suc n) zero = refl
+zero-at (suc n) (suc k) = zero-at n k
+
+pub few-twice : (input : List ℕ) (f : File) (c : Checked) → Passed input f c → (2 * c .atoms ≤ 2048) × (2 * c .pairs ≤ 2048)
+few-twice input f c p =
+    (omega (arith, p .atoms-are, p .contents .few-atoms), omega (arith, p .pairs-are, p .contents .few-pairs))
+
+-- The part that is lent for the pairs.
+pub pairs-room : (n : ℕ) → 524288 ≤ n → (w₀ r₁ : List ℕ) → length w₀ ≡ n → length r₁ ≡ length (part w₀ 0 2048) → length (part (putMid 0 2048 w₀ r₁) 2048 2048) ≡ 2048
+pairs-room n long w₀ r₁ e len₁ =
+    let have = len₁ ∙ part-length w₀ 0 2048 (omega arith) in
+    part-length (putMid 0 2048 w₀ r₁) 2048 2048 (omega (arith, put-length 0 2048 w₀ r₁ (omega arith) have))
+
+-- ---- the places of the atoms and the handles of the pairs
+
+module _ (input : List ℕ) (f : File) (c : Checked) (p : Passed input f c) (n : ℕ) (long : 524288 ≤ n) (w₀ r₁ r₂ : List ℕ) (clear : w₀ ≡ replicate n 0)
+    (len₁ : length r₁ ≡ length (part w₀ 0 2048)) (l₁ : AtomsLoaded input (f .atoms) (part w₀ 0 2048) r₁)
+    (len₂ : length r₂ ≡ length (part (putMid 0 2048 w₀ r₁) 2048 2048)) (l₂ : PairsLoaded (f .pairs) (part (putMid 0 2048 w₀ r₁) 2048 2048) r₂) where
+  abbrev w₁ : List ℕ
+  w₁ = putMid 0 2048 w₀ r₁
+
+  abbrev w₂ : List ℕ
+  w₂ = putMid 2048 2048 w₁ r₂
+
+  long₀ : length w₀ ≡ n
+  long₀ = ap length clear ∙ length-replicate n 0
+
+  have₁ : length r₁ ≡ 2048
+  have₁ = len₁ ∙ part-length w₀ 0 2048 (omega (arith, long₀))
+
+  long₁ : length w₁ ≡ n
+  long₁ = put-length 0 2048 w₀ r₁ (omega (arith, long₀)) have₁ ∙ long₀
+
+  have₂ : length r₂ ≡ 2048
+  have₂ = len₂ ∙ part-length w₁ 2048 2048 (omega (arith, long₁))
+
+  -- A word of the atoms' places, and one of the pairs' handles.
+  place : (k j : ℕ) → k ≡ 0 + j → j < 2048 → at w₂ k ≡ at r₁ j
+  place k j e l =
+      put-other 2048 2048 w₁ r₂ (omega (arith, long₁)) have₂ k (λ i m q. omega (arith, q))
+      ∙ ap (λ (i : ℕ). at w₁ i) e
+      ∙ put-at 0 2048 w₀ r₁ (omega (arith, long₀)) have₁ j l
+
+  handle : (k j : ℕ) → k ≡ 2048 + j → j < 2048 → at w₂ k ≡ at r₂ j
+  handle k j e l = ap (λ (i : ℕ). at w₂ i) e ∙ put-at 2048 2048 w₁ r₂ (omega (arith, long₁)) have₂ j l
+
+  pub placed : Placed input f w₂
+  placed =
+      let fa = p .contents .few-atoms in
+      let fp = p .contents .few-pairs in
+      record {
+        atoms = λ i l.
+            subst (λ (x : ℕ). AtomPlace input x (at w₂ (ATOMS + 2 * i + 1)) (getD (f .atoms) i [])) (sym (place (ATOMS + 2 * i) (2 * i) (omega arith) (omega arith)))
+            (subst (λ (y : ℕ). AtomPlace input (at r₁ (2 * i)) y (getD (f .atoms) i [])) (sym (place (ATOMS + 2 * i + 1) (2 * i + 1) (omega arith) (omega arith)))
+            (l₁ .places i l));
+        lefts = λ i l. handle (PAIRS + 2 * i) (2 * i) (omega arith) (omega arith) ∙ l₂ .lefts i l;
+        rights = λ i l. handle (PAIRS + 2 * i + 1) (2 * i + 1) (omega arith) (omega arith) ∙ l₂ .rights i l;
+        zeros = λ k l.
+            put-other 2048 2048 w₁ r₂ (omega (arith, long₁)) have₂ k (λ i m e. omega (arith, e))
+            ∙ put-other 0 2048 w₀ r₁ (omega (arith, long₀)) have₁ k (λ i m e. omega (arith, e))
+            ∙ ap (λ (x : List ℕ). at x k) clear
+            ∙ zero-at n k;
+      }
+
+-- ---- the other tables
+
+module _ (input : List ℕ) (f : File) (c : Checked) (p : Passed input f c) (w : List ℕ) (long : 524288 ≤ length w) (pl : Placed input f w) where
+  pub firsts-ask : (n : ℕ) → n ≡ c .atoms → Ready input w n
+  firsts-ask n e =
+      record {
+        long = long;
+        short = p .short;
+        few = omega (arith, p .atoms-are, p .contents .few-atoms);
+        inside = λ i l. let q = pl .atoms i (omega (arith, p .atoms-are)) in (q .before, q .inside);
+        heads = λ s l. pl .zeros (ATOM-HEADS + s) (omega arith);
+      }
+
+  module _ (n : ℕ) (e : n ≡ c .atoms) (w₁ : List ℕ) (long₁ : length w₁ ≡ length w) (ld : Loaded input w w₁ n) where
+    abbrev last : List ℕ
+    last = set (set (set w₁ ATOM-COUNT (c .atoms)) PAIR-COUNT (c .pairs)) SENTINEL (c .sentinel)
+
+    abbrev put : List Store
+    put =
+        record { to = ATOM-COUNT; word = c .atoms } ∷ record { to = PAIR-COUNT; word = c .pairs } ∷ record { to = SENTINEL; word = c .sentinel } ∷ []
+
+    other : (k : ℕ) → (k < ATOM-COUNT) → at last k ≡ at w₁ k
+    other k l = miss put w₁ k (omega arith)
+
+    later : (k : ℕ) → OPEN ≤ k → at last k ≡ at w₁ k
+    later k l = miss put w₁ k (omega arith)
+
+    low : (k : ℕ) → k < FIRST → at last k ≡ at w k
+    low k l = other k (omega arith) ∙ ld .kept .low k l
+
+    bytes-are : (i : ℕ) → i < length (f .atoms) → atom-bytes input w i ≡ getD (f .atoms) i []
+    unfolding atom-bytes
+    bytes-are i l = pl .atoms i l .is
+
+    loaded : Loaded input w w₁ (length (f .atoms))
+    loaded = subst (λ (m : ℕ). Loaded input w w₁ m) (e ∙ p .atoms-are) ld
+
+    count : at last ATOM-COUNT ≡ length (f .atoms)
+    count = hits put 0 w₁ (omega arith) (omega (arith, long₁)) (omega arith) ∙ p .atoms-are
+
+    pub opened : Opened input f last
+    opened =
+        let fa = p .contents .few-atoms in
+        let fp = p .contents .few-pairs in
+        record {
+          tables =
+              record {
+                atom-count = count;
+                pair-count = hits put 1 w₁ (omega arith) (omega (arith, long₁)) (omega arith) ∙ p .pairs-are;
+                sentinel = hits put 2 w₁ (omega arith) (omega (arith, long₁)) tt ∙ p .sentinel-is ∙ word (f .sentinel);
+                lefts = λ i l. low (PAIRS + 2 * i) (omega arith) ∙ pl .lefts i l;
+                rights = λ i l. low (PAIRS + 2 * i + 1) (omega arith) ∙ pl .rights i l;
+                firsts = λ i l. other (FIRST + i) (omega arith) ∙ table-firsts input w w₁ (f .atoms) bytes-are loaded i l;
+                lengths = λ i l. other (ATOM-LENGTHS + i) (omega arith) ∙ table-lengths input w w₁ (f .atoms) bytes-are loaded i l;
+                listed = λ i l. all-at ListedAtom (f .atoms) [] i (p .contents .atoms-listed) l;
+              };
+          places =
+              record {
+                short = p .short;
+                ordered = λ i l.
+                    let m : i < length (f .atoms) = omega (arith, count) in
+                    omega (arith, pl .atoms i m .before, low (ATOMS + 2 * i) (omega arith), low (ATOMS + 2 * i + 1) (omega arith));
+                inside = λ i l.
+                    let m : i < length (f .atoms) = omega (arith, count) in omega (arith, pl .atoms i m .inside, low (ATOMS + 2 * i + 1) (omega arith));
+              };
+          atoms-there = record { bytes = λ i l. rw (low (ATOMS + 2 * i) (omega arith), low (ATOMS + 2 * i + 1) (omega arith)) (pl .atoms i l .is) };
+          zeros = λ k l. later k l ∙ ld .kept .high k (omega arith) ∙ pl .zeros k (omega arith);
+        }
+      where
+        word : (o : Option ℕ) → file-answers.sentinel-word o ≡ sentinel-word o
+        word none = refl
+        word (some h) = refl

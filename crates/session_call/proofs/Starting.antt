@@ -1,0 +1,115 @@
+-- The run of a session file starts: nothing is added, and the words hold the fresh session.
+-- Assumes nothing.
+use Prim.Native.Nat.{ℕ, zero, suc, _+_, _*_, _/_, _%_, _^_, _≤_, _<_}
+use mathlib.Core.Path.{_≡_, refl, sym, ap, subst, _∙_}
+use mathlib.Core.Bool.{Bool, true, false}
+use mathlib.Core.List.{List, [], _∷_, _++_}
+use mathlib.Core.Option.{Option, none, some}
+use native.Mathlib.Omega.{arith}
+use native.Mathlib.Nat.{zero-div}
+use lib.ListN.{length, getD, take}
+use Rattle.words.specs.Words.{at}
+use Rattle.path.specs.Bytes.{odd}
+use Rattle.session_file.specs.File.{File, named}
+use Rattle.session_file.specs.Places.{PairNamed, SentinelNamed}
+use Rattle.session_file.specs.Loaded.{pair-of}
+use Rattle.session_file.specs.Checked.{Passed, Contents}
+use Rattle.session_file.specs.CheckedLaws.{pair-named}
+use Rattle.session_file.specs.declared.Checked.{Checked}
+use Rattle.allocator.specs.Handle.{node-of}
+use Rattle.serializer.specs.Writer.{start}
+use Rattle.serializer.specs.Steps.{run-steps}
+use Rattle.layout.specs.Layout.{PAIR-COUNT, OPEN, STACK, TOPS, WRITTEN, MAPS, SEEN, ENTRIES}
+use Rattle.layout.specs.Rows.{stack-of}
+use Rattle.stack.specs.Contracts.{Stacked, marked-at}
+use Rattle.stack.proofs.Stacks.{stacked-none}
+use Rattle.tree_cache.specs.Meaning.{Handles, Whole}
+use Rattle.tree_cache.proofs.Fresh.{Sorted, tables-handles, fresh-whole, fresh-holds, fresh-room, fresh-counts}
+use Rattle.incremental.specs.State.{Standing, Running, Writes, todo-of, rights-left}
+use Rattle.steps.specs.State.{whole-run, after-words, At, History, Stocked, Underway}
+use Rattle.session_call.specs.Opened.{Opened, start-at}
+
+-- Questions 5 and 7 were answered.
+sorted : (f : File) → Contents f → Sorted f
+sorted f c =
+    record {
+      few-atoms = c .few-atoms;
+      few-pairs = c .few-pairs;
+      lefts = λ i l. pair-at i l .0;
+      rights = λ i l. pair-at i l .1;
+      sentinel = λ s e. subst (λ (o : Option ℕ). SentinelNamed (length (f .atoms)) (length (f .pairs)) o) e (c .sentinel-named);
+    }
+  where
+    pair-at : (i : ℕ) → i < length (f .pairs) → PairNamed (length (f .atoms)) i (pair-of (f .pairs) i)
+    pair-at i l =
+        let z : 0 + i ≡ i = omega arith in
+        subst (λ (n : ℕ). PairNamed (length (f .atoms)) n (pair-of (f .pairs) i)) z (pair-named (length (f .atoms)) 0 (f .pairs) (c .pairs-named) i l)
+
+no-mark : (k : ℕ) → odd (0 / 2 ^ k) ≡ false
+no-mark k = ap odd (zero-div (2 ^ k))
+
+module _ (input : List ℕ) (f : File) (c : Checked) (p : Passed input f c) (w words : List ℕ) (rows : List (List ℕ)) (out : List ℕ) (o : Opened input f w)
+    (long : 524288 ≤ length w) (many-words : 1024 ≤ length words) (many-rows : 16 ≤ length rows) (short : length out ≤ 65535) where
+  handles : Handles w
+  handles = tables-handles f w (sorted f (p .contents)) (o .tables)
+
+  cache-zeros : (k : ℕ) → MAPS ≤ k → k < SEEN → at w k ≡ 0
+  cache-zeros k a b = o .zeros k (omega arith)
+
+  no-marks : (e : ℕ) → e < ENTRIES → false ≡ marked-at w e
+  unfolding marked-at
+  no-marks e l = sym (ap (λ (x : ℕ). odd (x / 2 ^ (e % 32))) (o .zeros (WRITTEN + e / 32) (omega arith)) ∙ no-mark (e % 32))
+
+  present : At f w out 0 0 0 false start
+  unfolding todo-of rights-left stack-of
+  present =
+      record {
+        running =
+            record {
+              stands =
+                  record {
+                    whole = fresh-whole w long handles cache-zeros;
+                    stacked = stacked-none w (λ x l. o .zeros (TOPS + x) (omega arith));
+                    counts = omega (arith, fresh-counts w long handles cache-zeros);
+                    few-opens = omega arith;
+                    pairs = λ i l. absurd (omega arith);
+                    balance = refl;
+                  };
+              fits = omega arith;
+              short = short;
+            };
+        writes = record { cache = fresh-holds w long handles cache-zeros f (o .tables); stack = refl; marks = no-marks; size-is = refl; bytes-are = refl };
+        waiting = refl;
+      }
+
+  pub starts : Underway input f w words rows out (start-at (c .«steps_at»))
+  unfolding whole-run
+  starts =
+      record {
+        left = f .steps;
+        past = [];
+        session = start;
+        present = present;
+        stocked =
+            record {
+              tables = o .tables;
+              places = o .places;
+              atoms-there = o .atoms-there;
+              room = omega (arith, fresh-room w long handles cache-zeros);
+              counts = fresh-counts w long handles cache-zeros;
+            };
+        history =
+            record {
+              long = refl;
+              befores = λ k u e. absurd (let z : _≡_ {A = ℕ} 0 1 = cc in omega arith);
+              sizes = λ k l. absurd (omega arith);
+              ordered = λ j k q l. absurd (omega arith);
+            };
+        few-adds = omega arith;
+        steps-there = p .steps-there;
+        steps-named = p .contents .steps-named;
+        few-steps = omega (arith, p .contents .few-steps);
+        many-rows = many-rows;
+        many-words = many-words;
+        same = refl;
+      }

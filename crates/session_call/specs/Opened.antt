@@ -1,0 +1,31 @@
+-- What loading a session file leaves in work, and where its run starts.
+use Prim.Native.Nat.{ℕ, _+_, _*_, _≤_, _<_}
+use mathlib.Core.Path.{_≡_}
+use mathlib.Core.Bool.{Bool, true, false}
+use mathlib.Core.List.{List, []}
+use lib.ListN.{length, getD}
+use Rattle.words.specs.Words.{at}
+use Rattle.session_file.specs.File.{File}
+use Rattle.session_file.specs.Loaded.{AtomPlace, pair-of}
+use Rattle.layout.specs.Layout.{ATOMS, PAIRS, FIRST, OPEN}
+use Rattle.tree_cache.specs.Meaning.{Tables}
+use Rattle.incremental.specs.State.{AtomPlaces, AtomsThere}
+use Rattle.steps.specs.declared.Progress.{Progress}
+
+-- The places of the atoms and the handles of the pairs are there, and all words after them are zero.
+pub record Placed (input : List ℕ) (f : File) (w : List ℕ) : Type 0 where
+  pub atoms : (i : ℕ) → i < length (f .atoms) → AtomPlace input (at w (ATOMS + 2 * i)) (at w (ATOMS + 2 * i + 1)) (getD (f .atoms) i [])
+  pub lefts : (i : ℕ) → i < length (f .pairs) → at w (PAIRS + 2 * i) ≡ pair-of (f .pairs) i .left
+  pub rights : (i : ℕ) → i < length (f .pairs) → at w (PAIRS + 2 * i + 1) ≡ pair-of (f .pairs) i .right
+  pub zeros : (k : ℕ) → FIRST ≤ k → at w k ≡ 0
+
+-- All tables of the file are there, and all words after them are zero.
+pub record Opened (input : List ℕ) (f : File) (w : List ℕ) : Type 0 where
+  pub tables : Tables f w
+  pub places : AtomPlaces input w
+  pub atoms-there : AtomsThere input f w
+  pub zeros : (k : ℕ) → OPEN ≤ k → at w k ≡ 0
+
+-- The first step comes next; nothing is added, open or written.
+abbrev pub start-at : ℕ → Progress
+start-at place = record { at = place; steps = 0; adds = 0; opens = 0; depth = 0; size = 0; finished = false; number = 0; done = false }

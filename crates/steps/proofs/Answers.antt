@@ -1,0 +1,190 @@
+-- What a step's answer means: the run goes on, or it is over.
+-- Assumes nothing.
+use Prim.Native.Nat.{ℕ, zero, suc, _+_, _*_, _≤_, _<_}
+use mathlib.Core.Path.{_≡_, refl, sym, ap, subst, _∙_}
+use mathlib.Core.Bool.{Bool, true, false}
+use mathlib.Core.List.{List, [], _∷_}
+use mathlib.Core.Option.{Option, none, some}
+use native.Mathlib.Omega.{arith}
+use lib.ListN.{length, getD, set, take}
+use Rattle.words.specs.Words.{at}
+use Rattle.path.specs.Measure.{counted}
+use Rattle.session_file.specs.File.{File, Step, add, restore}
+use Rattle.session_file.specs.Places.{StepsAt}
+use Rattle.session_file.specs.Loaded.{FirstStep}
+use Rattle.session_file.specs.declared.NextStep.{NextStep}
+use Rattle.session_file.specs.declared.NextStep.the-variants as next-step
+use Rattle.serializer.specs.Steps.{Run, stop-at, run-steps}
+use Rattle.allocator.specs.declared.NodePtr.{NodePtr}
+use Rattle.incremental.specs.State.{todo-of, Running}
+use Rattle.incremental.specs.Contracts.{Fine}
+use Rattle.incremental.specs.Contracts.{ended as ended-at}
+use Rattle.incremental.specs.declared.Outcome.{Outcome}
+use Rattle.incremental.specs.declared.Outcome.the-variants as outcome
+use Rattle.steps.specs.declared.Progress.{Progress}
+use Rattle.steps.specs.declared.StepAnswer.{StepAnswer}
+use Rattle.steps.specs.State.{whole-run, after-words, bit, waits, size-at, Underway, Ended, Stands, slot-for}
+use Rattle.steps.specs.Steps.{refused-at, noted-at, record-of, stopped-at, Comes, Adding, after-outcome, Added, undone-at, Undoing, Undone, Ready, Onward}
+use Rattle.steps.proofs.Slots.{nth-none}
+use Rattle.steps.proofs.Runs.{run-ends, run-finished, run-full, run-beyond, words-ended}
+use Rattle.steps.proofs.Adding.{adding, added-on, added-off}
+use Rattle.steps.proofs.Restoring.{slot, undoing, restored-on}
+
+module _ (input : List ℕ) (f : File) (w words : List ℕ) (rows : List (List ℕ)) (out : List ℕ) (t : Progress) where
+  pub stands-on : t .done ≡ false → Underway input f w words rows out t → Stands input f w words rows out t (t .done)
+  stands-on d u = subst (λ (b : Bool). Stands input f w words rows out t b) (sym d) u
+
+  pub stands-off : t .done ≡ true → Ended f words out t → Stands input f w words rows out t (t .done)
+  stands-off d u = subst (λ (b : Bool). Stands input f w words rows out t b) (sym d) u
+
+  pub under : t .done ≡ false → Stands input f w words rows out t (t .done) → Underway input f w words rows out t
+  under d s = subst (λ (b : Bool). Stands input f w words rows out t b) d s
+
+  pub ended : t .done ≡ true → Stands input f w words rows out t (t .done) → Ended f words out t
+  ended d s = subst (λ (b : Bool). Stands input f w words rows out t b) d s
+
+module _ (input : List ℕ) (f : File) (w words out : List ℕ) (p : Progress) (c : List ℕ) where
+  -- The run is over at a step.
+  over : (rows : List (List ℕ)) (u : Underway input f w words rows out p) (n : ℕ)
+      → run-steps counted (length out) f (u .left) (u .past) (u .session) ≡ stop-at n (u .session) → Ended f words out (refused-at p n)
+  over rows u n e =
+      record {
+        session = u .session;
+        size-is = u .present .writes .size-is;
+        bytes-are = u .present .writes .bytes-are;
+        short = u .present .running .short;
+        few-steps = omega (arith, u .few-steps);
+        many-words = u .many-words;
+        same = u .same ∙ ap (λ (r : Run). after-words (take (p .steps) words) r) e ∙ words-ended (take (p .steps) words) n (u .session);
+      }
+
+  -- The answer of a step that is refused, or of the end.
+  stops : (n : ℕ) (a : StepAnswer) → a ≡ stopped-at p n c
+      → ((rows : List (List ℕ)) (u : Underway input f w words rows out p) → run-steps counted (length out) f (u .left) (u .past) (u .session) ≡ stop-at n (u .session))
+      → Onward input f w words out p c w words out a
+  stops n a is h =
+      subst (λ (x : StepAnswer). Onward input f w words out p c w words out x) (sym is) (λ rows u r. (over rows u n (h rows u), omega arith))
+
+  -- The steps that are left, told by the next one.
+  abbrev Run-to : ℕ → List Step → Type 0
+  Run-to n ss = (rows : List (List ℕ)) (u : Underway input f w words rows out p) → u .left ≡ ss → run-steps counted (length out) f ss (u .past) (u .session) ≡ stop-at n (u .session)
+
+  pub stops-at-end : (a : StepAnswer) → a ≡ stopped-at p 0 c → Comes input (p .at) next-step.End → Onward input f w words out p c w words out a
+  stops-at-end a is comes =
+      stops 0 a is (λ rows u.
+      let e = comes (u .left) (u .steps-there) in
+      ap (λ (ss : List Step). run-steps counted (length out) f ss (u .past) (u .session)) e ∙ run-ends (length out) f (u .past) (u .session))
+
+  module _ (node : NodePtr) (next : ℕ) (comes : Comes input (p .at) (next-step.Add node next)) where
+    -- Question 9.
+    pub stops-9 : (a : StepAnswer) → a ≡ stopped-at p 9 c → p .finished ≡ true → Onward input f w words out p c w words out a
+    stops-9 a is fin =
+        stops 9 a is (λ rows u.
+        let e = comes (u .left) (u .steps-there) in
+        ap (λ (ss : List Step). run-steps counted (length out) f ss (u .past) (u .session)) (e .1)
+        ∙ run-finished (length out) f (u .past) (u .session) (node .0) (e .0)
+        (u .present .waiting ∙ ap (λ (b : Bool). waits b (todo-of f w (p .opens))) fin))
+
+    -- Question 10.
+    pub stops-10 : (a : StepAnswer) → a ≡ stopped-at p 10 c → p .finished ≡ false → 16 ≤ p .adds → Onward input f w words out p c w words out a
+    stops-10 a is fin full =
+        stops 10 a is (λ rows u.
+        let e = comes (u .left) (u .steps-there) in
+        ap (λ (ss : List Step). run-steps counted (length out) f ss (u .past) (u .session)) (e .1)
+        ∙ run-full (length out) f (u .past) (u .session) (node .0) (e .0) (todo-of f w (p .opens))
+        (u .present .waiting ∙ ap (λ (b : Bool). waits b (todo-of f w (p .opens))) fin) (omega (arith, u .history .long)))
+
+    module _ (fin : p .finished ≡ false) (few : p .adds < 16) where
+      pub add-asks : Ready input f w words out p c → Adding input w out p (node .0)
+      add-asks r =
+          let u = r .underway in
+          let e = comes (u .left) (u .steps-there) in
+          adding input f w words (r .rows) out p (node .0) (e .0) u (e .1) fin few
+
+      module _ (w′ out′ : List ℕ) (q : Progress) (ad : Added input w out w′ out′ p node q) where
+        steps-same : (o : Outcome) → after-outcome p o .steps ≡ p .steps
+        steps-same (outcome.Done pl) = refl
+        steps-same (outcome.Stopped pl) = refl
+        steps-same (outcome.Refused n pl) = refl
+
+        fits : (o : Outcome) → Fine w′ out′ (ended-at o) → after-outcome p o .done ≡ false → after-outcome p o .size ≤ 65535
+        fits (outcome.Done pl) r d = omega (arith, r .0 .fits, r .0 .short)
+        fits (outcome.Stopped pl) r d = omega (arith, r .fits, r .short)
+        fits (outcome.Refused n pl) r d = absurd (let z : _≡_ {A = ℕ} 0 1 = cc in omega arith)
+
+        pub note-asks : Ready input f w words out p c → q .done ≡ false → (q .steps < length words) × (q .size ≤ 65535) × (q .steps < 1024)
+        note-asks r d =
+            let u = r .underway in
+            let e = comes (u .left) (u .steps-there) in
+            let l : length (u .left) ≡ suc (length (e .0)) = ap length (e .1) in
+            let s : q .steps ≡ p .steps = ap (λ (x : Progress). x .steps) (ad .is) ∙ steps-same (ad .outcome) in
+            let z : q .size ≤ 65535 =
+            subst (λ (x : Progress). x .done ≡ false → x .size ≤ 65535) (sym (ad .is)) (fits (ad .outcome) (ad .resumed .fine)) d in
+            (omega (arith, u .few-steps, u .many-words), z, omega (arith, u .few-steps))
+
+        -- A refused add.
+        pub adds-off : (a : StepAnswer) → a .state ≡ q → q .done ≡ true → Onward input f w words out p c w′ words out′ a
+        adds-off a is d rows u r-is =
+            let e = comes (u .left) (u .steps-there) in
+            let end : Ended f words out′ q =
+            added-off input f w words rows out p node next (e .0) u (e .1) (e .2) fin few w′ out′ q ad d in
+            let s : a .state .steps ≡ p .steps = ap (λ (x : Progress). x .steps) (is ∙ ad .is) ∙ steps-same (ad .outcome) in
+            let done : a .state .done ≡ true = ap (λ (x : Progress). x .done) is ∙ d in
+            (stands-off input f w′ words (set rows (slot-for (u .left) (p .adds)) (a .saved)) out′ (a .state) done
+            (subst (λ (x : Progress). Ended f words out′ x) (sym is) end), omega (arith, ap bit done))
+
+        -- An add that is not refused.
+        pub adds-on : (words′ : List ℕ) (a : StepAnswer) → a .saved ≡ record-of w p → q .done ≡ false
+            → words′ ≡ set words (q .steps) (q .size * 2 + bit (q .finished)) → a .state ≡ noted-at q next → Onward input f w words out p c w′ words′ out′ a
+        adds-on words′ a sv d ws is rows u r-is =
+            let e = comes (u .left) (u .steps-there) in
+            let s : a .state .steps ≡ p .steps + 1 =
+            ap (λ (x : Progress). x .steps) is ∙ ap (λ (x : Progress). x .steps + 1) (ad .is) ∙ ap (λ (x : ℕ). x + 1) (steps-same (ad .outcome)) in
+            (stands-on input f w′ words′ (set rows (slot-for (u .left) (p .adds)) (a .saved)) out′ (a .state) (ap (λ (x : Progress). x .done) is ∙ d)
+            (subst (λ (x : List ℕ). Underway input f w′ words′ (set rows (slot-for (u .left) (p .adds)) x) out′ (a .state)) (sym sv)
+            (added-on input f w words rows out p node next (e .0) u (e .1) (e .2) fin few w′ out′ q ad words′ (a .state) d ws is)), omega arith)
+
+  module _ (n next : ℕ) (comes : Comes input (p .at) (next-step.Restore n next)) where
+    -- Question 11.
+    pub stops-11 : (a : StepAnswer) → a ≡ stopped-at p 11 c → p .adds ≤ n → Onward input f w words out p c w words out a
+    stops-11 a is beyond =
+        stops 11 a is (λ rows u.
+        let e = comes (u .left) (u .steps-there) in
+        ap (λ (ss : List Step). run-steps counted (length out) f ss (u .past) (u .session)) (e .1)
+        ∙ run-beyond (length out) f (u .past) (u .session) n (e .0) (nth-none (u .past) n (omega (arith, u .history .long))))
+
+    module _ (few : n < p .adds) where
+      pub undo-asks : Ready input f w words out p c → Undoing w (p .depth) n c
+      undo-asks r =
+          let u = r .underway in
+          let e = comes (u .left) (u .steps-there) in
+          undoing input f w words (r .rows) out p n next (e .0) u (e .1) few c (r .record-is)
+
+      pub restore-note-asks : Ready input f w words out p c → (q : Progress) → q ≡ undone-at p c n
+          → (q .steps < length words) × (q .size ≤ 65535) × (q .steps < 1024)
+      restore-note-asks r q is =
+          let u = r .underway in
+          let e = comes (u .left) (u .steps-there) in
+          let l : length (u .left) ≡ suc (length (e .0)) = ap length (e .1) in
+          let s : q .steps ≡ p .steps = ap (λ (x : Progress). x .steps) is in
+          let z : q .size ≡ at c 2 = ap (λ (x : Progress). x .size) is in
+          let k : at c 2 ≤ 65535 = size-low (r .rows) u (r .record-is) (e .0) (e .1) in
+          (omega (arith, u .few-steps, u .many-words), omega arith, omega (arith, u .few-steps))
+        where
+          size-low : (rows : List (List ℕ)) (u : Underway input f w words rows out p) → getD rows (slot-for (u .left) (p .adds)) [] ≡ c
+              → (rest : List Step) → u .left ≡ restore n ∷ rest → at c 2 ≤ 65535
+          size-low rows u r-is rest e =
+              let s = slot input f w words rows out p n next rest u e few c r-is in
+              let z : size-at rows n ≡ at c 2 = ap (λ (k : ℕ). size-at rows k) (sym s) ∙ ap (λ (x : List ℕ). at x 2) r-is in
+              omega (arith, u .history .sizes n few, u .present .running .fits, u .present .running .short)
+
+      pub restores-on : (w′ : List ℕ) → length w′ ≡ length w → Undone w w′ n c → (words′ : List ℕ) (q : Progress) (a : StepAnswer) → q ≡ undone-at p c n
+          → words′ ≡ set words (q .steps) (q .size * 2 + bit (q .finished)) → a .state ≡ noted-at q next → a .saved ≡ c
+          → Onward input f w words out p c w′ words′ out a
+      restores-on w′ long un words′ q a qi ws is sv rows u r-is =
+          let e = comes (u .left) (u .steps-there) in
+          let s : a .state .steps ≡ p .steps + 1 = ap (λ (x : Progress). x .steps) is ∙ ap (λ (x : Progress). x .steps + 1) qi in
+          (stands-on input f w′ words′ (set rows (slot-for (u .left) (p .adds)) (a .saved)) out (a .state)
+          (ap (λ (x : Progress). x .done) is ∙ ap (λ (x : Progress). x .done) qi)
+          (subst (λ (x : List ℕ). Underway input f w′ words′ (set rows (slot-for (u .left) (p .adds)) x) out (a .state)) (sym sv)
+          (restored-on input f w words rows out p n next (e .0) u (e .1) few c r-is w′ long un (e .2) words′ q (a .state) qi ws is)), omega arith)

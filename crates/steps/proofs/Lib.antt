@@ -1,0 +1,7 @@
+pub mod Frames
+pub mod Slots
+pub mod Runs
+pub mod States
+pub mod Adding
+pub mod Restoring
+pub mod Answers

@@ -1,0 +1,90 @@
+-- The first step of those that are left, and the record that it takes; lists read by number.
+-- Assumes nothing.
+use Prim.Native.Nat.{ℕ, zero, suc, _+_, _≤_, _<_}
+use mathlib.Core.Path.{_≡_, refl, sym, ap, subst, _∙_}
+use mathlib.Core.Logic.{_⊎_, inl, inr}
+use mathlib.Core.Bool.{Bool, true, false, cond}
+use mathlib.Core.List.{List, [], _∷_, _++_}
+use mathlib.Core.Option.{Option, none, some}
+use native.Mathlib.Omega.{arith}
+use lib.Dec.{ltb}
+use lib.ListN.{length, getD, set, take}
+use Rattle.session_file.specs.declared.NextStep.{NextStep}
+use Rattle.session_file.specs.declared.NextStep.the-variants as next-step
+use Rattle.session_file.specs.File.{Step, add, restore}
+use Rattle.session_file.specs.Loaded.{FirstStep}
+use Rattle.serializer.specs.Trees.{nth}
+use Rattle.steps.specs.State.{slot-for}
+
+abbrev pub slot-of-next : NextStep → ℕ → ℕ
+slot-of-next (next-step.Add node next) adds = cond (ltb adds 16) adds 0
+slot-of-next (next-step.Restore number next) adds = cond (ltb number 16) number 0
+slot-of-next next-step.End adds = 0
+
+pub slot-first : (input : List ℕ) (ss : List Step) (r : NextStep) (adds : ℕ) → FirstStep input ss r → slot-of-next r adds ≡ slot-for ss adds
+slot-first input ss (next-step.Add node next) adds h = rw (h .1) refl
+slot-first input ss (next-step.Restore number next) adds h = rw (h .1) refl
+slot-first input ss next-step.End adds h = rw h refl
+
+-- The record that the first step takes, from the answer that tells the step.
+pub slot-told : (input : List ℕ) (at adds k : ℕ) (r q : NextStep) (P : List Step → Type 0) → ((ss : List Step) → P ss → FirstStep input ss r) → r ≡ q
+    → k ≡ slot-of-next q adds → (ss : List Step) → P ss → k ≡ slot-for ss adds
+slot-told input at adds k r q P h e m ss s = m ∙ ap (λ (x : NextStep). slot-of-next x adds) (sym e) ∙ slot-first input ss r adds (h ss s)
+
+-- ---- lists read by number
+
+pub nth-low : {A : Type 0} (xs : List A) (k : ℕ) (x : A) → nth xs k ≡ some x → k < length xs
+nth-low [] k x e = absurd (let z : _≡_ {A = ℕ} 0 1 = cc in omega arith)
+nth-low (y ∷ xs) zero x e = omega arith
+nth-low (y ∷ xs) (suc k) x e = omega (arith, nth-low xs k x e)
+
+-- A member that there is.
+pub record Found {A : Type 0} (xs : List A) (k : ℕ) : Type 0 where
+  pub value : A
+  pub is : nth xs k ≡ some value
+
+pub nth-found : {A : Type 0} (xs : List A) (k : ℕ) → k < length xs → Found xs k
+nth-found [] k l = absurd (omega arith)
+nth-found (x ∷ xs) zero l = record { value = x; is = refl }
+nth-found (x ∷ xs) (suc k) l = let r = nth-found xs k (omega arith) in record { value = r .value; is = r .is }
+
+pub nth-none : {A : Type 0} (xs : List A) (k : ℕ) → length xs ≤ k → nth xs k ≡ none
+nth-none [] k l = refl
+nth-none (x ∷ xs) zero l = absurd (omega arith)
+nth-none (x ∷ xs) (suc k) l = nth-none xs k (omega arith)
+
+-- The last member, or one before it.
+pub nth-snoc : {A : Type 0} (xs : List A) (y : A) (k : ℕ) (x : A) → nth (xs ++ y ∷ []) k ≡ some x → (nth xs k ≡ some x) ⊎ ((k ≡ length xs) × (y ≡ x))
+nth-snoc [] y zero x e = inr (refl, cc)
+nth-snoc [] y (suc k) x e = absurd (let z : _≡_ {A = ℕ} 0 1 = cc in omega arith)
+nth-snoc (z ∷ xs) y zero x e = inl e
+nth-snoc (z ∷ xs) y (suc k) x e = go (nth-snoc xs y k x e)
+  where
+    go : (nth xs k ≡ some x) ⊎ ((k ≡ length xs) × (y ≡ x)) → (nth xs k ≡ some x) ⊎ ((suc k ≡ suc (length xs)) × (y ≡ x))
+    go (inl h) = inl h
+    go (inr h) = inr (omega (arith, h .0), h .1)
+
+pub nth-take : {A : Type 0} (n : ℕ) (xs : List A) (k : ℕ) (x : A) → nth (take n xs) k ≡ some x → (k < n) × (nth xs k ≡ some x)
+nth-take zero [] k x e = absurd (let z : _≡_ {A = ℕ} 0 1 = cc in omega arith)
+nth-take zero (y ∷ xs) k x e = absurd (let z : _≡_ {A = ℕ} 0 1 = cc in omega arith)
+nth-take (suc n) [] k x e = absurd (let z : _≡_ {A = ℕ} 0 1 = cc in omega arith)
+nth-take (suc n) (y ∷ xs) zero x e = (omega arith, e)
+nth-take (suc n) (y ∷ xs) (suc k) x e = let r = nth-take n xs k x e in (omega (arith, r .0), r .1)
+
+pub set-here : {A : Type 0} (xs : List A) (k : ℕ) (v d : A) → k < length xs → getD (set xs k v) k d ≡ v
+set-here [] k v d l = absurd (omega arith)
+set-here (x ∷ xs) zero v d l = refl
+set-here (x ∷ xs) (suc k) v d l = set-here xs k v d (omega arith)
+
+pub set-there : {A : Type 0} (xs : List A) (k j : ℕ) (v d : A) → (j ≡ k → ⊥) → getD (set xs k v) j d ≡ getD xs j d
+set-there [] k j v d n = refl
+set-there (x ∷ xs) zero zero v d n = absurd (n refl)
+set-there (x ∷ xs) zero (suc j) v d n = refl
+set-there (x ∷ xs) (suc k) zero v d n = refl
+set-there (x ∷ xs) (suc k) (suc j) v d n = set-there xs k j v d (λ e. n (omega (arith, e)))
+
+-- A member that is stored where it stands.
+pub set-same : {A : Type 0} (xs : List A) (k : ℕ) (v d : A) → k < length xs → getD xs k d ≡ v → set xs k v ≡ xs
+set-same [] k v d l e = refl
+set-same (x ∷ xs) zero v d l e = rw e refl
+set-same (x ∷ xs) (suc k) v d l e = ap (λ (ys : List _). x ∷ ys) (set-same xs k v d (omega arith) e)

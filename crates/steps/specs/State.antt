@@ -1,0 +1,130 @@
+-- What the slices hold between two steps of a session, and what they mean: a session of the definitions, and the states before its adds.
+use Prim.Native.Nat.{ℕ, _+_, _*_, _≤_, _<_}
+use mathlib.Core.Path.{_≡_}
+use mathlib.Core.Bool.{Bool, true, false, cond}
+use mathlib.Core.List.{List, [], _∷_, _++_}
+use mathlib.Core.Option.{Option, none, some}
+use lib.Dec.{ltb}
+use lib.ListN.{length, getD, take}
+use Rattle.words.specs.Words.{at}
+use Rattle.words.specs.Lists.{All}
+use Rattle.path.specs.Measure.{counted}
+use Rattle.session_file.specs.File.{File, Got, got, refused, Step, add, restore, file, version-1}
+use Rattle.session_file.specs.Places.{StepsAt, StepNamed}
+use Rattle.serializer.specs.Items.{size-of, output}
+use Rattle.serializer.specs.Writer.{Todo, Session, start}
+use Rattle.serializer.specs.Trees.{nth}
+use Rattle.serializer.specs.Steps.{UndoState, undo-state, Run, run-steps}
+use Rattle.layout.specs.Layout.{PAIR-COUNT, OPEN, STACK, WRITTEN, SENTINEL-ENTRY, USED, ENTRIES}
+use Rattle.layout.specs.Rows.{all-counts}
+use Rattle.stack.specs.Contracts.{copied-open, copied-stack, copied-marks}
+use Rattle.tree_cache.specs.Meaning.{Tables, unmapped}
+use Rattle.incremental.specs.State.{AtomPlaces, AtomsThere, todo-of, Running, Writes}
+use Rattle.steps.specs.declared.Progress.{Progress}
+
+-- ---- the file of the bytes, and its whole run
+
+abbrev pub contents-of : Got File → File
+contents-of (got f rest) = f
+contents-of (refused n) = record { atoms = []; pairs = []; sentinel = none; steps = [] }
+
+-- The file that the bytes are.
+unfoldable pub the-file : List ℕ → File
+the-file input = contents-of (file version-1 input)
+
+-- The run of its steps, with so many bytes of output.
+unfoldable pub whole-run : File → (space : ℕ) → Run
+whole-run f space = run-steps counted space f (f .steps) [] start
+
+-- A run after the words of steps that are finished.
+abbrev pub after-words : List ℕ → Run → Run
+after-words ws r = record { words = ws ++ r .words; number = r .number; last = r .last }
+
+-- ---- one state
+
+-- 1 where the session is finished.
+abbrev pub bit : Bool → ℕ
+bit true = 1
+bit false = 0
+
+abbrev pub waits : Bool → List Todo → Option (List Todo)
+waits true k = none
+waits false k = some k
+
+-- Work and output hold the session s.
+pub record At (f : File) (w out : List ℕ) (opens depth size : ℕ) (finished : Bool) (s : Session) : Type 0 where
+  pub running : Running w out opens depth size (bit finished)
+  pub writes : Writes f w out depth size (s .cache) (s .written)
+  pub waiting : s .waiting ≡ waits finished (todo-of f w opens)
+
+-- ---- the state before an add
+
+-- Record r and copy k hold the state u before add k. A record has the open pairs, the depth of the stack, the size, and one more than the sentinel's entry.
+pub record Before (f : File) (w out : List ℕ) (k : ℕ) (r : List ℕ) (u : UndoState) : Type 0 where
+  -- The words and the session at that time.
+  pub words-then : List ℕ
+  pub session-then : Session
+  pub stood : At f words-then out (at r 0) (at r 1) (at r 2) false session-then
+  pub is : u ≡ undo-state session-then
+  pub entry-is : at r 3 ≡ at words-then SENTINEL-ENTRY
+  pub tables-same : (j : ℕ) → j < OPEN → at w j ≡ at words-then j
+  pub used-more : at words-then USED ≤ at w USED
+  pub open-pairs : (i : ℕ) → i < at r 0 → at w (copied-open k + i) ≡ at words-then (OPEN + i)
+  pub places : (i : ℕ) → i < at r 1 → at w (copied-stack k + i) ≡ at words-then (STACK + i)
+  pub marks : (i : ℕ) → i < 96 → at w (copied-marks k + i) ≡ at words-then (WRITTEN + i)
+
+-- The bytes written at record k.
+abbrev pub size-at : List (List ℕ) → ℕ → ℕ
+size-at rows k = at (getD rows k []) 2
+
+-- The states before the first n adds.
+pub record History (f : File) (w out : List ℕ) (rows : List (List ℕ)) (size n : ℕ) (past : List UndoState) : Type 0 where
+  pub long : length past ≡ n
+  pub befores : (k : ℕ) (u : UndoState) → nth past k ≡ some u → Before f w out k (getD rows k []) u
+  pub sizes : (k : ℕ) → k < n → size-at rows k ≤ size
+  pub ordered : (j k : ℕ) → j < k → k < n → size-at rows j ≤ size-at rows k
+
+-- ---- a run under way
+
+-- What work holds of the file, and room for what the steps that are left can add to the cache.
+pub record Stocked (input : List ℕ) (f : File) (w : List ℕ) (steps : ℕ) : Type 0 where
+  pub tables : Tables f w
+  pub places : AtomPlaces input w
+  pub atoms-there : AtomsThere input f w
+  pub room : at w USED + 2 * unmapped w (at w PAIR-COUNT) ≤ 2048 + steps
+  pub counts : all-counts w ENTRIES + 2 * unmapped w (at w PAIR-COUNT) ≤ 2048
+
+pub record Underway (input : List ℕ) (f : File) (w words : List ℕ) (rows : List (List ℕ)) (out : List ℕ) (p : Progress) : Type 0 where
+  pub left : List Step
+  pub past : List UndoState
+  pub session : Session
+  pub present : At f w out (p .opens) (p .depth) (p .size) (p .finished) session
+  pub stocked : Stocked input f w (p .steps)
+  pub history : History f w out rows (p .size) (p .adds) past
+  pub few-adds : p .adds ≤ 16
+  pub steps-there : StepsAt input (p .at) left
+  pub steps-named : All (StepNamed (length (f .atoms)) (length (f .pairs))) left
+  pub few-steps : p .steps + length left ≤ 1024
+  pub many-rows : 16 ≤ length rows
+  pub many-words : 1024 ≤ length words
+  pub same : whole-run f (length out) ≡ after-words (take (p .steps) words) (run-steps counted (length out) f left past session)
+
+-- The run is over: no step is left, or one is refused.
+pub record Ended (f : File) (words out : List ℕ) (p : Progress) : Type 0 where
+  pub session : Session
+  pub size-is : p .size ≡ size-of (session .written .items)
+  pub bytes-are : take (p .size) out ≡ output (session .written .items)
+  pub short : length out ≤ 65535
+  pub few-steps : p .steps ≤ 1024
+  pub many-words : 1024 ≤ length words
+  pub same : whole-run f (length out) ≡ record { words = take (p .steps) words; number = p .number; last = session }
+
+abbrev pub Stands : (input : List ℕ) (f : File) (w words : List ℕ) (rows : List (List ℕ)) (out : List ℕ) (p : Progress) → Bool → Type 0
+Stands input f w words rows out p true = Ended f words out p
+Stands input f w words rows out p false = Underway input f w words rows out p
+
+-- The record that a step takes, and stores: of an add its own; of a restore the one that it names.
+abbrev pub slot-for : List Step → (adds : ℕ) → ℕ
+slot-for [] adds = 0
+slot-for (add h ∷ steps) adds = cond (ltb adds 16) adds 0
+slot-for (restore n ∷ steps) adds = cond (ltb n 16) n 0
