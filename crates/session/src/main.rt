@@ -9,7 +9,13 @@ fn report(file: &[u8]) {
     let mut words = [0u32; 1024];
     let mut checkpoints = [[0u32; 4]; 16];
     let mut output = [0u8; 65535];
-    let a = session_call::nikvoldra_session(file, &mut work, &mut words, &mut checkpoints, &mut output);
+    let a = session_call::nikvoldra_session(
+        file,
+        &mut work,
+        &mut words,
+        &mut checkpoints,
+        &mut output,
+    );
     print::steps(&words, a.steps);
     print::hex(&output, a.size);
     print::refusal(a.number);

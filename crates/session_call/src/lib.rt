@@ -33,7 +33,12 @@ fn load_places(file: &[u8], work: &mut [u32], checked: Checked)
 {
     words::clear(work);
     session_file::load_atoms(file, &mut work[layout::ATOMS..layout::PAIRS], checked.atoms);
-    session_file::load_pairs(file, &mut work[layout::PAIRS..layout::FIRST], checked.pairs_at, checked.pairs);
+    session_file::load_pairs(
+        file,
+        &mut work[layout::PAIRS..layout::FIRST],
+        checked.pairs_at,
+        checked.pairs,
+    );
 }
 
 // The tables of the file go to work, which is zero everywhere else.
@@ -158,7 +163,14 @@ fn run_file(
 {
     let space = space_of(output);
     open(file, work, checked);
-    let p = drive(file, work, words, checkpoints, &mut output[..space], checked.steps_at);
+    let p = drive(
+        file,
+        work,
+        words,
+        checkpoints,
+        &mut output[..space],
+        checked.steps_at,
+    );
     finish(work, words, checkpoints, output, p)
 }
 

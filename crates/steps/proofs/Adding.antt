@@ -255,7 +255,7 @@ module _ (input : List ℕ) (f : File) (w words : List ℕ) (rows : List (List �
       ≡ after-words (take (p .steps) words) (after-add (settle s c₂ (comes-to f c₂ (length out) w′ (ended (a .outcome)) (meant .last))) (λ t. run-steps counted (length out′) f rest (u .past ++ undo-state s ∷ []) t))
   run =
       subst (λ (n : ℕ). whole-run f n
-          ≡ after-words (take (p .steps) words) (after-add (settle s c₂ (comes-to f c₂ (length out) w′ (ended (a .outcome)) (meant .last))) (λ t. run-steps counted n f rest (u .past ++ undo-state s ∷ []) t)))
+      ≡ after-words (take (p .steps) words) (after-add (settle s c₂ (comes-to f c₂ (length out) w′ (ended (a .outcome)) (meant .last))) (λ t. run-steps counted n f rest (u .past ++ undo-state s ∷ []) t)))
       (sym (a .out-long))
       (u .same
       ∙ ap (λ (ss : List Step). after-words (take (p .steps) words) (run-steps counted (length out) f ss (u .past) s)) e
@@ -354,7 +354,7 @@ module _ (input : List ℕ) (f : File) (w words : List ℕ) (rows : List (List �
       subst (λ (k : ℕ). Underway input f w′ words′ (set rows k (record-of w p)) out′ t) (sym slot)
       (subst (λ (x : Progress). Underway input f w′ words′ rows′ out′ x) (sym is)
       (subst (λ (x : Progress). x .done ≡ false → words′ ≡ set words (x .steps) (x .size * 2 + bit (x .finished))
-          → Underway input f w′ words′ rows′ out′ (noted-at x next)) (sym (a .is))
+      → Underway input f w′ words′ rows′ out′ (noted-at x next)) (sym (a .is))
       (λ x y. on (a .outcome) (a .resumed .fine) (meant .writes) (a .resumed .grows) run x words′ y) d ws))
 
   -- A refused add ends the run, and keeps the whole items written.

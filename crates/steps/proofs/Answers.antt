@@ -129,9 +129,11 @@ module _ (input : List ℕ) (f : File) (w words out : List ℕ) (p : Progress) (
             let end : Ended f words out′ q =
             added-off input f w words rows out p node next (e .0) u (e .1) (e .2) fin few w′ out′ q ad d in
             let s : a .state .steps ≡ p .steps = ap (λ (x : Progress). x .steps) (is ∙ ad .is) ∙ steps-same (ad .outcome) in
-            let done : a .state .done ≡ true = ap (λ (x : Progress). x .done) is ∙ d in
-            (stands-off input f w′ words (set rows (slot-for (u .left) (p .adds)) (a .saved)) out′ (a .state) done
-            (subst (λ (x : Progress). Ended f words out′ x) (sym is) end), omega (arith, ap bit done))
+            let done : a .state .done ≡ true = ap (λ (x : Progress). x .done) is ∙ d in (
+              stands-off input f w′ words (set rows (slot-for (u .left) (p .adds)) (a .saved)) out′ (a .state) done
+                  (subst (λ (x : Progress). Ended f words out′ x) (sym is) end),
+              omega (arith, ap bit done),
+            )
 
         -- An add that is not refused.
         pub adds-on : (words′ : List ℕ) (a : StepAnswer) → a .saved ≡ record-of w p → q .done ≡ false
@@ -139,10 +141,12 @@ module _ (input : List ℕ) (f : File) (w words out : List ℕ) (p : Progress) (
         adds-on words′ a sv d ws is rows u r-is =
             let e = comes (u .left) (u .steps-there) in
             let s : a .state .steps ≡ p .steps + 1 =
-            ap (λ (x : Progress). x .steps) is ∙ ap (λ (x : Progress). x .steps + 1) (ad .is) ∙ ap (λ (x : ℕ). x + 1) (steps-same (ad .outcome)) in
-            (stands-on input f w′ words′ (set rows (slot-for (u .left) (p .adds)) (a .saved)) out′ (a .state) (ap (λ (x : Progress). x .done) is ∙ d)
-            (subst (λ (x : List ℕ). Underway input f w′ words′ (set rows (slot-for (u .left) (p .adds)) x) out′ (a .state)) (sym sv)
-            (added-on input f w words rows out p node next (e .0) u (e .1) (e .2) fin few w′ out′ q ad words′ (a .state) d ws is)), omega arith)
+            ap (λ (x : Progress). x .steps) is ∙ ap (λ (x : Progress). x .steps + 1) (ad .is) ∙ ap (λ (x : ℕ). x + 1) (steps-same (ad .outcome)) in (
+              stands-on input f w′ words′ (set rows (slot-for (u .left) (p .adds)) (a .saved)) out′ (a .state) (ap (λ (x : Progress). x .done) is ∙ d)
+                  (subst (λ (x : List ℕ). Underway input f w′ words′ (set rows (slot-for (u .left) (p .adds)) x) out′ (a .state)) (sym sv)
+                  (added-on input f w words rows out p node next (e .0) u (e .1) (e .2) fin few w′ out′ q ad words′ (a .state) d ws is)),
+              omega arith,
+            )
 
   module _ (n next : ℕ) (comes : Comes input (p .at) (next-step.Restore n next)) where
     -- Question 11.
@@ -183,8 +187,10 @@ module _ (input : List ℕ) (f : File) (w words out : List ℕ) (p : Progress) (
           → Onward input f w words out p c w′ words′ out a
       restores-on w′ long un words′ q a qi ws is sv rows u r-is =
           let e = comes (u .left) (u .steps-there) in
-          let s : a .state .steps ≡ p .steps + 1 = ap (λ (x : Progress). x .steps) is ∙ ap (λ (x : Progress). x .steps + 1) qi in
-          (stands-on input f w′ words′ (set rows (slot-for (u .left) (p .adds)) (a .saved)) out (a .state)
-          (ap (λ (x : Progress). x .done) is ∙ ap (λ (x : Progress). x .done) qi)
-          (subst (λ (x : List ℕ). Underway input f w′ words′ (set rows (slot-for (u .left) (p .adds)) x) out (a .state)) (sym sv)
-          (restored-on input f w words rows out p n next (e .0) u (e .1) few c r-is w′ long un (e .2) words′ q (a .state) qi ws is)), omega arith)
+          let s : a .state .steps ≡ p .steps + 1 = ap (λ (x : Progress). x .steps) is ∙ ap (λ (x : Progress). x .steps + 1) qi in (
+            stands-on input f w′ words′ (set rows (slot-for (u .left) (p .adds)) (a .saved)) out (a .state)
+                (ap (λ (x : Progress). x .done) is ∙ ap (λ (x : Progress). x .done) qi)
+                (subst (λ (x : List ℕ). Underway input f w′ words′ (set rows (slot-for (u .left) (p .adds)) x) out (a .state)) (sym sv)
+                (restored-on input f w words rows out p n next (e .0) u (e .1) few c r-is w′ long un (e .2) words′ q (a .state) qi ws is)),
+            omega arith,
+          )

@@ -88,7 +88,12 @@ fn record_of(work: &[u32], p: Progress) -> [u32; 4]
     requires { ⌜ (524288 ≤ length (now work)) × (p .opens < 2 ^ 32) × (p .depth < 2 ^ 32) × (p .size < 2 ^ 32) ⌝ }
     ensures { λ r. ⌜ r ≡ record-of (now (work .entry)) p ⌝ }
 {
-    [p.opens as u32, p.depth as u32, p.size as u32, work[layout::SENTINEL_ENTRY]]
+    [
+        p.opens as u32,
+        p.depth as u32,
+        p.size as u32,
+        work[layout::SENTINEL_ENTRY],
+    ]
 }
 
 // A step's word: the size times 2, and 1 more where the session is finished.
@@ -233,10 +238,7 @@ fn add_step(
     let saved = record_of(work, p);
     let q = add(file, work, output, p, node);
     if q.done {
-        return StepAnswer {
-            state: q,
-            saved,
-        };
+        return StepAnswer { state: q, saved };
     }
     StepAnswer {
         state: note(words, q, next),
@@ -284,9 +286,7 @@ pub fn core_step(
 {
     let at = p.at;
     match session_file::next_step(file, at) {
-        NextStep::Add { node, next } => {
-            add_step(file, work, words, output, p, node, next, c)
-        }
+        NextStep::Add { node, next } => { add_step(file, work, words, output, p, node, next, c) }
         NextStep::Restore { number, next } => {
             restore_step(file, work, words, output, p, number, next, c)
         }
