@@ -1,29 +1,31 @@
 -- The session call: what the run ends with is what the definition says, and so are the refusals of the file.
 -- Assumes nothing.
-use Prim.Native.Nat.{ℕ, zero, suc, _+_, _-_, _≤_, _<_, min}
+use Prim.Native.Nat.{ℕ, _+_, _-_, _≤_, _<_, min}
 use mathlib.Core.Path.{_≡_, refl, sym, ap, subst, _∙_}
 use mathlib.Core.Bool.{Bool, true, false, cond, _&&_}
-use mathlib.Core.List.{List, [], _∷_, _++_, append-nil}
+use mathlib.Core.List.{List, [], _++_, append-nil}
 use native.Mathlib.Omega.{arith}
 use lib.Dec.{leb}
-use lib.ListN.{length, take, drop, replicate, length-append, length-take, length-drop, length-replicate, drop-of-length-le}
-use lib.Seq.{length-take-le, drop-drop, take-append-le}
+use lib.ListN.{length, take, drop, replicate, length-append, length-take, length-drop, drop-of-length-le}
+use lib.Seq.{length-take-le, take-append-le}
 use borrow.Author.Tests.{leb-true, le-leb, lt-leb}
 use borrow.Rule.Slice.PartMut.{putMid}
+use Rattle.words.specs.Lists.{Bytes}
 use Rattle.path.specs.Measure.{counted}
 use Rattle.reading.specs.Call.{zeroed, filled}
-use Rattle.session_file.specs.File.{Got, got, refused, File, version-1, file}
+use Rattle.session_file.specs.File.{Got, File, version-1, file}
 use Rattle.session_file.specs.Checked.{Passed, Checks}
 use Rattle.session_file.specs.CheckedLaws.{Accepted, accepted, rejected}
 use Rattle.session_file.specs.declared.Checked.{Checked}
-use Rattle.serializer.specs.Items.{Item, size-of, output}
+use Rattle.serializer.specs.Items.{Item, output}
 use Rattle.serializer.specs.Output.{output-size}
 use Rattle.serializer.specs.Steps.{Run}
-use Rattle.serializer.specs.Call.{Answer, Slices, Result, untouched, long-enough, after-run, after-file, session}
+use Rattle.serializer.specs.Demand3.{demand-3}
+use Rattle.serializer.specs.Call.{Slices, Result, untouched, long-enough, after-run, after-file, session}
 use Rattle.steps.specs.State.{contents-of, the-file, whole-run, Ended}
 use Rattle.steps.specs.declared.Progress.{Progress}
 use Rattle.session_call.specs.declared.SessionAnswer.{SessionAnswer}
-use Rattle.session_call.specs.Outcome.{blank, answer-of, answer-at, slices, result-of, finished-at}
+use Rattle.session_call.specs.Outcome.{blank, answer-of, answer-at, slices, result-of, finished-at, ReadsBack}
 
 -- ---- what is left is cleared
 
@@ -174,3 +176,9 @@ module _ (input w ws : List ℕ) (cs : List (List ℕ)) (o : List ℕ) where
           ∙ ap (λ (f : File). after-run blank (whole-run f (min (length o) 65535)) s) is-file
           ∙ ap (λ (g : Got File). after-file blank version-1 counted g s) (sym (accepted-file .is))
           ∙ sym (session-of enough-is)
+
+-- ---- demand 3
+
+-- What is the definition's result reads back.
+pub reads-back : (input : List ℕ) → Bytes input → (l : Slices (List ℕ)) (t : Result (List ℕ)) → t ≡ session blank version-1 counted input l → ReadsBack input t
+reads-back input bytes l t e = subst (λ (x : Result (List ℕ)). ReadsBack input x) (sym e) (λ f rest is hs steps k. demand-3 blank input bytes f rest is hs steps l k)

@@ -5,11 +5,11 @@ use mathlib.Core.Path.{_≡_, refl, sym, ap, subst, _∙_}
 use mathlib.Core.List.{List, [], _∷_}
 use mathlib.Core.Option.{Option, none, some}
 use native.Mathlib.Omega.{arith}
-use lib.ListN.{length, getD, set, take, drop, replicate, length-replicate, length-set}
+use lib.ListN.{length, getD, set, replicate, length-replicate}
 use borrow.Rule.Slice.PartMut.{putMid}
 use Rattle.words.specs.Words.{at, part}
-use Rattle.words.specs.Lists.{All, all-at}
-use Rattle.words.proofs.Words.{part-length, put-length, put-at, put-other, Store, stores, miss, hits}
+use Rattle.words.specs.Lists.{all-at}
+use Rattle.words.proofs.Words.{part-length, put-length, put-at, put-other, Store, miss, hits}
 use Rattle.session_file.specs.File.{File}
 use Rattle.session_file.specs.Answers as file-answers
 use Rattle.session_file.specs.Places.{ListedAtom}
@@ -17,10 +17,9 @@ use Rattle.session_file.specs.Checked.{Passed}
 use Rattle.session_file.specs.Loaded.{AtomPlace, AtomsLoaded, PairsLoaded}
 use Rattle.session_file.specs.declared.Checked.{Checked}
 use Rattle.layout.specs.Layout.{ATOMS, PAIRS, FIRST, ATOM-LENGTHS, ATOM-HEADS, ATOM-COUNT, PAIR-COUNT, SENTINEL, OPEN}
-use Rattle.tree_cache.specs.Meaning.{sentinel-word, no-pair, Tables}
+use Rattle.tree_cache.specs.Meaning.{sentinel-word}
 use Rattle.load.specs.Load.{atom-bytes, Ready, Loaded}
 use Rattle.load.proofs.Tables.{table-firsts, table-lengths}
-use Rattle.incremental.specs.State.{AtomPlaces, AtomsThere, bytes-at}
 use Rattle.session_call.specs.Opened.{Placed, Opened}
 
 pub zero-at : (n k : ℕ) → at (replicate n 0) k ≡ 0

@@ -1,32 +1,30 @@
 -- The run of a session file starts: nothing is added, and the words hold the fresh session.
 -- Assumes nothing.
-use Prim.Native.Nat.{ℕ, zero, suc, _+_, _*_, _/_, _%_, _^_, _≤_, _<_}
+use Prim.Native.Nat.{ℕ, _+_, _/_, _%_, _^_, _≤_, _<_}
 use mathlib.Core.Path.{_≡_, refl, sym, ap, subst, _∙_}
-use mathlib.Core.Bool.{Bool, true, false}
-use mathlib.Core.List.{List, [], _∷_, _++_}
-use mathlib.Core.Option.{Option, none, some}
+use mathlib.Core.Bool.{false}
+use mathlib.Core.List.{List, []}
+use mathlib.Core.Option.{Option}
 use native.Mathlib.Omega.{arith}
 use native.Mathlib.Nat.{zero-div}
-use lib.ListN.{length, getD, take}
+use lib.ListN.{length}
 use Rattle.words.specs.Words.{at}
 use Rattle.path.specs.Bytes.{odd}
-use Rattle.session_file.specs.File.{File, named}
+use Rattle.session_file.specs.File.{File}
 use Rattle.session_file.specs.Places.{PairNamed, SentinelNamed}
 use Rattle.session_file.specs.Loaded.{pair-of}
 use Rattle.session_file.specs.Checked.{Passed, Contents}
 use Rattle.session_file.specs.CheckedLaws.{pair-named}
 use Rattle.session_file.specs.declared.Checked.{Checked}
-use Rattle.allocator.specs.Handle.{node-of}
 use Rattle.serializer.specs.Writer.{start}
-use Rattle.serializer.specs.Steps.{run-steps}
-use Rattle.layout.specs.Layout.{PAIR-COUNT, OPEN, STACK, TOPS, WRITTEN, MAPS, SEEN, ENTRIES}
+use Rattle.layout.specs.Layout.{TOPS, WRITTEN, MAPS, SEEN, ENTRIES}
 use Rattle.layout.specs.Rows.{stack-of}
-use Rattle.stack.specs.Contracts.{Stacked, marked-at}
+use Rattle.stack.specs.Contracts.{marked-at}
 use Rattle.stack.proofs.Stacks.{stacked-none}
-use Rattle.tree_cache.specs.Meaning.{Handles, Whole}
+use Rattle.tree_cache.specs.Meaning.{Handles}
 use Rattle.tree_cache.proofs.Fresh.{Sorted, tables-handles, fresh-whole, fresh-holds, fresh-room, fresh-counts}
-use Rattle.incremental.specs.State.{Standing, Running, Writes, todo-of, rights-left}
-use Rattle.steps.specs.State.{whole-run, after-words, At, History, Stocked, Underway}
+use Rattle.incremental.specs.State.{todo-of, rights-left}
+use Rattle.steps.specs.State.{whole-run, At, Underway}
 use Rattle.session_call.specs.Opened.{Opened, start-at}
 
 -- Questions 5 and 7 were answered.

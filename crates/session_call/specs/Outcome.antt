@@ -1,8 +1,13 @@
 -- What the session call's answer and slices mean, in the terms of the definition.
-use Prim.Native.Nat.{ℕ}
-use mathlib.Core.List.{List, [], _∷_}
+use Prim.Native.Nat.{ℕ, suc, _<_}
+use mathlib.Core.Path.{_≡_}
+use mathlib.Core.List.{List, [], _∷_, map}
 use lib.ListN.{length, take, replicate}
 use Rattle.reading.specs.Call.{zeroed, filled}
+use Rattle.session_file.specs.File.{File, add, version-1, got, file}
+use Rattle.session_file.specs.Unfold.{unfolded}
+use Rattle.serializer.specs.Premises.{Apart}
+use Rattle.serializer.specs.Demand3.{Finished, ReadBack}
 use Rattle.serializer.specs.Call.{Answer, Slices, Result}
 use Rattle.steps.specs.declared.Progress.{Progress}
 use Rattle.session_call.specs.declared.SessionAnswer.{SessionAnswer}
@@ -37,3 +42,10 @@ finished-at p s =
             output = filled (s .output) (take (p .size) (s .output));
           };
     }
+
+-- DEMAND 3, of the result r of a call with these bytes. The file has add steps only, its adds keep 01's premises up to add k, and the word of add k says
+-- finished. Then reading the finished bytes gives the plain filling's whole tree, and all else that `ReadBack` says.
+abbrev pub ReadsBack : (input : List ℕ) → Result (List ℕ) → Type 0
+ReadsBack input r =
+    (f : File) (rest : List ℕ) → file version-1 input ≡ got f rest → (handles : List ℕ) → f .steps ≡ map add handles → (k : ℕ) → k < r .answer .steps
+    → Finished (r .slices .words) k → Apart (map (unfolded f) (take (suc k) handles)) → ReadBack f handles k r

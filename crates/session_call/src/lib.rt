@@ -13,7 +13,7 @@ ghost use Rattle.serializer.specs.Call.{long-enough, after-run, session};
 ghost use Rattle.steps.specs.State.{the-file, whole-run, Underway, Ended, Stands};
 ghost use Rattle.steps.specs.Steps.{Nearer};
 ghost use Rattle.session_call.specs.Opened.{Placed, Opened, start-at};
-ghost use Rattle.session_call.specs.Outcome.{blank, answer-of, slices, result-of, finished-at};
+ghost use Rattle.session_call.specs.Outcome.{blank, answer-of, slices, result-of, finished-at, ReadsBack};
 
 // The most bytes of output that are used.
 const OUTPUT: usize = 65535;
@@ -207,6 +207,7 @@ pub extern "C" fn nikvoldra_session(
     output: &mut [u8],
 ) -> SessionAnswer
     ensures { λ r. ⌜ result-of r (now (work .exit)) (now (words .exit)) (now (checkpoints .exit)) (now (output .exit)) ≡ session blank version-1 counted (now (file .entry)) (slices (now (work .entry)) (now (words .entry)) (now (checkpoints .entry)) (now (output .entry))) ⌝ }
+    ensures { λ r. ⌜ ReadsBack (now (file .entry)) (result-of r (now (work .exit)) (now (words .exit)) (now (checkpoints .exit)) (now (output .exit))) ⌝ }
 {
     if !long_enough(work, words, checkpoints, output) {
         return refusal(1);

@@ -1,13 +1,13 @@
 -- An add: the state is saved, the tree entered in the cache, and written up to the next open place. What each call asks, and what the add leaves.
 -- Assumes nothing.
-use Prim.Native.Nat.{ℕ, zero, suc, _+_, _*_, _/_, _≤_, _<_}
+use Prim.Native.Nat.{ℕ, suc, _+_, _*_, _≤_, _<_}
 use mathlib.Core.Path.{_≡_, refl, sym, ap, subst, _∙_}
-use mathlib.Core.Bool.{Bool, true, false, cond}
+use mathlib.Core.Bool.{Bool, true, false}
 use mathlib.Core.List.{List, [], _∷_, _++_}
 use mathlib.Core.Option.{Option, none, some}
 use native.Mathlib.Omega.{arith}
 use lib.Dec.{ltb}
-use lib.ListN.{length, getD, set, take, length-set}
+use lib.ListN.{length, set, take, length-set}
 use borrow.Author.Tests.{lt-ltb}
 use Rattle.words.specs.Words.{at}
 use Rattle.words.specs.Lists.{All}
@@ -15,32 +15,30 @@ use Rattle.words.specs.Choice.{cond-true}
 use Rattle.path.specs.Measure.{counted}
 use Rattle.allocator.specs.Handle.{node-of}
 use Rattle.allocator.specs.declared.NodePtr.{NodePtr}
-use Rattle.tree_cache.proofs.Frames.{tables-kept}
 use Rattle.session_file.specs.File.{File, Step, add, named}
 use Rattle.session_file.specs.Places.{StepsAt, StepNamed}
 use Rattle.session_file.specs.Unfold.{unfolded}
 use Rattle.serializer.specs.Cache.{Cache, update}
 use Rattle.serializer.specs.Writer.{Todo, Written, Session, settle}
 use Rattle.serializer.specs.Writer as writer
-use Rattle.serializer.specs.Trees.{nth}
 use Rattle.serializer.specs.Steps.{UndoState, undo-state, room-in, Run, after-add, run-steps}
 use Rattle.serializer.specs.FindPath.{find-in}
-use Rattle.layout.specs.Layout.{ATOM-COUNT, PAIR-COUNT, OPEN, STACK, WRITTEN, MOVED, MAPS, SENTINEL-ENTRY, USED, SEEN, COPIES, COPY, ENTRIES}
-use Rattle.layout.specs.Rows.{stack-of, all-counts}
-use Rattle.stack.specs.Contracts.{Stacked, marked-at, copied-open, copied-stack, copied-marks, Saved}
+use Rattle.layout.specs.Layout.{ATOM-COUNT, PAIR-COUNT, OPEN, STACK, WRITTEN, MOVED, MAPS, SENTINEL-ENTRY, USED, SEEN, COPIES, ENTRIES}
+use Rattle.layout.specs.Rows.{all-counts}
+use Rattle.stack.specs.Contracts.{copied-open, copied-stack, copied-marks, Saved}
 use Rattle.stack.proofs.Stacks.{stack-same, stacked-same}
 use Rattle.stack.proofs.Marks.{marked-same}
+use Rattle.tree_cache.proofs.Frames.{tables-kept}
 use Rattle.tree_cache.specs.Meaning.{Tables, Names, Whole, Holds, entry-or-none, unmapped}
 use Rattle.tree_cache.specs.Contracts.{Updated}
 use Rattle.incremental.specs.State.{AtomPlaces, AtomsThere, todo-of, Running, Writes}
-use Rattle.incremental.specs.Contracts.{place-of, Fine, goes-on, comes-to, Leads, Turns, ended}
+use Rattle.incremental.specs.Contracts.{place-of, Fine, goes-on, comes-to, Leads, ended}
 use Rattle.incremental.proofs.Frames.{todo-same, rights-same, pairs-few}
-use Rattle.incremental.specs.declared.Place.{Place}
 use Rattle.incremental.specs.declared.Outcome.{Outcome}
 use Rattle.incremental.specs.declared.Outcome.the-variants as outcome
 use Rattle.steps.specs.declared.Progress.{Progress}
-use Rattle.steps.specs.State.{whole-run, after-words, bit, waits, At, Before, History, Stocked, Underway, Ended, Stands, slot-for}
-use Rattle.steps.specs.Steps.{refused-at, noted-at, moved-to, record-of, place-at, Adding, after-outcome, Added}
+use Rattle.steps.specs.State.{whole-run, after-words, bit, waits, At, Before, History, Stocked, Underway, Ended, slot-for}
+use Rattle.steps.specs.Steps.{noted-at, record-of, Adding, after-outcome, Added}
 use Rattle.steps.proofs.Frames.{places-kept, atoms-kept, whole-kept, holds-kept, unmapped-kept, all-counts-kept}
 use Rattle.steps.proofs.Runs.{run-add, words-ended}
 use Rattle.steps.proofs.States.{at-kept, history-more, go-on}

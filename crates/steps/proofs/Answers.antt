@@ -1,29 +1,24 @@
 -- What a step's answer means: the run goes on, or it is over.
 -- Assumes nothing.
-use Prim.Native.Nat.{ℕ, zero, suc, _+_, _*_, _≤_, _<_}
+use Prim.Native.Nat.{ℕ, suc, _+_, _*_, _≤_, _<_}
 use mathlib.Core.Path.{_≡_, refl, sym, ap, subst, _∙_}
 use mathlib.Core.Bool.{Bool, true, false}
 use mathlib.Core.List.{List, [], _∷_}
-use mathlib.Core.Option.{Option, none, some}
 use native.Mathlib.Omega.{arith}
 use lib.ListN.{length, getD, set, take}
 use Rattle.words.specs.Words.{at}
 use Rattle.path.specs.Measure.{counted}
-use Rattle.session_file.specs.File.{File, Step, add, restore}
-use Rattle.session_file.specs.Places.{StepsAt}
-use Rattle.session_file.specs.Loaded.{FirstStep}
-use Rattle.session_file.specs.declared.NextStep.{NextStep}
+use Rattle.allocator.specs.declared.NodePtr.{NodePtr}
+use Rattle.session_file.specs.File.{File, Step, restore}
 use Rattle.session_file.specs.declared.NextStep.the-variants as next-step
 use Rattle.serializer.specs.Steps.{Run, stop-at, run-steps}
-use Rattle.allocator.specs.declared.NodePtr.{NodePtr}
-use Rattle.incremental.specs.State.{todo-of, Running}
-use Rattle.incremental.specs.Contracts.{Fine}
-use Rattle.incremental.specs.Contracts.{ended as ended-at}
+use Rattle.incremental.specs.State.{todo-of}
+use Rattle.incremental.specs.Contracts.{Fine, ended as ended-at}
 use Rattle.incremental.specs.declared.Outcome.{Outcome}
 use Rattle.incremental.specs.declared.Outcome.the-variants as outcome
 use Rattle.steps.specs.declared.Progress.{Progress}
 use Rattle.steps.specs.declared.StepAnswer.{StepAnswer}
-use Rattle.steps.specs.State.{whole-run, after-words, bit, waits, size-at, Underway, Ended, Stands, slot-for}
+use Rattle.steps.specs.State.{after-words, bit, waits, size-at, Underway, Ended, Stands, slot-for}
 use Rattle.steps.specs.Steps.{refused-at, noted-at, record-of, stopped-at, Comes, Adding, after-outcome, Added, undone-at, Undoing, Undone, Ready, Onward}
 use Rattle.steps.proofs.Slots.{nth-none}
 use Rattle.steps.proofs.Runs.{run-ends, run-finished, run-full, run-beyond, words-ended}

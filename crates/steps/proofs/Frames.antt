@@ -10,7 +10,7 @@ use Rattle.session_file.specs.File.{File}
 use Rattle.serializer.specs.Cache.{Cache}
 use Rattle.layout.specs.Layout.{ATOMS, ATOM-COUNT, PAIR-COUNT, OPEN, MAPS, SENTINEL-ENTRY, USED, LEFT, RIGHT, SEEN, ENTRIES}
 use Rattle.layout.specs.Rows.{Row, all-counts}
-use Rattle.tree_cache.specs.Meaning.{Tables, Handles, entry-of, entry-or-none, unmapped, Whole, Holds}
+use Rattle.tree_cache.specs.Meaning.{Tables, entry-of, entry-or-none, unmapped, Whole, Holds}
 use Rattle.tree_cache.proofs.Entries.{sound-kept, rows-kept, counts-kept}
 use Rattle.tree_cache.proofs.Frames.{unmapped-same}
 use Rattle.tree_cache.proofs.Making.{whole-of}

@@ -1,35 +1,31 @@
 -- A restore: the state before an add is the present one again. Entries, parents and the handles mapped stay.
 -- Assumes nothing.
-use Prim.Native.Nat.{ℕ, zero, suc, _+_, _*_, _/_, _≤_, _<_}
+use Prim.Native.Nat.{ℕ, zero, suc, _+_, _*_, _≤_, _<_}
 use mathlib.Core.Path.{_≡_, refl, sym, ap, subst, _∙_}
-use mathlib.Core.Bool.{Bool, true, false, cond}
-use mathlib.Core.List.{List, [], _∷_, _++_}
-use mathlib.Core.Option.{Option, none, some}
+use mathlib.Core.List.{List, [], _∷_}
+use mathlib.Core.Option.{Option, some}
 use native.Mathlib.Omega.{arith}
-use lib.Dec.{ltb, eqb}
+use lib.Dec.{ltb}
 use lib.ListN.{length, getD, set, take, length-set}
-use borrow.Author.Tests.{lt-ltb, eqb-true, eqb-false}
+use borrow.Author.Tests.{lt-ltb}
 use Rattle.words.specs.Words.{at}
 use Rattle.words.specs.Lists.{All}
 use Rattle.words.specs.Choice.{cond-true}
 use Rattle.path.specs.Measure.{counted}
 use Rattle.session_file.specs.File.{File, Step, restore}
 use Rattle.session_file.specs.Places.{StepsAt, StepNamed}
-use Rattle.serializer.specs.Cache.{Cache}
 use Rattle.serializer.specs.Writer.{Todo, Written, Session}
-use Rattle.serializer.specs.Trees.{nth}
-use Rattle.serializer.specs.Steps.{UndoState, undo-state, or-known, restored, Run, with-word, word-of, run-steps}
-use Rattle.layout.specs.Layout.{ATOM-COUNT, PAIR-COUNT, OPEN, STACK, WRITTEN, MOVED, MAPS, SENTINEL-ENTRY, USED, SEEN, COPIES, COPY, ENTRIES, DEPTH}
-use Rattle.layout.specs.Rows.{stack-of, all-counts}
-use Rattle.stack.specs.Contracts.{Stacked, marked-at, copied-open, copied-stack, copied-marks, Restored}
+use Rattle.serializer.specs.Steps.{UndoState, or-known, restored, Run, with-word, word-of, run-steps}
+use Rattle.layout.specs.Layout.{PAIR-COUNT, OPEN, STACK, WRITTEN, MAPS, SENTINEL-ENTRY, USED, SEEN, ENTRIES, DEPTH}
+use Rattle.stack.specs.Contracts.{Stacked, copied-stack, Restored}
 use Rattle.stack.proofs.Stacks.{stack-same, stacked-same}
 use Rattle.stack.proofs.Marks.{marked-same}
-use Rattle.tree_cache.specs.Meaning.{Tables, Whole, Holds, entry-or-none, unmapped}
-use Rattle.incremental.specs.State.{AtomsThere, todo-of, Running, Writes}
-use Rattle.incremental.proofs.Frames.{todo-same, rights-same, pairs-few}
+use Rattle.tree_cache.specs.Meaning.{Whole, Holds, entry-or-none}
 use Rattle.tree_cache.proofs.Frames.{tables-kept}
+use Rattle.incremental.specs.State.{todo-of, Running, Writes}
+use Rattle.incremental.proofs.Frames.{todo-same, rights-same, pairs-few}
 use Rattle.steps.specs.declared.Progress.{Progress}
-use Rattle.steps.specs.State.{whole-run, after-words, bit, waits, At, Before, History, Stocked, Underway, Stands, slot-for}
+use Rattle.steps.specs.State.{whole-run, after-words, bit, Before, History, Stocked, Underway, slot-for}
 use Rattle.steps.specs.Steps.{noted-at, with-entry, Undoing, Undone, undone-at}
 use Rattle.steps.proofs.Slots.{Found, nth-found, set-same, set-there, set-here}
 use Rattle.steps.proofs.Frames.{places-kept, atoms-kept, whole-kept, holds-kept, unmapped-kept, all-counts-kept}

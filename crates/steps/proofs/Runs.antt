@@ -1,7 +1,7 @@
 -- Laws of the definitions' run: one step of it, in the form that the code's steps take, and the word of a step.
 -- Assumes nothing.
-use Prim.Native.Nat.{ℕ, zero, suc, _+_, _*_, _≤_, _<_}
-use mathlib.Core.Path.{_≡_, refl, sym, ap, subst, _∙_}
+use Prim.Native.Nat.{ℕ, suc, _+_, _≤_, _<_}
+use mathlib.Core.Path.{_≡_, refl, sym, ap, _∙_}
 use mathlib.Core.Bool.{Bool, true, false}
 use mathlib.Core.List.{List, [], _∷_, _++_, append-assoc, append-nil}
 use mathlib.Core.Option.{Option, none, some}
@@ -12,11 +12,10 @@ use lib.Seq.{take-suc-set}
 use borrow.Author.Tests.{lt-ltb, le-ltb}
 use Rattle.path.specs.Measure.{counted}
 use Rattle.session_file.specs.File.{File, Step, add, restore}
-use Rattle.session_file.specs.Unfold.{Unfolded, unfolded}
-use Rattle.serializer.specs.Cache.{Cache, update}
-use Rattle.serializer.specs.Items.{size-of}
-use Rattle.serializer.specs.Writer.{Todo, parse, Outcome, Session, Added, settle, add-at, resume}
-use Rattle.serializer.specs.Steps.{UndoState, undo-state, room-in, restored, Run, finished-bit, word-of, stop-at, with-word, after-add, unless-full, after-restore, run-steps}
+use Rattle.session_file.specs.Unfold.{unfolded}
+use Rattle.serializer.specs.Cache.{update}
+use Rattle.serializer.specs.Writer.{Todo, parse, Outcome, Session, settle, add-at, resume}
+use Rattle.serializer.specs.Steps.{UndoState, undo-state, room-in, restored, Run, finished-bit, word-of, stop-at, with-word, after-add, unless-full, run-steps}
 use Rattle.serializer.specs.FindPath.{find-in}
 use Rattle.serializer.specs.Trees.{nth}
 use Rattle.steps.specs.State.{after-words, bit, waits}

@@ -1,17 +1,17 @@
 -- The first step of those that are left, and the record that it takes; lists read by number.
 -- Assumes nothing.
 use Prim.Native.Nat.{ℕ, zero, suc, _+_, _≤_, _<_}
-use mathlib.Core.Path.{_≡_, refl, sym, ap, subst, _∙_}
+use mathlib.Core.Path.{_≡_, refl, sym, ap, _∙_}
 use mathlib.Core.Logic.{_⊎_, inl, inr}
-use mathlib.Core.Bool.{Bool, true, false, cond}
+use mathlib.Core.Bool.{cond}
 use mathlib.Core.List.{List, [], _∷_, _++_}
-use mathlib.Core.Option.{Option, none, some}
+use mathlib.Core.Option.{none, some}
 use native.Mathlib.Omega.{arith}
 use lib.Dec.{ltb}
 use lib.ListN.{length, getD, set, take}
 use Rattle.session_file.specs.declared.NextStep.{NextStep}
 use Rattle.session_file.specs.declared.NextStep.the-variants as next-step
-use Rattle.session_file.specs.File.{Step, add, restore}
+use Rattle.session_file.specs.File.{Step}
 use Rattle.session_file.specs.Loaded.{FirstStep}
 use Rattle.serializer.specs.Trees.{nth}
 use Rattle.steps.specs.State.{slot-for}

@@ -3,9 +3,9 @@
 use Prim.Native.Nat.{ℕ, zero, suc, _+_, _*_, _≤_, _<_}
 use mathlib.Core.Path.{_≡_, refl, sym, ap, subst, _∙_}
 use mathlib.Core.Logic.{_⊎_, inl, inr}
-use mathlib.Core.Bool.{Bool, true, false}
+use mathlib.Core.Bool.{Bool, false}
 use mathlib.Core.List.{List, [], _∷_, _++_}
-use mathlib.Core.Option.{Option, none, some}
+use mathlib.Core.Option.{some}
 use native.Mathlib.Omega.{arith}
 use lib.ListN.{length, getD, set, take, length-append, length-set}
 use lib.Seq.{take-take}
@@ -15,15 +15,14 @@ use Rattle.words.specs.Choice.{by-lt}
 use Rattle.path.specs.Measure.{counted}
 use Rattle.session_file.specs.File.{File, Step}
 use Rattle.session_file.specs.Places.{StepsAt, StepNamed}
-use Rattle.serializer.specs.Items.{size-of}
 use Rattle.serializer.specs.Writer.{Session}
 use Rattle.serializer.specs.Trees.{nth}
-use Rattle.serializer.specs.Steps.{UndoState, undo-state, word-of, with-word, finished-bit, run-steps}
-use Rattle.layout.specs.Layout.{OPEN, STACK, WRITTEN, SENTINEL-ENTRY, USED, COPIES, COPY}
+use Rattle.serializer.specs.Steps.{UndoState, word-of, with-word, run-steps}
+use Rattle.layout.specs.Layout.{OPEN, USED, COPIES, COPY}
 use Rattle.stack.specs.Contracts.{copied-open, copied-stack, copied-marks}
-use Rattle.incremental.specs.State.{Running, Writes, todo-of}
+use Rattle.incremental.specs.State.{todo-of}
 use Rattle.steps.specs.declared.Progress.{Progress}
-use Rattle.steps.specs.State.{the-file, whole-run, after-words, bit, waits, At, Before, size-at, History, Stocked, Underway}
+use Rattle.steps.specs.State.{whole-run, after-words, bit, At, Before, size-at, History, Stocked, Underway}
 use Rattle.steps.specs.Steps.{noted-at}
 use Rattle.steps.proofs.Slots.{nth-low, nth-snoc, nth-take, set-here, set-there}
 use Rattle.steps.proofs.Runs.{finished-word, word-noted}

@@ -3,8 +3,9 @@ use Prim.Native.Nat.{ℕ, zero, suc, _+_, _*_, _≤_, _<_}
 use mathlib.Core.Path.{_≡_}
 use mathlib.Core.Bool.{Bool, true, false}
 use mathlib.Core.List.{List, [], _∷_}
-use lib.ListN.{length, getD, set, take}
+use lib.ListN.{length, getD, set}
 use Rattle.words.specs.Words.{at}
+use Rattle.allocator.specs.declared.NodePtr.{NodePtr}
 use Rattle.session_file.specs.File.{File, Step}
 use Rattle.session_file.specs.Places.{StepsAt}
 use Rattle.session_file.specs.Loaded.{FirstStep}
@@ -12,18 +13,17 @@ use Rattle.session_file.specs.declared.NextStep.{NextStep}
 use Rattle.layout.specs.Layout.{PAIR-COUNT, SENTINEL-ENTRY, USED, ENTRIES, DEPTH}
 use Rattle.layout.specs.Rows.{all-counts}
 use Rattle.stack.specs.Contracts.{Stacked, copied-stack, Saved, Restored}
-use Rattle.tree_cache.specs.Meaning.{Names, Whole, unmapped}
+use Rattle.tree_cache.specs.Meaning.{Names, unmapped}
 use Rattle.tree_cache.specs.Contracts.{Updated}
 use Rattle.incremental.specs.State.{AtomPlaces, Running}
 use Rattle.incremental.specs.Contracts.{Turns, ended}
 use Rattle.incremental.specs.declared.Next.the-variants as next
-use Rattle.allocator.specs.declared.NodePtr.{NodePtr}
 use Rattle.incremental.specs.declared.Place.{Place}
 use Rattle.incremental.specs.declared.Outcome.{Outcome}
 use Rattle.incremental.specs.declared.Outcome.the-variants as outcome
 use Rattle.steps.specs.declared.Progress.{Progress}
 use Rattle.steps.specs.declared.StepAnswer.{StepAnswer}
-use Rattle.steps.specs.State.{bit, Underway, Ended, Stands, slot-for}
+use Rattle.steps.specs.State.{bit, Underway, Stands, slot-for}
 
 -- The run ends with a number.
 abbrev pub refused-at : Progress → ℕ → Progress

@@ -1,82 +1,61 @@
-use Rattle.session_call.proofs.Calling.{tail-cleared, result-finished}
+-- `session_call::finish` clears what is left, and gives the answer.
+-- Assumes nothing.
 use borrow.Author.Needs.{needs}
+use Rattle.session_call.proofs.Calling.{tail-cleared, result-finished}
 use Rattle.session_call.proofs.finish.Statement.{statement}
 use Rattle.session_call.proofs.finish.Tie as tie
-use Rattle.session_call.proofs.finish.Reads as reads
-use Rattle.session_call.proofs.finish.Lts as lts
-use Rattle.session_call.proofs.clear_checkpoints.Reads as clear-checkpoints-reads
-use Rattle.words.proofs.clear.Reads as clear-reads
-use Rattle.words.proofs.clear_bytes.Reads as clear-bytes-reads
 
--- src/lib.rt:125:5
 clear-requires : tie.Need-clear-requires
 clear-requires c κs = search needs
 
--- src/lib.rt:126:18
 mul-clear : tie.Need-mul-clear
 mul-clear c = search needs
 
--- src/lib.rt:126:18
 sub-clear : tie.Need-sub-clear
 sub-clear c = search needs
 
--- src/lib.rt:126:18
 part-clear-start : tie.Need-part-clear-start
 part-clear-start c = search needs
 
--- src/lib.rt:126:18
 part-clear-end : tie.Need-part-clear-end
 part-clear-end c = search needs
 
--- src/lib.rt:126:5
 clear-requires-2 : tie.Need-clear-requires-2
 clear-requires-2 c κs = search needs
 
--- src/lib.rt:127:5
 clear-checkpoints-requires : tie.Need-clear-checkpoints-requires
 clear-checkpoints-requires c κs = search needs
 
--- src/lib.rt:128:24
 sub-clear-bytes : tie.Need-sub-clear-bytes
 sub-clear-bytes c = search needs
 
--- src/lib.rt:128:24
 part-clear-bytes-start : tie.Need-part-clear-bytes-start
 part-clear-bytes-start c = search needs
 
--- src/lib.rt:128:24
 part-clear-bytes-end : tie.Need-part-clear-bytes-end
 part-clear-bytes-end c = search needs
 
--- src/lib.rt:128:5
 clear-bytes-requires : tie.Need-clear-bytes-requires
 clear-bytes-requires c κs = search needs
 
--- src/lib.rt:131:16
 cast-t21 : tie.Need-cast-t21
 cast-t21 c = search needs
 
--- src/lib.rt:132:15
 cast-t22 : tie.Need-cast-t22
 cast-t22 c = search needs
 
--- src/lib.rt:113:1
 same-length : tie.Need-same-length
 same-length c = search needs
 
--- src/lib.rt:113:1
 same-length-2 : tie.Need-same-length-2
 same-length-2 c = search needs
 
--- src/lib.rt:113:1
 same-length-3 : tie.Need-same-length-3
 same-length-3 c = search needs
 
--- src/lib.rt:113:1
 same-length-4 : tie.Need-same-length-4
 same-length-4 c = search needs
 
--- src/lib.rt:113:1
 returns : tie.Need-returns
 returns c = let s = c .before .before .before .before .before .before .before .before .before .before .before .before .before .before .before .before .before .before in let a = s .args in
     result-finished (a .p) (a .work .now) (a .words .now) (a .checkpoints .now) (a .output .now) (c .before .before .before .before .before .before .before .before .before .before .before .before .before .clear .last .0) _ (c .before .before .before .before .before .clear-checkpoints .last .0) _ (c .before .before .before .before .before .before .before .before .before .before .before .before .before .clear .ensures)

@@ -1,64 +1,50 @@
-use Rattle.session_call.proofs.Opening.{few-twice, pairs-room, placed}
-use Rattle.session_file.specs.CheckedLaws.{atoms-to-load, pairs-to-load}
-use Rattle.steps.specs.State.{the-file}
+-- `session_call::load_places` puts the places of the atoms and the handles of the pairs into work.
+-- Assumes nothing.
+use mathlib.Core.Path.{sym}
+use native.Mathlib.Omega.{arith}
+use borrow.Author.Needs.{needs}
 use Rattle.words.proofs.Words.{part-length}
 use Rattle.words.specs.Words.{part}
-use native.Mathlib.Omega.{arith}
-use mathlib.Core.Path.{refl, sym, _∙_}
-use borrow.Author.Needs.{needs}
+use Rattle.session_file.specs.CheckedLaws.{atoms-to-load, pairs-to-load}
+use Rattle.steps.specs.State.{the-file}
+use Rattle.session_call.proofs.Opening.{few-twice, pairs-room, placed}
 use Rattle.session_call.proofs.load_places.Statement.{statement}
 use Rattle.session_call.proofs.load_places.Tie as tie
-use Rattle.session_call.proofs.load_places.Reads as reads
-use Rattle.session_call.proofs.load_places.Lts as lts
-use Rattle.session_file.proofs.load_atoms.Reads as load-atoms-reads
-use Rattle.session_file.proofs.load_pairs.Reads as load-pairs-reads
-use Rattle.words.proofs.clear.Reads as clear-reads
 
--- src/lib.rt:34:5
 clear-requires : tie.Need-clear-requires
 clear-requires c κs = search needs
 
--- src/lib.rt:35:36
 sub-load-atoms : tie.Need-sub-load-atoms
 sub-load-atoms c = search needs
 
--- src/lib.rt:35:36
 part-load-atoms-start : tie.Need-part-load-atoms-start
 part-load-atoms-start c = search needs
 
--- src/lib.rt:35:36
 part-load-atoms-end : tie.Need-part-load-atoms-end
 part-load-atoms-end c = search needs
 
--- src/lib.rt:35:5
 load-atoms-requires : tie.Need-load-atoms-requires
 unfolding part
 load-atoms-requires c κs = let s = c .before .before .before .before .before .before .before in let a = s .args in let cl = c .before .before .before .clear in
     (atoms-to-load (a .file .now) (the-file (a .file .now)) (a .checked) (s .pre .0), omega (arith, few-twice (a .file .now) (the-file (a .file .now)) (a .checked) (s .pre .0) .0, part-length (cl .last .0) 0 2048 (omega (arith, cl .kept .0, s .pre .1))))
 
--- src/lib.rt:36:36
 sub-load-pairs : tie.Need-sub-load-pairs
 sub-load-pairs c = search needs
 
--- src/lib.rt:36:36
 part-load-pairs-start : tie.Need-part-load-pairs-start
 part-load-pairs-start c = search needs
 
--- src/lib.rt:36:36
 part-load-pairs-end : tie.Need-part-load-pairs-end
 part-load-pairs-end c = search needs
 
--- src/lib.rt:36:5
 load-pairs-requires : tie.Need-load-pairs-requires
 unfolding part
 load-pairs-requires c κs = let s = c .before .before .before .before .before .before .before .before .before .before .before in let a = s .args in let cl = c .before .before .before .before .before .before .before .clear in let la = c .before .before .before .load-atoms in
     (pairs-to-load (a .file .now) (the-file (a .file .now)) (a .checked) (s .pre .0), omega (arith, few-twice (a .file .now) (the-file (a .file .now)) (a .checked) (s .pre .0) .1, pairs-room _ (s .pre .1) (cl .last .0) (la .last .1 .0) (cl .kept .0) (la .kept .1 .0)))
 
--- src/lib.rt:30:1
 same-length : tie.Need-same-length
 same-length c = search needs
 
--- src/lib.rt:30:1
 returns : tie.Need-returns
 unfolding part
 returns c = let s = c .before .before .before .before .before .before .before .before .before .before .before .before .before .before in let a = s .args in let cl = c .before .before .before .before .before .before .before .before .before .before .clear in let la = c .before .before .before .before .before .before .load-atoms in let lp = c .before .before .load-pairs in let p = s .pre .0 in

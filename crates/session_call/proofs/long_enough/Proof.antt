@@ -1,19 +1,16 @@
-use Rattle.session_call.proofs.Calling.{enough, short-work, short-words}
+-- `session_call::long_enough` answers question 1.
+-- Assumes nothing.
 use native.Mathlib.Omega.{arith}
+use Rattle.session_call.proofs.Calling.{enough, short-work, short-words}
 use Rattle.session_call.proofs.long_enough.Statement.{statement}
 use Rattle.session_call.proofs.long_enough.Tie as tie
-use Rattle.session_call.proofs.long_enough.Reads as reads
-use Rattle.session_call.proofs.long_enough.Lts as lts
 
--- src/lib.rt:170:9
 returns : tie.Need-returns
 returns c = let a = c .before .args in short-work (a .work .now) (a .words .now) (a .checkpoints .now) (a .output .now) (c .if1 .taken)
 
--- src/lib.rt:173:9
 returns-2 : tie.Need-returns-2
 returns-2 c = let a = c .before .before .args in short-words (a .work .now) (a .words .now) (a .checkpoints .now) (a .output .now) (omega (arith, c .before .if1 .left)) (c .if2 .taken)
 
--- src/lib.rt:166:1
 returns-3 : tie.Need-returns-3
 returns-3 c = let a = c .before .before .args in enough (a .work .now) (a .words .now) (a .checkpoints .now) (a .output .now) (omega (arith, c .before .if1 .left)) (omega (arith, c .if2 .left))
 

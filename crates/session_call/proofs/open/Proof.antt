@@ -1,46 +1,36 @@
-use Rattle.session_call.proofs.Opening.{firsts-ask, opened}
-use Rattle.steps.specs.State.{the-file}
-use lib.ListN.{length-set}
+-- `session_call::open` puts all tables of the file into work.
+-- Assumes nothing.
+use mathlib.Core.Path.{refl}
 use native.Mathlib.Omega.{arith}
-use mathlib.Core.Path.{refl, sym, _∙_}
+use lib.ListN.{length-set}
 use borrow.Author.Needs.{needs}
+use Rattle.steps.specs.State.{the-file}
+use Rattle.session_call.proofs.Opening.{firsts-ask, opened}
 use Rattle.session_call.proofs.open.Statement.{statement}
 use Rattle.session_call.proofs.open.Tie as tie
-use Rattle.session_call.proofs.open.Reads as reads
-use Rattle.session_call.proofs.open.Lts as lts
-use Rattle.load.proofs.load_firsts.Reads as load-firsts-reads
-use Rattle.session_call.proofs.load_places.Reads as load-places-reads
 
--- src/lib.rt:44:5
 load-places-requires : tie.Need-load-places-requires
 load-places-requires c κs = search needs
 
--- src/lib.rt:45:35
 cast-load-firsts : tie.Need-cast-load-firsts
 cast-load-firsts c = search needs
 
--- src/lib.rt:45:5
 load-firsts-requires : tie.Need-load-firsts-requires
 load-firsts-requires c κs = let s = c .before .before .before .before .before .before .before .before in let a = s .args in let lp = c .before .before .before .before .load-places in
     firsts-ask (a .file .now) (the-file (a .file .now)) (a .checked) (s .pre .0) (lp .last .1 .0) (omega (arith, lp .kept .1 .0, s .pre .1)) (lp .ensures) (a .checked .atoms) refl
 
--- src/lib.rt:46:5
 slice-write-work : tie.Need-slice-write-work
 slice-write-work c = search needs
 
--- src/lib.rt:47:5
 slice-write-work-2 : tie.Need-slice-write-work-2
 slice-write-work-2 c = simp length-set (omega (arith, c .before .before .load-firsts .kept .0, c .before .before .before .before .before .before .before .load-places .kept .1 .0, c .before .before .before .before .before .before .before .before .before .before .before .pre .1))
 
--- src/lib.rt:48:5
 slice-write-work-3 : tie.Need-slice-write-work-3
 slice-write-work-3 c = simp length-set (omega (arith, c .before .before .load-firsts .kept .0, c .before .before .before .before .before .before .before .load-places .kept .1 .0, c .before .before .before .before .before .before .before .before .before .before .before .pre .1))
 
--- src/lib.rt:40:1
 same-length : tie.Need-same-length
 same-length c = simp length-set (omega (arith, c .before .before .load-firsts .kept .0, c .before .before .before .before .before .before .before .load-places .kept .1 .0))
 
--- src/lib.rt:40:1
 returns : tie.Need-returns
 returns c = let s = c .before .before .before .before .before .before .before .before .before .before .before in let a = s .args in let lp = c .before .before .before .before .before .before .before .load-places in let lf = c .before .before .load-firsts in
     opened (a .file .now) (the-file (a .file .now)) (a .checked) (s .pre .0) (lp .last .1 .0) (omega (arith, lp .kept .1 .0, s .pre .1)) (lp .ensures) (a .checked .atoms) refl (lf .last .0) (lf .kept .0) (lf .ensures)

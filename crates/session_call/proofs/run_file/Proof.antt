@@ -1,64 +1,49 @@
+-- `session_call::run_file` loads the file, runs its steps and clears what is left, as the definition says.
+-- Assumes nothing.
+use mathlib.Core.Path.{sym, _∙_}
+use native.Mathlib.Omega.{arith}
+use lib.Seq.{length-take-le}
+use lib.ListN.{take, drop}
+use borrow.Author.Needs.{needs}
+use Rattle.steps.specs.State.{the-file}
 use Rattle.session_call.proofs.Calling.{finish-asks, run-result, part-back}
 use Rattle.session_call.proofs.Starting.{starts}
-use Rattle.steps.specs.State.{the-file}
-use lib.Seq.{length-take-le}
-use lib.ListN.{length, take, drop, length-append, length-drop}
-use native.Mathlib.Omega.{arith}
-use mathlib.Core.Path.{_≡_, refl, sym, ap, _∙_}
-use borrow.Author.Needs.{needs}
 use Rattle.session_call.proofs.run_file.Statement.{statement}
 use Rattle.session_call.proofs.run_file.Tie as tie
-use Rattle.session_call.proofs.run_file.Reads as reads
-use Rattle.session_call.proofs.run_file.Lts as lts
-use Rattle.session_call.proofs.drive.Reads as drive-reads
-use Rattle.session_call.proofs.finish.Reads as finish-reads
-use Rattle.session_call.proofs.open.Reads as open-reads
-use Rattle.session_call.proofs.space_of.Reads as space-of-reads
 
--- src/lib.rt:159:9
 space-of-requires : tie.Need-space-of-requires
 space-of-requires c κs = search needs
 
--- src/lib.rt:160:5
 open-requires : tie.Need-open-requires
 open-requires c κs = search needs
 
--- src/lib.rt:161:51
 slice-relend-prefix-drive : tie.Need-slice-relend-prefix-drive
 slice-relend-prefix-drive c = search needs
 
--- src/lib.rt:161:51
 slice-aggregate-drive : tie.Need-slice-aggregate-drive
 slice-aggregate-drive c = sym (length-take-le (c .before .before .before .before .before .before .before .before .space-of .result) (c .before .before .before .before .before .before .before .before .before .before .before .before .before .before .args .output .now) (omega (arith, c .before .before .before .before .before .before .before .before .space-of .ensures)))
 
--- src/lib.rt:161:9
 drive-requires : tie.Need-drive-requires
 drive-requires c κs = let s = c .before .before .before .before .before .before .before .before .before .before .before .before .before .before in let a = s .args in let n = c .before .before .before .before .before .before .before .before .space-of in let op = c .before .before .before .before .before .before .«open» in
     starts (a .file .now) (the-file (a .file .now)) (a .checked) (s .pre .0) (op .last .1 .0) (a .words .now) (a .checkpoints .now) (take (n .result) (a .output .now)) (op .ensures)
     (omega (arith, op .kept .1 .0, s .pre .1)) (s .pre .2) (s .pre .3) (omega (arith, length-take-le (n .result) (a .output .now) (omega (arith, n .ensures)), n .ensures))
 
--- src/lib.rt:162:5
 finish-requires : tie.Need-finish-requires
 finish-requires c κs = let s = c .before .before .before .before .before .before .before .before .before .before .before .before .before .before .before .before .before .before .before .before .before .before .before .before .before .before in let a = s .args in let d = c .before .before .before .before .before .before .before .before .before .before .before .drive in
     finish-asks (the-file (a .file .now)) (d .last .1 .1 .0) (d .last .1 .1 .1 .1 .0) (d .result) (d .ensures) _
 
--- src/lib.rt:148:1
 same-length : tie.Need-same-length
 same-length c = search needs
 
--- src/lib.rt:148:1
 same-length-2 : tie.Need-same-length-2
 same-length-2 c = search needs
 
--- src/lib.rt:148:1
 same-length-3 : tie.Need-same-length-3
 same-length-3 c = search needs
 
--- src/lib.rt:148:1
 same-length-4 : tie.Need-same-length-4
 same-length-4 c = search needs
 
--- src/lib.rt:148:1
 returns : tie.Need-returns
 returns c = let s = c .before .before .before .before .before .before .before .before .before .before .before .before .before .before .before .before .before .before .before .before .before .before .before .before .before .before .before .before .before .before .before .before .before .before in let a = s .args in let d = c .before .before .before .before .before .before .before .before .before .before .before .before .before .before .before .before .before .before .before .drive in let op = c .before .before .before .before .before .before .before .before .before .before .before .before .before .before .before .before .before .before .before .before .before .before .before .before .before .before .«open» in let n = c .before .before .before .before .before .before .before .before .before .before .before .before .before .before .before .before .before .before .before .before .before .before .before .before .before .before .before .before .space-of in let fi = c .before .before .before .before .before .before .before .finish in
     let b = part-back (a .output .now) (d .last .1 .1 .1 .1 .0) (n .result) (n .ensures) (d .kept .1 .1 .1 .1 .0) in

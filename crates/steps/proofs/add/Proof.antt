@@ -1,42 +1,30 @@
-use Rattle.steps.proofs.Adding.{update-asks, running₂, names₂, places₂}
-use native.Mathlib.Omega.{arith}
-use mathlib.Core.Path.{_≡_, sym, ap, _∙_}
+-- `steps::add` saves the state, enters the tree in the cache and writes it up to the next open place.
+-- Assumes nothing.
+use mathlib.Core.Path.{_∙_}
 use borrow.Author.Needs.{needs}
+use Rattle.steps.proofs.Adding.{update-asks, running₂, names₂, places₂}
 use Rattle.steps.proofs.add.Statement.{statement}
 use Rattle.steps.proofs.add.Tie as tie
-use Rattle.steps.proofs.add.Reads as reads
-use Rattle.steps.proofs.add.Lts as lts
-use Rattle.incremental.proofs.resume.Reads as resume-reads
-use Rattle.steps.proofs.after_outcome.Reads as after-outcome-reads
-use Rattle.stack.proofs.save.Reads as save-reads
-use Rattle.tree_cache.proofs.update.Reads as update-reads
 
--- src/lib.rt:159:5
 save-requires : tie.Need-save-requires
 save-requires c κs = search needs
 
--- src/lib.rt:160:5
 update-requires : tie.Need-update-requires
 update-requires c κs = let s = c .before .before .before .before .before .before .before .before in update-asks (s .args .file .now) (s .args .work .now) (s .args .output .now) (s .args .p) (s .args .node .0) (s .pre) (c .before .before .before .save .last .0) (c .before .before .before .save .kept .0) (c .before .before .before .save .ensures)
 
--- src/lib.rt:166:9
 resume-requires : tie.Need-resume-requires
 resume-requires c κs = let s = c .before .before .before .before .before .before .before .before .before .before .before .before .before in let sv = c .before .before .before .before .before .before .before .before .save in let up = c .before .before .before .before .update in
     (places₂ (s .args .file .now) (s .args .work .now) (s .args .output .now) (s .args .p) (s .args .node .0) (s .pre) (sv .last .0) (sv .kept .0) (sv .ensures) (up .last .0) (up .kept .0 ∙ sv .kept .0) (up .ensures), running₂ (s .args .file .now) (s .args .work .now) (s .args .output .now) (s .args .p) (s .args .node .0) (s .pre) (sv .last .0) (sv .kept .0) (sv .ensures) (up .last .0) (up .kept .0 ∙ sv .kept .0) (up .ensures), names₂ (s .args .file .now) (s .args .work .now) (s .args .output .now) (s .args .p) (s .args .node .0) (s .pre) (sv .last .0) (sv .kept .0) (sv .ensures) (up .last .0) (up .kept .0 ∙ sv .kept .0) (up .ensures))
 
--- src/lib.rt:167:5
 after-outcome-requires : tie.Need-after-outcome-requires
 after-outcome-requires c κs = search needs
 
--- src/lib.rt:155:1
 same-length : tie.Need-same-length
 same-length c = let sv = c .before .before .before .before .before .before .before .before .before .before .before .before .before .before .save in let up = c .before .before .before .before .before .before .before .before .before .before .update in let re = c .before .before .before .before .before .resume in re .kept .0 ∙ up .kept .0 ∙ sv .kept .0
 
--- src/lib.rt:155:1
 same-length-2 : tie.Need-same-length-2
 same-length-2 c = search needs
 
--- src/lib.rt:155:1
 returns : tie.Need-returns
 returns c = let sv = c .before .before .before .before .before .before .before .before .before .before .before .before .before .before .save in let up = c .before .before .before .before .before .before .before .before .before .before .update in let re = c .before .before .before .before .before .resume in
     record {

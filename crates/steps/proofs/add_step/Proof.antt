@@ -1,77 +1,59 @@
-use Rattle.steps.proofs.Answers as answers
-use Rattle.steps.specs.State.{the-file}
+-- `steps::add_step` meets its contract: questions 9 and 10, a refused add, and an add whose word is noted.
+-- Assumes nothing.
+use mathlib.Core.Path.{refl}
 use native.Mathlib.Omega.{arith}
-use mathlib.Core.Path.{refl, sym, ap, subst, _∙_}
 use borrow.Author.Needs.{needs}
+use Rattle.steps.specs.State.{the-file}
+use Rattle.steps.proofs.Answers as answers
 use Rattle.steps.proofs.add_step.Statement.{statement}
 use Rattle.steps.proofs.add_step.Tie as tie
-use Rattle.steps.proofs.add_step.Reads as reads
-use Rattle.steps.proofs.add_step.Lts as lts
-use Rattle.steps.proofs.add.Reads as add-reads
-use Rattle.steps.proofs.note.Reads as note-reads
-use Rattle.steps.proofs.record_of.Reads as record-of-reads
-use Rattle.steps.proofs.stop.Reads as stop-reads
 
--- src/lib.rt:216:9
 stop-requires : tie.Need-stop-requires
 stop-requires c κs = search needs
 
--- src/lib.rt:216:9
 returns : tie.Need-returns
 returns c = let s = c .before .before .before .before .before .before in let a = s .args in
     answers.stops-9 (a .file .now) (the-file (a .file .now)) (a .work .now) (a .words .now) (a .output .now) (a .p) (a .c) (a .node) (a .next) (s .pre .1) (c .stop .result) (c .stop .ensures) (c .before .if1 .taken)
 
--- src/lib.rt:219:9
 stop-requires-2 : tie.Need-stop-requires-2
 stop-requires-2 c κs = search needs
 
--- src/lib.rt:219:9
 returns-2 : tie.Need-returns-2
 returns-2 c = let s = c .before .before .before .before .before .before .before .before in let a = s .args in
     answers.stops-10 (a .file .now) (the-file (a .file .now)) (a .work .now) (a .words .now) (a .output .now) (a .p) (a .c) (a .node) (a .next) (s .pre .1) (c .stop2 .result) (c .stop2 .ensures) (c .before .before .before .if1 .left) (c .before .if2 .taken)
 
--- src/lib.rt:221:9
 record-of-requires : tie.Need-record-of-requires
 record-of-requires c κs = search needs
 
--- src/lib.rt:222:9
 add-requires : tie.Need-add-requires
 add-requires c κs = let s = c .before .before .before .before .before .before .before .before .before .before .before in let a = s .args in
     answers.add-asks (a .file .now) (the-file (a .file .now)) (a .work .now) (a .words .now) (a .output .now) (a .p) (a .c) (a .node) (a .next) (s .pre .1) (c .before .before .before .before .before .before .if1 .left) (omega (arith, c .before .before .before .before .if2)) (s .pre .0)
 
--- src/lib.rt:224:9
 same-length : tie.Need-same-length
 same-length c = search needs
 
--- src/lib.rt:224:9
 same-length-2 : tie.Need-same-length-2
 same-length-2 c = search needs
 
--- src/lib.rt:224:9
 returns-3 : tie.Need-returns-3
 returns-3 c = let s = c .before .before .before .before .before .before .before .before .before .before .before .before .before .before .before .before .before in let a = s .args in let ad = c .before .before .before .before .before .add in
     answers.adds-off (a .file .now) (the-file (a .file .now)) (a .work .now) (a .words .now) (a .output .now) (a .p) (a .c) (a .node) (a .next) (s .pre .1) (c .before .before .before .before .before .before .before .before .before .before .before .before .if1 .left) (omega (arith, c .before .before .before .before .before .before .before .before .before .before .if2))
     (ad .last .1 .0) (ad .last .1 .1 .0) (ad .result) (ad .ensures) _ refl (c .if3 .taken)
 
--- src/lib.rt:230:16
 note-requires : tie.Need-note-requires
 note-requires c κs = let s = c .before .before .before .before .before .before .before .before .before .before .before .before .before .before .before .before .before .before in let a = s .args in let ad = c .before .before .before .before .before .before .add in
     answers.note-asks (a .file .now) (the-file (a .file .now)) (a .work .now) (a .words .now) (a .output .now) (a .p) (a .c) (a .node) (a .next) (s .pre .1) (c .before .before .before .before .before .before .before .before .before .before .before .before .before .if1 .left) (omega (arith, c .before .before .before .before .before .before .before .before .before .before .before .if2))
     (ad .last .1 .0) (ad .last .1 .1 .0) (ad .result) (ad .ensures) (s .pre .0) (c .before .if3 .left)
 
--- src/lib.rt:202:1
 same-length-3 : tie.Need-same-length-3
 same-length-3 c = search needs
 
--- src/lib.rt:202:1
 same-length-4 : tie.Need-same-length-4
 same-length-4 c = search needs
 
--- src/lib.rt:202:1
 same-length-5 : tie.Need-same-length-5
 same-length-5 c = search needs
 
--- src/lib.rt:202:1
 returns-4 : tie.Need-returns-4
 returns-4 c = let s = c .before .before .before .before .before .before .before .before .before .before .before .before .before .before .before .before .before .before .before .before .before in let a = s .args in let ad = c .before .before .before .before .before .before .before .before .before .add in let no = c .before .before .note in
     answers.adds-on (a .file .now) (the-file (a .file .now)) (a .work .now) (a .words .now) (a .output .now) (a .p) (a .c) (a .node) (a .next) (s .pre .1) (c .before .before .before .before .before .before .before .before .before .before .before .before .before .before .before .before .if1 .left) (omega (arith, c .before .before .before .before .before .before .before .before .before .before .before .before .before .before .if2))

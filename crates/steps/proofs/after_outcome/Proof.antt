@@ -1,60 +1,45 @@
+-- `steps::after_outcome` gives where the session stands after an add.
+-- Assumes nothing.
+use mathlib.Core.Path.{sym, ap, _∙_}
+use borrow.Author.Needs.{needs}
 use Rattle.steps.specs.Steps.{refused-at, after-outcome}
 use Rattle.steps.specs.declared.Progress.{Progress}
-use Rattle.incremental.specs.declared.Outcome.{Outcome}
-use mathlib.Core.Path.{_≡_, sym, ap, _∙_}
-use borrow.Author.Needs.{needs}
 use Rattle.steps.proofs.after_outcome.Statement.{statement}
 use Rattle.steps.proofs.after_outcome.Tie as tie
-use Rattle.steps.proofs.after_outcome.Reads as reads
-use Rattle.steps.proofs.after_outcome.Lts as lts
-use Rattle.steps.proofs.moved.Reads as moved-reads
-use Rattle.steps.proofs.refuse.Reads as refuse-reads
 
--- src/lib.rt:148:23
 enum-known-o : tie.Need-enum-known-o
 enum-known-o c = search needs
 
--- src/lib.rt:148:41
 add-moved : tie.Need-add-moved
 add-moved c = search needs
 
--- src/lib.rt:148:29
 moved-requires : tie.Need-moved-requires
 moved-requires c κs = search needs
 
--- src/lib.rt:149:26
 enum-known-o-2 : tie.Need-enum-known-o-2
 enum-known-o-2 c = search needs
 
--- src/lib.rt:149:44
 add-moved-2 : tie.Need-add-moved-2
 add-moved-2 c = search needs
 
--- src/lib.rt:149:32
 moved-requires-2 : tie.Need-moved-requires-2
 moved-requires-2 c κs = search needs
 
--- src/lib.rt:150:26
 enum-known-o-3 : tie.Need-enum-known-o-3
 enum-known-o-3 c = search needs
 
--- src/lib.rt:150:42
 moved-requires-3 : tie.Need-moved-requires-3
 moved-requires-3 c κs = search needs
 
--- src/lib.rt:150:35
 refuse-requires : tie.Need-refuse-requires
 refuse-requires c κs = search needs
 
--- src/lib.rt:143:1
 returns : tie.Need-returns
 returns c = c .moved .ensures ∙ ap (after-outcome (c .before .before .before .before .before .args .p)) (sym (c .before .before .before .o .given .1))
 
--- src/lib.rt:143:1
 returns-2 : tie.Need-returns-2
 returns-2 c = c .moved2 .ensures ∙ ap (after-outcome (c .before .before .before .before .before .args .p)) (sym (c .before .before .before .o2 .given .1))
 
--- src/lib.rt:143:1
 returns-3 : tie.Need-returns-3
 returns-3 c = c .refuse .ensures ∙ ap (λ (x : Progress). refused-at x (c .before .before .before .o3 .given .0 .0)) (c .before .moved3 .ensures) ∙ ap (after-outcome (c .before .before .before .before .before .args .p)) (sym (c .before .before .before .o3 .given .1))
 

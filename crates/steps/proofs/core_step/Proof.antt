@@ -1,82 +1,61 @@
-use Rattle.steps.proofs.Answers.{stops-at-end}
-use Rattle.steps.specs.State.{the-file}
-use Rattle.session_file.specs.Loaded.{FirstStep}
-use Rattle.session_file.specs.declared.NextStep.{NextStep}
-use mathlib.Core.List.{List}
+-- `steps::core_step` meets its contract: the next step of the file is an add, a restore, or the end.
+-- Assumes nothing.
 use mathlib.Core.Path.{subst}
 use borrow.Author.Needs.{needs}
+use Rattle.session_file.specs.Loaded.{FirstStep}
+use Rattle.session_file.specs.declared.NextStep.{NextStep}
+use Rattle.steps.specs.State.{the-file}
+use Rattle.steps.proofs.Answers.{stops-at-end}
 use Rattle.steps.proofs.core_step.Statement.{statement}
 use Rattle.steps.proofs.core_step.Tie as tie
-use Rattle.steps.proofs.core_step.Reads as reads
-use Rattle.steps.proofs.core_step.Lts as lts
-use Rattle.session_file.proofs.next_step.Reads as next-step-reads
-use Rattle.steps.proofs.add_step.Reads as add-step-reads
-use Rattle.steps.proofs.restore_step.Reads as restore-step-reads
-use Rattle.steps.proofs.stop.Reads as stop-reads
 
--- src/lib.rt:286:11
 next-step-requires : tie.Need-next-step-requires
 next-step-requires c κs = search needs
 
--- src/lib.rt:287:25
 enum-known-node : tie.Need-enum-known-node
 enum-known-node c = search needs
 
--- src/lib.rt:288:13
 add-step-requires : tie.Need-add-step-requires
 add-step-requires c κs = let s = c .before .before .before .before .before .before .before .before .before .before .before in
     (s .pre, λ ss st. subst (λ (r : NextStep). FirstStep (s .args .file .now) ss r) (c .before .before .before .before .node .given .1) (c .before .before .before .before .before .before .next-step .ensures ss st))
 
--- src/lib.rt:290:29
 enum-known-number : tie.Need-enum-known-number
 enum-known-number c = search needs
 
--- src/lib.rt:291:13
 restore-step-requires : tie.Need-restore-step-requires
 restore-step-requires c κs = let s = c .before .before .before .before .before .before .before .before .before .before .before in
     (s .pre, λ ss st. subst (λ (r : NextStep). FirstStep (s .args .file .now) ss r) (c .before .before .before .before .number .given .1) (c .before .before .before .before .before .before .next-step .ensures ss st))
 
--- src/lib.rt:293:26
 enum-told : tie.Need-enum-told
 enum-told c = search needs
 
--- src/lib.rt:293:26
 stop-requires : tie.Need-stop-requires
 stop-requires c κs = search needs
 
--- src/lib.rt:274:1
 same-length : tie.Need-same-length
 same-length c = search needs
 
--- src/lib.rt:274:1
 same-length-2 : tie.Need-same-length-2
 same-length-2 c = search needs
 
--- src/lib.rt:274:1
 same-length-3 : tie.Need-same-length-3
 same-length-3 c = search needs
 
--- src/lib.rt:274:1
 returns : tie.Need-returns
 returns c = search needs
 
--- src/lib.rt:274:1
 same-length-4 : tie.Need-same-length-4
 same-length-4 c = search needs
 
--- src/lib.rt:274:1
 same-length-5 : tie.Need-same-length-5
 same-length-5 c = search needs
 
--- src/lib.rt:274:1
 same-length-6 : tie.Need-same-length-6
 same-length-6 c = search needs
 
--- src/lib.rt:274:1
 returns-2 : tie.Need-returns-2
 returns-2 c = search needs
 
--- src/lib.rt:274:1
 returns-3 : tie.Need-returns-3
 returns-3 c = let s = c .before .before .before .before .before .before .before .before in let a = s .args in
     stops-at-end (a .file .now) (the-file (a .file .now)) (a .work .now) (a .words .now) (a .output .now) (a .p) (a .c) (c .stop .result) (c .stop .ensures)

@@ -1,45 +1,33 @@
-use Rattle.steps.specs.Steps.{moved-to}
+-- `steps::undone` gives where the session stands after a restore.
+-- Assumes nothing.
 use mathlib.Core.Bool.{false}
-use Rattle.steps.specs.declared.Progress.{Progress}
-use Rattle.incremental.specs.declared.Place.{Place}
-use mathlib.Core.Path.{_≡_, ap, _∙_}
+use mathlib.Core.Path.{_∙_}
 use borrow.Author.Needs.{needs}
+use Rattle.steps.specs.Steps.{moved-to}
 use Rattle.steps.proofs.undone.Statement.{statement}
 use Rattle.steps.proofs.undone.Tie as tie
-use Rattle.steps.proofs.undone.Reads as reads
-use Rattle.steps.proofs.undone.Lts as lts
-use Rattle.steps.proofs.moved.Reads as moved-reads
-use Rattle.steps.proofs.wide.Reads as wide-reads
 
--- src/lib.rt:196:21
 array-read-wide : tie.Need-array-read-wide
 array-read-wide c = search needs
 
--- src/lib.rt:196:16
 wide-requires : tie.Need-wide-requires
 wide-requires c κs = search needs
 
--- src/lib.rt:197:21
 array-read-wide-2 : tie.Need-array-read-wide-2
 array-read-wide-2 c = search needs
 
--- src/lib.rt:197:16
 wide-requires-2 : tie.Need-wide-requires-2
 wide-requires-2 c κs = search needs
 
--- src/lib.rt:198:20
 array-read-wide-3 : tie.Need-array-read-wide-3
 array-read-wide-3 c = search needs
 
--- src/lib.rt:198:15
 wide-requires-3 : tie.Need-wide-requires-3
 wide-requires-3 c κs = search needs
 
--- src/lib.rt:200:5
 moved-requires : tie.Need-moved-requires
 moved-requires c κs = search needs
 
--- src/lib.rt:192:1
 returns : tie.Need-returns
 returns c = c .moved .ensures ∙ (λ i. moved-to (c .before .before .before .before .args .p) (record { opens = c .before .before .before .wide .ensures i; depth = c .before .before .wide2 .ensures i; size = c .before .wide3 .ensures i }) (c .before .before .before .before .args .number) false)
 
