@@ -7,6 +7,7 @@ ghost use mathlib.Core.List.{List};
 ghost use Prim.Native.Nat.{ℕ, _+_, _*_, _≤_, _<_, min};
 ghost use lib.ListN.{length, replicate};
 ghost use Rattle.path.specs.Measure.{counted};
+ghost use Rattle.reading.specs.Call.{zeroed};
 ghost use Rattle.session_file.specs.File.{version-1};
 ghost use Rattle.session_file.specs.Checked.{Passed};
 ghost use Rattle.serializer.specs.Call.{long-enough, after-run, session};
@@ -27,15 +28,19 @@ pub struct SessionAnswer {
 }
 
 // The places of the atoms and the handles of the pairs go to work, which is zero everywhere else.
-fn load_places(file: &[u8], work: &mut [u32], checked: Checked)
-    requires { ⌜ (Passed (now file) (the-file (now file)) checked) × (524288 ≤ length (now work)) ⌝ }
-    ensures { λ _. ⌜ Placed (now (file .entry)) (the-file (now (file .entry))) (now (work .exit)) ⌝ }
+fn load_places(file: &[u8], tables: &mut [u32], checked: Checked)
+    requires { ⌜ (Passed (now file) (the-file (now file)) checked) × (524288 ≤ length (now tables)) ⌝ }
+    ensures { λ _. ⌜ Placed (now (file .entry)) (the-file (now (file .entry))) (now (tables .exit)) ⌝ }
 {
-    words::clear(work);
-    session_file::load_atoms(file, &mut work[layout::ATOMS..layout::PAIRS], checked.atoms);
+    words::clear(tables);
+    session_file::load_atoms(
+        file,
+        &mut tables[layout::ATOMS..layout::PAIRS],
+        checked.atoms,
+    );
     session_file::load_pairs(
         file,
-        &mut work[layout::PAIRS..layout::FIRST],
+        &mut tables[layout::PAIRS..layout::FIRST],
         checked.pairs_at,
         checked.pairs,
     );
@@ -114,7 +119,15 @@ fn clear_checkpoints(checkpoints: &mut [[u32; 4]])
     }
 }
 
-// Work and all checkpoint records are cleared, and the words past the finished steps, and the output past the size.
+// All of work and all checkpoint records are zero.
+fn clear_all(work: &mut [u32], checkpoints: &mut [[u32; 4]])
+    ensures { λ _. ⌜ (now (work .exit) ≡ zeroed (now (work .entry))) × (now (checkpoints .exit) ≡ replicate (length (now (checkpoints .entry))) blank) ⌝ }
+{
+    words::clear(work);
+    clear_checkpoints(checkpoints);
+}
+
+// What is left is cleared: work and the checkpoint records, the words past the finished steps, and the output past the size.
 fn finish(
     work: &mut [u32],
     words: &mut [u32],
@@ -127,9 +140,8 @@ fn finish(
 {
     let steps = p.steps;
     let size = p.size;
-    words::clear(work);
+    clear_all(work, checkpoints);
     words::clear(&mut words[steps..]);
-    clear_checkpoints(checkpoints);
     words::clear_bytes(&mut output[size..]);
     SessionAnswer {
         number: p.number,

@@ -5,8 +5,8 @@ use Rattle.session_call.proofs.Calling.{tail-cleared, result-finished}
 use Rattle.session_call.proofs.finish.Statement.{statement}
 use Rattle.session_call.proofs.finish.Tie as tie
 
-clear-requires : tie.Need-clear-requires
-clear-requires c κs = search needs
+clear-all-requires : tie.Need-clear-all-requires
+clear-all-requires c κs = search needs
 
 mul-clear : tie.Need-mul-clear
 mul-clear c = search needs
@@ -20,11 +20,8 @@ part-clear-start c = search needs
 part-clear-end : tie.Need-part-clear-end
 part-clear-end c = search needs
 
-clear-requires-2 : tie.Need-clear-requires-2
-clear-requires-2 c κs = search needs
-
-clear-checkpoints-requires : tie.Need-clear-checkpoints-requires
-clear-checkpoints-requires c κs = search needs
+clear-requires : tie.Need-clear-requires
+clear-requires c κs = search needs
 
 sub-clear-bytes : tie.Need-sub-clear-bytes
 sub-clear-bytes c = search needs
@@ -57,22 +54,21 @@ same-length-4 : tie.Need-same-length-4
 same-length-4 c = search needs
 
 returns : tie.Need-returns
-returns c = let s = c .before .before .before .before .before .before .before .before .before .before .before .before .before .before .before .before .before .before in let a = s .args in
-    result-finished (a .p) (a .work .now) (a .words .now) (a .checkpoints .now) (a .output .now) (c .before .before .before .before .before .before .before .before .before .before .before .before .before .clear .last .0) _ (c .before .before .before .before .before .clear-checkpoints .last .0) _ (c .before .before .before .before .before .before .before .before .before .before .before .before .before .clear .ensures)
-    (tail-cleared (a .words .now) (c .before .before .before .before .before .before .before .before .before .clear2 .last .0) (a .p .steps) (s .pre .1) (c .before .before .before .before .before .before .before .before .before .clear2 .ensures)) (c .before .before .before .before .before .clear-checkpoints .ensures)
+returns c = let s = c .before .before .before .before .before .before .before .before .before .before .before .before .before .before .before .before .before in let a = s .args in let al = c .before .before .before .before .before .before .before .before .before .before .before .clear-all in
+    result-finished (a .p) (a .work .now) (a .words .now) (a .checkpoints .now) (a .output .now) (al .last .0) _ (al .last .1 .0) _ (al .ensures .0)
+    (tail-cleared (a .words .now) (c .before .before .before .before .before .before .clear .last .0) (a .p .steps) (s .pre .1) (c .before .before .before .before .before .before .clear .ensures)) (al .ensures .1)
     (tail-cleared (a .output .now) (c .before .before .clear-bytes .last .0) (a .p .size) (s .pre .3) (c .before .before .clear-bytes .ensures))
 
 pub finish-spec : {M : Type 1} → statement M
 finish-spec =
     tie.close
     (tie.spec
-    clear-requires
+    clear-all-requires
     mul-clear
     sub-clear
     part-clear-start
     part-clear-end
-    clear-requires-2
-    clear-checkpoints-requires
+    clear-requires
     sub-clear-bytes
     part-clear-bytes-start
     part-clear-bytes-end
