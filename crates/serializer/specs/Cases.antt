@@ -1,5 +1,5 @@
 -- 01's cases, computed: the whole case, which meets the premises; undo; and why each premise is needed.
-use Prim.Native.Nat.{ℕ}
+use Prim.Native.Nat.{ℕ, _+_}
 use mathlib.Core.Path.{_≡_, refl}
 use mathlib.Core.Bool.{false}
 use mathlib.Core.List.{List, [], _∷_, map}
@@ -68,17 +68,17 @@ whole-call : after-file {C = ℕ} 0 version-1 counted (file version-1 whole-case
 unfolding file atoms pairs steps number-after fits-in-small-atom is-small-atom further-bytes run-steps unfolded enter update write resume find-in walk passes search node-of handle-of serialized-length encode prefix-width first-width path-bytes octets big-endian
 whole-call = refl
 
--- ---- (abc . abc) is `ff 83 61 62 63 fe 02`; (ab . ab) is `ff 82 61 62 82 61 62`
+-- ---- (abc . abc) is `ff 83 61 62 63 fe 02`; (ab . ab) is `ff 82 61 62 82 61 62`: abc and ab are small atoms
 
-abbrev twice : List ℕ → File
-twice bytes = record { atoms = bytes ∷ []; pairs = record { left = 0x4000000; right = 0x4000000 } ∷ []; sentinel = none; steps = add 0 ∷ [] }
+abbrev twice : ℕ → File
+twice value = record { atoms = []; pairs = record { left = 0x8000000 + value; right = 0x8000000 + value } ∷ []; sentinel = none; steps = add 0 ∷ [] }
 
-abc-bytes : output (run (twice (0x61 ∷ 0x62 ∷ 0x63 ∷ [])) .last .written .items) ≡ 0xff ∷ 0x83 ∷ 0x61 ∷ 0x62 ∷ 0x63 ∷ 0xfe ∷ 0x02 ∷ []
-unfolding run-steps unfolded enter update write resume find-in walk passes search node-of handle-of serialized-length encode prefix-width first-width path-bytes octets big-endian
+abc-bytes : output (run (twice 0x616263) .last .written .items) ≡ 0xff ∷ 0x83 ∷ 0x61 ∷ 0x62 ∷ 0x63 ∷ 0xfe ∷ 0x02 ∷ []
+unfolding run-steps unfolded enter update write resume find-in walk passes search node-of handle-of serialized-length encode prefix-width first-width path-bytes octets big-endian small-bytes len-for-value further-bytes
 abc-bytes = refl
 
-ab-bytes : output (run (twice (0x61 ∷ 0x62 ∷ [])) .last .written .items) ≡ 0xff ∷ 0x82 ∷ 0x61 ∷ 0x62 ∷ 0x82 ∷ 0x61 ∷ 0x62 ∷ []
-unfolding run-steps unfolded enter update write resume find-in walk passes search node-of handle-of serialized-length encode prefix-width first-width path-bytes octets big-endian
+ab-bytes : output (run (twice 0x6162) .last .written .items) ≡ 0xff ∷ 0x82 ∷ 0x61 ∷ 0x62 ∷ 0x82 ∷ 0x61 ∷ 0x62 ∷ []
+unfolding run-steps unfolded enter update write resume find-in walk passes search node-of handle-of serialized-length encode prefix-width first-width path-bytes octets big-endian small-bytes len-for-value further-bytes
 ab-bytes = refl
 
 -- ---- ((foobar . foobar) . (foobar . foobar)): the second half is a reference
