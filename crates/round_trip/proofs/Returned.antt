@@ -1,0 +1,62 @@
+-- What the two calls give, from their contracts: the session's part, the reading's part, and that the plain filling's whole tree was read.
+-- Assumes nothing.
+use Prim.Native.Nat.{ℕ, min}
+use mathlib.Core.Path.{_≡_, refl, sym, ap, subst, _∙_}
+use mathlib.Core.Bool.{true, _&&_}
+use mathlib.Core.List.{List}
+use native.Mathlib.Omega.{arith}
+use lib.Dec.{leb}
+use lib.ListN.{length, take}
+use lib.Seq.{length-take-le, take-all}
+use Rattle.words.specs.Choice.{by-lt}
+use Rattle.reading.specs.Call as read
+use Rattle.de_br.specs.Outcome.{slices as store-slices}
+use Rattle.serializer.specs.Demand3.{ReadAs}
+use Rattle.serializer.specs.Call.{Slices, Result}
+use Rattle.session_call.specs.Outcome.{ReadsBack}
+use Rattle.round_trip.specs.RoundTrip.{the-session, the-reading, RoundTrips}
+
+-- Where the size is past the end, the whole list is taken.
+take-lesser : (m n : ℕ) (l : List ℕ) → m ≡ min n (length l) → take m l ≡ take n l
+take-lesser m n l e =
+    by-lt n (length l) (λ h. let same : m ≡ n = omega arith in ap (λ (k : ℕ). take k l) same)
+    (λ h. take-all m l (omega arith) ∙ sym (take-all n l h))
+
+-- The count of bytes that are lent.
+pub lesser-many : (m n : ℕ) (l : List ℕ) → m ≡ min n (length l) → m ≡ length (take m l)
+lesser-many m n l e = sym (length-take-le m l (omega arith))
+
+-- What the reading call gives of the lesser count of bytes is what it gives of the size.
+pub first-read : (m n : ℕ) (o : List ℕ) → m ≡ min n (length o) → (lent : read.Slices) (r : read.Result) → r ≡ read.reading (take m o) lent
+    → r ≡ read.reading (take n o) lent
+first-read m n o e lent r is = is ∙ ap (λ (x : List ℕ). read.reading x lent) (take-lesser m n o e)
+
+-- Question 1 asks only for lengths.
+same-enough : (w w′ p a b : List ℕ) → length w′ ≡ length w → read.long-enough (store-slices w p a b) ≡ true → read.long-enough (store-slices w′ p a b) ≡ true
+same-enough w w′ p a b e h =
+    ap (λ (n : ℕ). leb 524288 n && (leb 262144 (length p) && (leb 131072 (length a) && leb 65536 (length b)))) e ∙ h
+
+-- The session gave t, and the reading of t's bytes with t's work gave r.
+module _ (input : List ℕ) (lent : Slices (List ℕ)) (p a b : List ℕ) (t : Result (List ℕ)) (ran : t ≡ the-session input lent) (r : read.Result)
+    (was-read : r ≡ the-reading t p a b) where
+  -- The work that the session left need not be named.
+  pub session-part : record { answer = t .answer; slices = record { work = the-session input lent .slices .work; words = t .slices .words; checkpoints = t .slices .checkpoints; output = t .slices .output } }
+      ≡ the-session input lent
+  session-part =
+      subst (λ (x : Result (List ℕ)). record { answer = t .answer; slices = record { work = x .slices .work; words = t .slices .words; checkpoints = t .slices .checkpoints; output = t .slices .output } } ≡ x)
+      ran refl
+
+  pub reading-part : r ≡ the-reading (the-session input lent) p a b
+  reading-part = was-read ∙ ap (λ (x : Result (List ℕ)). the-reading x p a b) ran
+
+  pub whole-read : ReadsBack input t → length (t .slices .work) ≡ length (lent .work)
+      → RoundTrips input (store-slices (lent .work) p a b) (t .answer .steps) (t .slices .words) r
+  whole-read back same long f rest file-is handles steps-are k h finished apart =
+      let m = back f rest file-is handles steps-are k h finished apart in
+      record {
+        tree = m .tree;
+        filling = m .filling;
+        reads =
+            subst (λ (x : read.Result). ReadAs x (m .tree)) (sym was-read)
+            (m .reads (store-slices (t .slices .work) p a b) (same-enough (lent .work) (t .slices .work) p a b same long));
+      }

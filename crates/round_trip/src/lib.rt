@@ -1,0 +1,63 @@
+// A session file is run, and the finished bytes are read.
+use de_br::ReadAnswer;
+use session_call::SessionAnswer;
+ghost use mathlib.Core.Path.{_≡_};
+ghost use Prim.Native.Nat.{min};
+ghost use lib.ListN.{length, take};
+ghost use Rattle.reading.specs.Call.{reading};
+ghost use Rattle.de_br.specs.Outcome.{slices as store-slices, resultOf};
+ghost use Rattle.session_call.specs.Outcome.{slices, result-of};
+ghost use Rattle.round_trip.specs.RoundTrip.{the-session, the-reading, RoundTrips};
+
+// What the session gives, and what the reading of its bytes gives.
+pub struct RoundTrip {
+    pub session: SessionAnswer,
+    pub read: ReadAnswer,
+}
+
+// The size, or the output's length where that is less.
+fn lesser(output: &[u8], size: u32) -> usize
+    ensures { λ r. ⌜ r ≡ min size (length (now (output .entry))) ⌝ }
+{
+    let n = output.len();
+    let m = size as usize;
+    if m < n {
+        return m;
+    }
+    n
+}
+
+// The first `size` bytes of the output are read.
+fn read_first(
+    output: &[u8],
+    size: u32,
+    work: &mut [u32],
+    pairs: &mut [u32],
+    atoms: &mut [u32],
+    bytes: &mut [u8],
+) -> ReadAnswer
+    ensures { λ r. ⌜ resultOf r (now (work .exit)) (now (pairs .exit)) (now (atoms .exit)) (now (bytes .exit)) ≡ reading (take size (now (output .entry))) (store-slices (now (work .entry)) (now (pairs .entry)) (now (atoms .entry)) (now (bytes .entry))) ⌝ }
+{
+    let n = lesser(output, size);
+    de_br::nikvoldra_read(&output[..n], work, pairs, atoms, bytes)
+}
+
+// The session call, and then the reading call with the bytes that it wrote. Both use the same work.
+pub fn round_trip(
+    file: &[u8],
+    work: &mut [u32],
+    words: &mut [u32],
+    checkpoints: &mut [[u32; 4]],
+    output: &mut [u8],
+    pairs: &mut [u32],
+    atoms: &mut [u32],
+    bytes: &mut [u8],
+) -> RoundTrip
+    ensures { λ r. ⌜ result-of (r .session) (the-session (now (file .entry)) (slices (now (work .entry)) (now (words .entry)) (now (checkpoints .entry)) (now (output .entry))) .slices .work) (now (words .exit)) (now (checkpoints .exit)) (now (output .exit)) ≡ the-session (now (file .entry)) (slices (now (work .entry)) (now (words .entry)) (now (checkpoints .entry)) (now (output .entry))) ⌝ }
+    ensures { λ r. ⌜ resultOf (r .read) (now (work .exit)) (now (pairs .exit)) (now (atoms .exit)) (now (bytes .exit)) ≡ the-reading (the-session (now (file .entry)) (slices (now (work .entry)) (now (words .entry)) (now (checkpoints .entry)) (now (output .entry)))) (now (pairs .entry)) (now (atoms .entry)) (now (bytes .entry)) ⌝ }
+    ensures { λ r. ⌜ RoundTrips (now (file .entry)) (store-slices (now (work .entry)) (now (pairs .entry)) (now (atoms .entry)) (now (bytes .entry))) (r .session .steps) (now (words .exit)) (resultOf (r .read) (now (work .exit)) (now (pairs .exit)) (now (atoms .exit)) (now (bytes .exit))) ⌝ }
+{
+    let session = session_call::nikvoldra_session(file, work, words, checkpoints, output);
+    let read = read_first(output, session.size, work, pairs, atoms, bytes);
+    RoundTrip { session, read }
+}
