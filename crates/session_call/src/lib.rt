@@ -2,9 +2,7 @@
 use session_file::Checked;
 use steps::Progress;
 ghost use mathlib.Core.Path.{_≡_};
-ghost use mathlib.Core.Bool.{true};
-ghost use mathlib.Core.List.{List};
-ghost use Prim.Native.Nat.{ℕ, _+_, _*_, _≤_, _<_, min};
+ghost use Prim.Native.Nat.{_+_, _≤_, _<_, min};
 ghost use lib.ListN.{length, replicate};
 ghost use Rattle.path.specs.Measure.{counted};
 ghost use Rattle.reading.specs.Call.{zeroed};

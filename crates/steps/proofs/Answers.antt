@@ -2,10 +2,12 @@
 -- Assumes nothing.
 use Prim.Native.Nat.{ℕ, suc, _+_, _*_, _≤_, _<_}
 use mathlib.Core.Path.{_≡_, refl, sym, ap, subst, _∙_}
-use mathlib.Core.Bool.{Bool, true, false}
+use mathlib.Core.Bool.{Bool, true, false, cond}
 use mathlib.Core.List.{List, [], _∷_}
 use native.Mathlib.Omega.{arith}
+use lib.Dec.{ltb}
 use lib.ListN.{length, getD, set, take}
+use borrow.Author.Tests.{ltb-true, ltb-false}
 use Rattle.words.specs.Words.{at}
 use Rattle.path.specs.Measure.{counted}
 use Rattle.allocator.specs.declared.NodePtr.{NodePtr}
@@ -19,7 +21,7 @@ use Rattle.incremental.specs.declared.Outcome.the-variants as outcome
 use Rattle.steps.specs.declared.Progress.{Progress}
 use Rattle.steps.specs.declared.StepAnswer.{StepAnswer}
 use Rattle.steps.specs.State.{after-words, bit, waits, size-at, Underway, Ended, Stands, slot-for}
-use Rattle.steps.specs.Steps.{refused-at, noted-at, record-of, stopped-at, Comes, Adding, after-outcome, Added, undone-at, Undoing, Undone, Ready, Onward}
+use Rattle.steps.specs.Steps.{refused-at, noted-at, record-of, question-of, stopped-at, Comes, Adding, after-outcome, Added, undone-at, Undoing, Undone, Ready, Onward}
 use Rattle.steps.proofs.Slots.{nth-none}
 use Rattle.steps.proofs.Runs.{run-ends, run-finished, run-full, run-beyond, words-ended}
 use Rattle.steps.proofs.Adding.{adding, added-on, added-off}
@@ -60,10 +62,6 @@ module _ (input : List ℕ) (f : File) (w words out : List ℕ) (p : Progress) (
   stops n a is h =
       subst (λ (x : StepAnswer). Onward input f w words out p c w words out x) (sym is) (λ rows u r. (over rows u n (h rows u), omega arith))
 
-  -- The steps that are left, told by the next one.
-  abbrev Run-to : ℕ → List Step → Type 0
-  Run-to n ss = (rows : List (List ℕ)) (u : Underway input f w words rows out p) → u .left ≡ ss → run-steps counted (length out) f ss (u .past) (u .session) ≡ stop-at n (u .session)
-
   pub stops-at-end : (a : StepAnswer) → a ≡ stopped-at p 0 c → Comes input (p .at) next-step.End → Onward input f w words out p c w words out a
   stops-at-end a is comes =
       stops 0 a is (λ rows u.
@@ -72,7 +70,7 @@ module _ (input : List ℕ) (f : File) (w words out : List ℕ) (p : Progress) (
 
   module _ (node : NodePtr) (next : ℕ) (comes : Comes input (p .at) (next-step.Add node next)) where
     -- Question 9.
-    pub stops-9 : (a : StepAnswer) → a ≡ stopped-at p 9 c → p .finished ≡ true → Onward input f w words out p c w words out a
+    stops-9 : (a : StepAnswer) → a ≡ stopped-at p 9 c → p .finished ≡ true → Onward input f w words out p c w words out a
     stops-9 a is fin =
         stops 9 a is (λ rows u.
         let e = comes (u .left) (u .steps-there) in
@@ -81,13 +79,31 @@ module _ (input : List ℕ) (f : File) (w words out : List ℕ) (p : Progress) (
         (u .present .waiting ∙ ap (λ (b : Bool). waits b (todo-of f w (p .opens))) fin))
 
     -- Question 10.
-    pub stops-10 : (a : StepAnswer) → a ≡ stopped-at p 10 c → p .finished ≡ false → 16 ≤ p .adds → Onward input f w words out p c w words out a
+    stops-10 : (a : StepAnswer) → a ≡ stopped-at p 10 c → p .finished ≡ false → 16 ≤ p .adds → Onward input f w words out p c w words out a
     stops-10 a is fin full =
         stops 10 a is (λ rows u.
         let e = comes (u .left) (u .steps-there) in
         ap (λ (ss : List Step). run-steps counted (length out) f ss (u .past) (u .session)) (e .1)
         ∙ run-full (length out) f (u .past) (u .session) (node .0) (e .0) (todo-of f w (p .opens))
         (u .present .waiting ∙ ap (λ (b : Bool). waits b (todo-of f w (p .opens))) fin) (omega (arith, u .history .long)))
+
+    -- Both questions.
+    pub stops-asked : (n : ℕ) → n ≡ question-of (p .finished) (p .adds) → (n ≡ 0 → ⊥) → (a : StepAnswer) → a ≡ stopped-at p n c
+        → Onward input f w words out p c w words out a
+    stops-asked n e nz a is = go (p .finished) refl (ltb (p .adds) 16) refl e
+      where
+        go : (b : Bool) → p .finished ≡ b → (d : Bool) → ltb (p .adds) 16 ≡ d → n ≡ cond b 9 (cond d 0 10) → Onward input f w words out p c w words out a
+        go true fin d m q = stops-9 a (is ∙ ap (λ (x : ℕ). stopped-at p x c) q) fin
+        go false fin true m q = absurd (nz q)
+        go false fin false m q = stops-10 a (is ∙ ap (λ (x : ℕ). stopped-at p x c) q) fin (ltb-false (p .adds) 16 m)
+
+    pub not-asked : (n : ℕ) → n ≡ question-of (p .finished) (p .adds) → n ≡ 0 → (p .finished ≡ false) × (p .adds < 16)
+    not-asked n e z = go (p .finished) refl (ltb (p .adds) 16) refl (sym z ∙ e)
+      where
+        go : (b : Bool) → p .finished ≡ b → (d : Bool) → ltb (p .adds) 16 ≡ d → _≡_ {A = ℕ} 0 (cond b 9 (cond d 0 10)) → (p .finished ≡ false) × (p .adds < 16)
+        go true fin d m q = absurd (omega (arith, q))
+        go false fin true m q = (fin, ltb-true (p .adds) 16 m)
+        go false fin false m q = absurd (omega (arith, q))
 
     module _ (fin : p .finished ≡ false) (few : p .adds < 16) where
       pub add-asks : Ready input f w words out p c → Adding input w out p (node .0)

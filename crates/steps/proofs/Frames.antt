@@ -59,9 +59,6 @@ module _ (w w′ : List ℕ) (len : length w′ ≡ length w) (low : (k : ℕ) �
         sentinel-entry = refl;
       }
 
-  pub used-same : at w′ USED ≡ at w USED
-  used-same = cache USED (omega arith) (omega arith)
-
   pub unmapped-kept : unmapped w′ (at w′ PAIR-COUNT) ≡ unmapped w (at w PAIR-COUNT)
   unmapped-kept = rw (low PAIR-COUNT (omega arith)) (unmapped-same w w′ (at w PAIR-COUNT) (wh .handles .few-pairs) maps)
 

@@ -1,8 +1,9 @@
 -- What each function of a step leaves, in the terms of the states.
 use Prim.Native.Nat.{ℕ, zero, suc, _+_, _*_, _≤_, _<_}
 use mathlib.Core.Path.{_≡_}
-use mathlib.Core.Bool.{Bool, true, false}
+use mathlib.Core.Bool.{Bool, true, false, cond}
 use mathlib.Core.List.{List, [], _∷_}
+use lib.Dec.{ltb}
 use lib.ListN.{length, getD, set}
 use Rattle.words.specs.Words.{at}
 use Rattle.allocator.specs.declared.NodePtr.{NodePtr}
@@ -135,6 +136,10 @@ abbrev pub undone-at : Progress → List ℕ → ℕ → Progress
 undone-at p r n = moved-to p (record { opens = at r 0; depth = at r 1; size = at r 2 }) n false
 
 -- ---- a step
+
+-- Questions 9 and 10, at an add: the number of the first that gets no, or 0.
+abbrev pub question-of : (finished : Bool) → (adds : ℕ) → ℕ
+question-of finished adds = cond finished 9 (cond (ltb adds 16) 0 10)
 
 -- The run ends with a number, and the record stays.
 abbrev pub stopped-at : Progress → ℕ → List ℕ → StepAnswer

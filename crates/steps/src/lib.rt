@@ -5,16 +5,15 @@ use incremental::Place;
 use session_file::NextStep;
 ghost use mathlib.Core.Path.{_≡_};
 ghost use mathlib.Core.Bool.{cond};
-ghost use mathlib.Core.List.{List, []};
-ghost use Prim.Native.Nat.{ℕ, _+_, _*_, _^_, _≤_, _<_};
+ghost use mathlib.Core.List.{List};
+ghost use Prim.Native.Nat.{_+_, _*_, _^_, _≤_, _<_};
 ghost use lib.Dec.{ltb};
 ghost use lib.ListN.{length, set};
-ghost use Rattle.words.specs.Words.{at};
 ghost use Rattle.session_file.specs.File.{Step};
 ghost use Rattle.session_file.specs.Places.{StepsAt};
 ghost use Rattle.session_file.specs.declared.NextStep.the-variants as next-step;
 ghost use Rattle.steps.specs.State.{the-file, bit, slot-for};
-ghost use Rattle.steps.specs.Steps.{refused-at, noted-at, moved-to, record-of, Adding, after-outcome, Added, with-entry, Undoing, Undone, undone-at, stopped-at, Comes, Ready, Onward};
+ghost use Rattle.steps.specs.Steps.{refused-at, noted-at, moved-to, record-of, Adding, after-outcome, Added, with-entry, Undoing, Undone, undone-at, question-of, stopped-at, Comes, Ready, Onward};
 
 // The most adds on the present history.
 const ADDS: usize = 16;
@@ -215,6 +214,19 @@ fn stop(p: Progress, number: u32, c: [u32; 4]) -> StepAnswer
     }
 }
 
+// The question that an add gets no for: 9 in a finished session, 10 after sixteen adds; or 0.
+fn question(ended: bool, adds: usize) -> u32
+    ensures { λ n. ⌜ n ≡ question-of ended adds ⌝ }
+{
+    if ended {
+        return 9;
+    }
+    if adds >= ADDS {
+        return 10;
+    }
+    0
+}
+
 // An add: questions 9 and 10; the tree is added, and the step's word written unless the add is refused.
 fn add_step(
     file: &[u8],
@@ -229,11 +241,9 @@ fn add_step(
     requires { ⌜ (Ready (now file) (the-file (now file)) (now work) (now words) (now output) p c) × (Comes (now file) (p .at) (next-step.Add node next)) ⌝ }
     ensures { λ a. ⌜ Onward (now (file .entry)) (the-file (now (file .entry))) (now (work .entry)) (now (words .entry)) (now (output .entry)) p c (now (work .exit)) (now (words .exit)) (now (output .exit)) a ⌝ }
 {
-    if p.finished {
-        return stop(p, 9, c);
-    }
-    if p.adds >= ADDS {
-        return stop(p, 10, c);
+    let number = question(p.finished, p.adds);
+    if number != 0 {
+        return stop(p, number, c);
     }
     let saved = record_of(work, p);
     let q = add(file, work, output, p, node);
