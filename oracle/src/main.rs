@@ -6,6 +6,7 @@ use std::io::Write;
 const USAGE: &str = "\
 usage: oracle COMMAND ..
   session FILE [OUTPUT_LENGTH]   the session on a session file
+  items FILE                     the same, with a line for each item of the output
   read FILE                      the reading of an encoded tree
   leaves FILE                    answers to a file of leaf cases
   fill FILE                      the plain filling of a session file, in full
@@ -53,6 +54,7 @@ fn command(args: &[String]) -> Result<Vec<u8>, String> {
             };
             session::print(&session::run(&file(args, 1)?, length, true)).into_bytes()
         }
+        "items" => session::print_items(&file(args, 1)?).into_bytes(),
         "read" => reading::print(&reading::read(&file(args, 1)?)).into_bytes(),
         "leaves" => leaves::print(&file(args, 1)?)?.into_bytes(),
         "fill" => match plain::fill(&parsed(args)?) {

@@ -184,6 +184,15 @@ pub struct SessionAnswer {
     pub output: Vec<u8>,
 }
 
+/// An item of the output: what `find_path` answered before it, and what was written
+/// where it answered nothing.
+#[derive(Debug, Clone, PartialEq, Eq)]
+pub enum Item {
+    Reference(Vec<u8>),
+    Pair,
+    Atom(Vec<u8>),
+}
+
 #[derive(PartialEq, Eq, Clone)]
 enum ReadOp {
     Parse,
@@ -198,6 +207,8 @@ pub struct Driver<'a> {
     write_stack: Vec<NodePtr>,
     tree_cache: TreeCache,
     output: Vec<u8>,
+    /// The items of `output`
+    items: Vec<Item>,
     output_length: usize,
     /// Cons ops in `read_op_stack`
     open: usize,
@@ -209,6 +220,7 @@ pub struct DriverState {
     write_stack: Vec<NodePtr>,
     tree_cache: TreeCacheCheckpoint,
     size: usize,
+    items: usize,
     open: usize,
 }
 
@@ -220,6 +232,7 @@ impl<'a> Driver<'a> {
             write_stack: vec![],
             tree_cache: TreeCache::new(sentinel),
             output: vec![],
+            items: vec![],
             output_length: output_length.min(MAX_OUTPUT),
             open: 0,
         }
@@ -244,6 +257,7 @@ impl<'a> Driver<'a> {
             write_stack: self.write_stack.clone(),
             tree_cache: self.tree_cache.undo_state(),
             size: self.output.len(),
+            items: self.items.len(),
             open: self.open,
         }
     }
@@ -267,6 +281,7 @@ impl<'a> Driver<'a> {
                     let mut item = vec![0xfe];
                     write_atom(&mut item, &path).expect("write_atom");
                     self.put(&item)?;
+                    self.items.push(Item::Reference(path));
                     self.tree_cache.push(node_to_write);
                 }
                 None => match self.a.sexp(node_to_write) {
@@ -275,6 +290,7 @@ impl<'a> Driver<'a> {
                             return Err(12);
                         }
                         self.put(&[0xff])?;
+                        self.items.push(Item::Pair);
                         self.open += 1;
                         self.write_stack.push(right);
                         self.write_stack.push(left);
@@ -284,9 +300,10 @@ impl<'a> Driver<'a> {
                     }
                     SExp::Atom => {
                         let mut item = vec![];
-                        write_atom(&mut item, self.a.atom(node_to_write).as_ref())
-                            .expect("write_atom");
+                        let atom = self.a.atom(node_to_write);
+                        write_atom(&mut item, atom.as_ref()).expect("write_atom");
                         self.put(&item)?;
+                        self.items.push(Item::Atom(atom.as_ref().to_vec()));
                         self.tree_cache.push(node_to_write);
                     }
                 },
@@ -307,6 +324,7 @@ impl<'a> Driver<'a> {
         self.write_stack = state.write_stack;
         self.tree_cache.restore(state.tree_cache);
         self.output.truncate(state.size);
+        self.items.truncate(state.items);
         self.open = state.open;
     }
 }
@@ -324,6 +342,11 @@ pub fn run(file: &[u8], output_length: usize, compare: bool) -> SessionAnswer {
 }
 
 pub fn run_parsed(s: &SessionFile, output_length: usize, compare: bool) -> SessionAnswer {
+    run_items(s, output_length, compare).0
+}
+
+/// The whole session, and the items of its output.
+fn run_items(s: &SessionFile, output_length: usize, compare: bool) -> (SessionAnswer, Vec<Item>) {
     let a = s.allocator();
     let sentinel = s.sentinel.map(from_word);
     let mut driver = Driver::new(&a, sentinel, output_length);
@@ -382,23 +405,42 @@ pub fn run_parsed(s: &SessionFile, output_length: usize, compare: bool) -> Sessi
             assert_eq!(ser.get_ref(), &driver.output, "bytes differ");
         }
     }
-    SessionAnswer {
+    let answer = SessionAnswer {
         number,
         words,
         output: driver.output,
-    }
+    };
+    (answer, driver.items)
 }
 
-/// The text that `session FILE` prints.
-pub fn print(r: &SessionAnswer) -> String {
+fn text(r: &SessionAnswer, output: &str) -> String {
     let mut s = String::new();
     for (i, w) in r.words.iter().enumerate() {
         let _ = writeln!(s, "{} {} {}", i + 1, w / 2, w % 2);
     }
-    s += &crate::hex::encode(&r.output);
-    s.push('\n');
+    s += output;
     if r.number != 0 {
         let _ = writeln!(s, "refused {}", r.number);
     }
     s
+}
+
+/// The text that `session FILE` prints.
+pub fn print(r: &SessionAnswer) -> String {
+    text(r, &(crate::hex::encode(&r.output) + "\n"))
+}
+
+/// The text that `session --items FILE` prints: a line for each item of the output.
+pub fn print_items(file: &[u8]) -> String {
+    let (answer, items) = match parse(file) {
+        Err(_) => (run(file, MAX_OUTPUT, true), vec![]),
+        Ok(s) => run_items(&s, MAX_OUTPUT, true),
+    };
+    let line = |item: &Item| match item {
+        Item::Reference(path) => format!("reference {}\n", crate::hex::encode(path)),
+        Item::Pair => "pair\n".to_string(),
+        Item::Atom(bytes) if bytes.is_empty() => "atom\n".to_string(),
+        Item::Atom(bytes) => format!("atom {}\n", crate::hex::encode(bytes)),
+    };
+    text(&answer, &items.iter().map(line).collect::<String>())
 }

@@ -1,10 +1,11 @@
-// Runs session files: those that its arguments name, or standard input.
+// Runs session files: those that its arguments name, or standard input. After the argument --items the output is printed item by item.
+mod items;
 mod print;
 
 use libc::STDIN_FILENO;
 
-// A line for each finished step, the output in hexadecimal, and the number of the question that got no.
-fn report(file: &[u8]) {
+// A line for each finished step, the output in hexadecimal or item by item, and the number of the question that got no.
+fn report(file: &[u8], by_items: bool) {
     let mut work = [0u32; 524288];
     let mut words = [0u32; 1024];
     let mut checkpoints = [[0u32; 4]; 16];
@@ -17,12 +18,12 @@ fn report(file: &[u8]) {
         &mut output,
     );
     print::steps(&words, a.steps);
-    print::hex(&output, a.size);
+    items::output(&output, a.size, by_items);
     print::refusal(a.number);
 }
 
 // A read of no bytes first, which fails where nothing can be read, as from a directory.
-fn read_from(fd: i32, name: &[u8]) {
+fn read_from(fd: i32, name: &[u8], by_items: bool) {
     let mut nothing = [0u8; 1];
     if libc::read(fd, &mut nothing[..0]) < 0 {
         os::fail(name);
@@ -30,34 +31,40 @@ fn read_from(fd: i32, name: &[u8]) {
     }
     let mut file = io::large_buffer();
     let n = io::read_full(fd, &mut file);
-    report(&file[..n]);
+    report(&file[..n], by_items);
 }
 
-fn read_named(i: usize) {
+// A file that an argument names. The argument --items names none; whether it, or one before it, is that one.
+fn read_named(i: usize, by_items: bool) -> bool {
     let mut path = io::buffer();
     let length = os::arg(i, &mut path);
     if os::errno() != 0 {
         os::fail(b"argument");
-        return;
+        return by_items;
+    }
+    if words::same_bytes(&path[..length], b"--items") {
+        return true;
     }
     let fd = os::open_read(&path[..length]);
     if fd < 0 {
         os::fail(&path[..length]);
-        return;
+        return by_items;
     }
-    read_from(fd, &path[..length]);
+    read_from(fd, &path[..length], by_items);
     libc::close(fd);
+    by_items
 }
 
 fn main() {
     let count = os::arg_count();
     if count < 2 {
-        read_from(STDIN_FILENO, b"standard input");
+        read_from(STDIN_FILENO, b"standard input", false);
         return;
     }
+    let mut by_items = false;
     let mut i = 1;
     while i < count {
-        read_named(i);
+        by_items = read_named(i, by_items);
         i += 1;
     }
 }

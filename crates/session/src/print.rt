@@ -2,7 +2,8 @@
 use libc::STDOUT_FILENO;
 ghost use Prim.Native.Nat.{_≤_};
 
-fn least(count: u32, size: usize) -> usize
+// The lesser of the two.
+pub fn least(count: u32, size: usize) -> usize
     ensures { λ r. ⌜ r ≤ size ⌝ }
 {
     let n = count as usize;
@@ -46,11 +47,10 @@ pub fn steps(words: &[u32], count: u32) {
     }
 }
 
-// A line with the first `count` bytes that the slice has, in hexadecimal.
-pub fn hex(bytes: &[u8], count: u32) {
-    let n = least(count, bytes.len());
+// A line with all bytes in hexadecimal.
+pub fn hex(bytes: &[u8]) {
     let mut i = 0;
-    while i < n {
+    while i < bytes.len() {
         byte(bytes[i]);
         i += 1;
     }

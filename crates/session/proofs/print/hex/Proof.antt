@@ -1,18 +1,16 @@
 -- `session::print::hex` is safe and ends. The measure is the number of bytes left to print.
 -- Assumes nothing.
-use Prim.Native.Nat.{_-_, _≤_}
+use Prim.Native.Nat.{_-_}
+use lib.ListN.{length}
 use borrow.Author.Needs.{needs}
 use Rattle.session.proofs.print.hex.Statement.{statement}
 use Rattle.session.proofs.print.hex.Tie as tie
 
 abbrev Inv-loop : tie.InvT-loop
-Inv-loop bytes count n i₀ i = i ≤ n
+Inv-loop bytes i₀ i = Unit {0}
 
 abbrev μ-loop : tie.MeasureT-loop
-μ-loop bytes count n i₀ i = n - i
-
-least-requires : tie.Need-least-requires Inv-loop μ-loop
-least-requires c κs = search needs
+μ-loop bytes i₀ i = length bytes - i
 
 loop-holds : tie.Need-loop-holds Inv-loop μ-loop
 loop-holds c = search needs
@@ -44,7 +42,6 @@ hex-spec =
     (tie.spec
     Inv-loop
     μ-loop
-    least-requires
     loop-holds
     shared-slice-read-byte
     byte-requires

@@ -1,0 +1,40 @@
+-- `session::items::output` is safe and ends.
+-- Assumes nothing.
+use mathlib.Core.Path.{sym}
+use lib.Seq.{length-take-le}
+use borrow.Author.Needs.{needs}
+use Rattle.session.proofs.items.output.Statement.{statement}
+use Rattle.session.proofs.items.output.Tie as tie
+
+least-requires : tie.Need-least-requires
+least-requires c κs = search needs
+
+slice-aggregate-items : tie.Need-slice-aggregate-items
+slice-aggregate-items c = sym (length-take-le (c .before .before .least .result) (c .before .before .before .before .args .bytes .now) (c .before .before .least .ensures))
+
+items-requires : tie.Need-items-requires
+items-requires c κs = search needs
+
+returns : tie.Need-returns
+returns c = search needs
+
+slice-aggregate-hex : tie.Need-slice-aggregate-hex
+slice-aggregate-hex c = sym (length-take-le (c .before .before .least .result) (c .before .before .before .before .args .bytes .now) (c .before .before .least .ensures))
+
+hex-requires : tie.Need-hex-requires
+hex-requires c κs = search needs
+
+returns-2 : tie.Need-returns-2
+returns-2 c = search needs
+
+pub output-spec : {M : Type 1} → statement M
+output-spec =
+    tie.close
+    (tie.spec
+    least-requires
+    slice-aggregate-items
+    items-requires
+    returns
+    slice-aggregate-hex
+    hex-requires
+    returns-2)
