@@ -2,6 +2,7 @@
 //! benchmarks.
 
 pub mod benchmark;
+pub mod cache_benchmark;
 pub mod call;
 pub mod compare;
 pub mod inputs;

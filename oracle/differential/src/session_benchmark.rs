@@ -1,6 +1,7 @@
 //! How long the port's session call takes, and the unchanged `Serializer`, on the
 //! same sessions.
 
+use crate::cache_benchmark;
 use crate::session_call::{self, CHECKPOINTS, NikvoldraSession, SessionAnswer, WORDS, WORK};
 use crate::times::measure;
 use clvm_rs::Allocator;
@@ -11,13 +12,16 @@ use oracle::rng::Rng;
 use oracle::session::{self, MAX_OUTPUT, SessionFile, Step};
 use std::hint::black_box;
 
-struct Case {
-    name: &'static str,
-    file: Vec<u8>,
+pub struct Case {
+    pub name: &'static str,
+    pub file: Vec<u8>,
 }
 
+/// The port's call on a file, with an output of that length.
+pub type Port<'a> = dyn FnMut(&[u8], usize) -> SessionAnswer + 'a;
+
 /// A file that only has the slices zeroed: no atoms, pairs, sentinel and steps.
-const EMPTY: &[u8] = b"BRS\x00\x01\x00\x00\x00\x00\xff\xff\xff\xff";
+pub const EMPTY: &[u8] = b"BRS\x00\x01\x00\x00\x00\x00\xff\xff\xff\xff";
 
 /// A builder with a listed atom of its own as the sentinel.
 fn begin() -> (Builder, u32) {
@@ -46,6 +50,16 @@ fn mixed(rng: &mut Rng, atoms: usize, pairs: usize) -> Vec<u8> {
     let t = b.right(first, s);
     b.add(t);
     let t = b.right(rest, NIL);
+    b.add(t);
+    b.done()
+}
+
+/// The same in one add.
+fn mixed_in_one(rng: &mut Rng, atoms: usize, pairs: usize) -> Vec<u8> {
+    let (mut b, _) = begin();
+    let pool = b.pool(rng, atoms, pairs / 2);
+    let items: Vec<u32> = (0..pairs - pairs / 2).map(|_| *rng.pick(&pool)).collect();
+    let t = b.right(&items, NIL);
     b.add(t);
     b.done()
 }
@@ -181,6 +195,26 @@ fn cases() -> Vec<Case> {
     ]
 }
 
+/// Sessions of one add: three of mixed pairs, and those of `cases`.
+fn one_add_cases() -> Vec<Case> {
+    let mut rng = Rng::new(2);
+    let mut all: Vec<Case> = [
+        ("10 pairs", 4, 10),
+        ("200 pairs", 20, 200),
+        ("1,024 pairs", 60, 1_024),
+    ]
+    .map(|(name, atoms, pairs)| Case {
+        name,
+        file: mixed_in_one(&mut rng, atoms, pairs),
+    })
+    .into();
+    all.extend(cases().into_iter().filter(|c| {
+        let s = session::parse(&c.file).expect("a good file");
+        s.steps.len() == 1
+    }));
+    all
+}
+
 /// The steps by the unchanged `Serializer`; the size at the end.
 fn steps(s: &SessionFile, a: &Allocator) -> u64 {
     let mut serializer = Serializer::new(s.sentinel.map(from_word));
@@ -198,26 +232,31 @@ fn steps(s: &SessionFile, a: &Allocator) -> u64 {
 }
 
 /// The call's answer, which is the Rust's.
-fn checked(c: &Case, port: &mut dyn FnMut(&[u8]) -> SessionAnswer) -> SessionAnswer {
+fn checked(c: &Case, port: &mut Port) -> SessionAnswer {
     let expected = session::run(&c.file, MAX_OUTPUT, true);
-    let now = port(&c.file);
+    let now = port(&c.file, MAX_OUTPUT);
     assert_eq!(
         (now.number, now.steps as usize, now.size as usize),
         (0, expected.words.len(), expected.output.len()),
         "{}",
         c.name
     );
-    assert_eq!((expected.number, port(EMPTY).number), (0, 0), "{}", c.name);
+    assert_eq!(
+        (expected.number, port(EMPTY, MAX_OUTPUT).number),
+        (0, 0),
+        "{}",
+        c.name
+    );
     now
 }
 
 /// The call and the Rust on a case: a line of the table.
-fn row(c: &Case, port: &mut dyn FnMut(&[u8]) -> SessionAnswer) -> String {
+fn row(c: &Case, port: &mut Port) -> String {
     let now = checked(c, port);
     let parsed = session::parse(&c.file).expect("a good file");
     let store = parsed.allocator();
     let mut once = |file: &[u8]| {
-        port(file);
+        port(file, MAX_OUTPUT);
     };
     let mut alone = || {
         black_box(steps(black_box(&parsed), &store));
@@ -250,19 +289,23 @@ fn row(c: &Case, port: &mut dyn FnMut(&[u8]) -> SessionAnswer) -> String {
 pub fn run(call: NikvoldraSession) {
     let (mut work, mut words) = (vec![0; WORK], vec![0; WORDS]);
     let (mut checkpoints, mut output) = (vec![[0; 4]; CHECKPOINTS], vec![0; MAX_OUTPUT]);
-    let mut port = |file: &[u8]| {
+    let mut port = |file: &[u8], length: usize| {
         black_box(session_call::session(
             call,
             black_box(file),
             &mut work,
             &mut words,
             &mut checkpoints,
-            &mut output,
+            &mut output[..length],
         ))
     };
     heading();
     for c in cases() {
         println!("{}", row(&c, &mut port));
+    }
+    cache_benchmark::heading();
+    for c in one_add_cases() {
+        println!("{}", cache_benchmark::row(&c, &mut port));
     }
 }
 
