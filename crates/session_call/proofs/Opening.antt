@@ -1,11 +1,11 @@
--- Loading a session file: the words lent to the loaders come back, and hold the tables of the file; all words after them are zero.
+-- Loading a session file: the words lent to the loaders come back, and hold the tables of the file; the words after them are zero, up to the rows of parents.
 -- Assumes nothing.
 use Prim.Native.Nat.{ℕ, zero, suc, _+_, _-_, _*_, _≤_, _<_}
 use mathlib.Core.Path.{_≡_, refl, sym, ap, subst, _∙_}
-use mathlib.Core.List.{List, [], _∷_}
+use mathlib.Core.List.{List, [], _∷_, _++_}
 use mathlib.Core.Option.{Option, none, some}
 use native.Mathlib.Omega.{arith}
-use lib.ListN.{length, getD, set, replicate, length-replicate}
+use lib.ListN.{length, getD, set, replicate}
 use borrow.Rule.Slice.PartMut.{putMid}
 use Rattle.words.specs.Words.{at, part}
 use Rattle.words.specs.Lists.{all-at}
@@ -16,16 +16,20 @@ use Rattle.session_file.specs.Places.{ListedAtom}
 use Rattle.session_file.specs.Checked.{Passed}
 use Rattle.session_file.specs.Loaded.{AtomPlace, AtomsLoaded, PairsLoaded}
 use Rattle.session_file.specs.declared.Checked.{Checked}
-use Rattle.layout.specs.Layout.{ATOMS, PAIRS, FIRST, ATOM-LENGTHS, ATOM-HEADS, ATOM-COUNT, PAIR-COUNT, SENTINEL, OPEN}
+use Rattle.layout.specs.Layout.{ATOMS, PAIRS, FIRST, ATOM-LENGTHS, ATOM-HEADS, ATOM-COUNT, PAIR-COUNT, SENTINEL, OPEN, PARENTS}
 use Rattle.tree_cache.specs.Meaning.{sentinel-word}
 use Rattle.load.specs.Load.{atom-bytes, Ready, Loaded}
 use Rattle.load.proofs.Tables.{table-firsts, table-lengths}
-use Rattle.session_call.specs.Opened.{Placed, Opened}
+use Rattle.session_call.specs.Opened.{Cleared, Placed, Opened}
 
-pub zero-at : (n k : ℕ) → at (replicate n 0) k ≡ 0
-zero-at zero k = refl
-zero-at (suc n) zero = refl
-zero-at (suc n) (suc k) = zero-at n k
+-- The words before place n are cleared, and the others stay.
+pub front-cleared : (n k : ℕ) (t rest : List ℕ) → t ≡ replicate n 0 → k < n → at (t ++ rest) k ≡ 0
+front-cleared n k t rest e l = ap (λ (x : List ℕ). at (x ++ rest) k) e ∙ go n k l
+  where
+    go : (m j : ℕ) → j < m → at (replicate m 0 ++ rest) j ≡ 0
+    go zero j h = absurd (omega arith)
+    go (suc m) zero h = refl
+    go (suc m) (suc j) h = go m j (omega arith)
 
 pub few-twice : (input : List ℕ) (f : File) (c : Checked) → Passed input f c → (2 * c .atoms ≤ 2048) × (2 * c .pairs ≤ 2048)
 few-twice input f c p =
@@ -39,7 +43,8 @@ pairs-room n long w₀ r₁ e len₁ =
 
 -- ---- the places of the atoms and the handles of the pairs
 
-module _ (input : List ℕ) (f : File) (c : Checked) (p : Passed input f c) (n : ℕ) (long : 524288 ≤ n) (w₀ r₁ r₂ : List ℕ) (clear : w₀ ≡ replicate n 0)
+module _ (input : List ℕ) (f : File) (c : Checked) (p : Passed input f c) (n : ℕ) (long : 524288 ≤ n) (w₀ r₁ r₂ : List ℕ) (long₀ : length w₀ ≡ n)
+    (clear : Cleared w₀)
     (len₁ : length r₁ ≡ length (part w₀ 0 2048)) (l₁ : AtomsLoaded input (f .atoms) (part w₀ 0 2048) r₁)
     (len₂ : length r₂ ≡ length (part (putMid 0 2048 w₀ r₁) 2048 2048)) (l₂ : PairsLoaded (f .pairs) (part (putMid 0 2048 w₀ r₁) 2048 2048) r₂) where
   abbrev w₁ : List ℕ
@@ -47,9 +52,6 @@ module _ (input : List ℕ) (f : File) (c : Checked) (p : Passed input f c) (n :
 
   abbrev w₂ : List ℕ
   w₂ = putMid 2048 2048 w₁ r₂
-
-  long₀ : length w₀ ≡ n
-  long₀ = ap length clear ∙ length-replicate n 0
 
   have₁ : length r₁ ≡ 2048
   have₁ = len₁ ∙ part-length w₀ 0 2048 (omega (arith, long₀))
@@ -81,11 +83,10 @@ module _ (input : List ℕ) (f : File) (c : Checked) (p : Passed input f c) (n :
             (l₁ .places i l));
         lefts = λ i l. handle (PAIRS + 2 * i) (2 * i) (omega arith) (omega arith) ∙ l₂ .lefts i l;
         rights = λ i l. handle (PAIRS + 2 * i + 1) (2 * i + 1) (omega arith) (omega arith) ∙ l₂ .rights i l;
-        zeros = λ k l.
+        zeros = λ k l b.
             put-other 2048 2048 w₁ r₂ (omega (arith, long₁)) have₂ k (λ i m e. omega (arith, e))
             ∙ put-other 0 2048 w₀ r₁ (omega (arith, long₀)) have₁ k (λ i m e. omega (arith, e))
-            ∙ ap (λ (x : List ℕ). at x k) clear
-            ∙ zero-at n k;
+            ∙ clear k b;
       }
 
 -- ---- the other tables
@@ -98,7 +99,7 @@ module _ (input : List ℕ) (f : File) (c : Checked) (p : Passed input f c) (w :
         short = p .short;
         few = omega (arith, p .atoms-are, p .contents .few-atoms);
         inside = λ i l. let q = pl .atoms i (omega (arith, p .atoms-are)) in (q .before, q .inside);
-        heads = λ s l. pl .zeros (ATOM-HEADS + s) (omega arith);
+        heads = λ s l. pl .zeros (ATOM-HEADS + s) (omega arith) (omega arith);
       }
 
   module _ (n : ℕ) (e : n ≡ c .atoms) (w₁ : List ℕ) (long₁ : length w₁ ≡ length w) (ld : Loaded input w w₁ n) where
@@ -154,7 +155,7 @@ module _ (input : List ℕ) (f : File) (c : Checked) (p : Passed input f c) (w :
                     let m : i < length (f .atoms) = omega (arith, count) in omega (arith, pl .atoms i m .inside, low (ATOMS + 2 * i + 1) (omega arith));
               };
           atoms-there = record { bytes = λ i l. rw (low (ATOMS + 2 * i) (omega arith), low (ATOMS + 2 * i + 1) (omega arith)) (pl .atoms i l .is) };
-          zeros = λ k l. later k l ∙ ld .kept .high k (omega arith) ∙ pl .zeros k (omega arith);
+          zeros = λ k l b. later k l ∙ ld .kept .high k (omega arith) ∙ pl .zeros k (omega arith) b;
         }
       where
         word : (o : Option ℕ) → file-answers.sentinel-word o ≡ sentinel-word o

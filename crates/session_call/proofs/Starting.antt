@@ -17,7 +17,7 @@ use Rattle.session_file.specs.Checked.{Passed, Contents}
 use Rattle.session_file.specs.CheckedLaws.{pair-named}
 use Rattle.session_file.specs.declared.Checked.{Checked}
 use Rattle.serializer.specs.Writer.{start}
-use Rattle.layout.specs.Layout.{TOPS, WRITTEN, MAPS, SEEN, ENTRIES}
+use Rattle.layout.specs.Layout.{TOPS, WRITTEN, MAPS, PARENTS, ENTRIES}
 use Rattle.layout.specs.Rows.{stack-of}
 use Rattle.stack.specs.Contracts.{marked-at}
 use Rattle.stack.proofs.Stacks.{stacked-none}
@@ -51,12 +51,12 @@ module _ (input : List ℕ) (f : File) (c : Checked) (p : Passed input f c) (w w
   handles : Handles w
   handles = tables-handles f w (sorted f (p .contents)) (o .tables)
 
-  cache-zeros : (k : ℕ) → MAPS ≤ k → k < SEEN → at w k ≡ 0
-  cache-zeros k a b = o .zeros k (omega arith)
+  cache-zeros : (k : ℕ) → MAPS ≤ k → k < PARENTS → at w k ≡ 0
+  cache-zeros k a b = o .zeros k (omega arith) b
 
   no-marks : (e : ℕ) → e < ENTRIES → false ≡ marked-at w e
   unfolding marked-at
-  no-marks e l = sym (ap (λ (x : ℕ). odd (x / 2 ^ (e % 32))) (o .zeros (WRITTEN + e / 32) (omega arith)) ∙ no-mark (e % 32))
+  no-marks e l = sym (ap (λ (x : ℕ). odd (x / 2 ^ (e % 32))) (o .zeros (WRITTEN + e / 32) (omega arith) (omega arith)) ∙ no-mark (e % 32))
 
   present : At f w out 0 0 0 false start
   unfolding todo-of rights-left stack-of
@@ -67,7 +67,7 @@ module _ (input : List ℕ) (f : File) (c : Checked) (p : Passed input f c) (w w
               stands =
                   record {
                     whole = fresh-whole w long handles cache-zeros;
-                    stacked = stacked-none w (λ x l. o .zeros (TOPS + x) (omega arith));
+                    stacked = stacked-none w (λ x l. o .zeros (TOPS + x) (omega arith) (omega arith));
                     counts = omega (arith, fresh-counts w long handles cache-zeros);
                     few-opens = omega arith;
                     pairs = λ i l. absurd (omega arith);

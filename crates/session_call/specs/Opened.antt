@@ -7,24 +7,28 @@ use lib.ListN.{length, getD}
 use Rattle.words.specs.Words.{at}
 use Rattle.session_file.specs.File.{File}
 use Rattle.session_file.specs.Loaded.{AtomPlace, pair-of}
-use Rattle.layout.specs.Layout.{ATOMS, PAIRS, FIRST, OPEN}
+use Rattle.layout.specs.Layout.{ATOMS, PAIRS, FIRST, OPEN, PARENTS}
 use Rattle.tree_cache.specs.Meaning.{Tables}
 use Rattle.incremental.specs.State.{AtomPlaces, AtomsThere}
 use Rattle.steps.specs.declared.Progress.{Progress}
 
--- The places of the atoms and the handles of the pairs are there, and all words after them are zero.
+-- The words before the rows of parents are zero.
+abbrev pub Cleared : List ℕ → Type 0
+Cleared w = (k : ℕ) → k < PARENTS → at w k ≡ 0
+
+-- The places of the atoms and the handles of the pairs are there, and the words after them are zero, up to the rows of parents.
 pub record Placed (input : List ℕ) (f : File) (w : List ℕ) : Type 0 where
   pub atoms : (i : ℕ) → i < length (f .atoms) → AtomPlace input (at w (ATOMS + 2 * i)) (at w (ATOMS + 2 * i + 1)) (getD (f .atoms) i [])
   pub lefts : (i : ℕ) → i < length (f .pairs) → at w (PAIRS + 2 * i) ≡ pair-of (f .pairs) i .left
   pub rights : (i : ℕ) → i < length (f .pairs) → at w (PAIRS + 2 * i + 1) ≡ pair-of (f .pairs) i .right
-  pub zeros : (k : ℕ) → FIRST ≤ k → at w k ≡ 0
+  pub zeros : (k : ℕ) → FIRST ≤ k → k < PARENTS → at w k ≡ 0
 
--- All tables of the file are there, and all words after them are zero.
+-- All tables of the file are there, and the words after them are zero, up to the rows of parents.
 pub record Opened (input : List ℕ) (f : File) (w : List ℕ) : Type 0 where
   pub tables : Tables f w
   pub places : AtomPlaces input w
   pub atoms-there : AtomsThere input f w
-  pub zeros : (k : ℕ) → OPEN ≤ k → at w k ≡ 0
+  pub zeros : (k : ℕ) → OPEN ≤ k → k < PARENTS → at w k ≡ 0
 
 -- The first step comes next; nothing is added, open or written.
 abbrev pub start-at : ℕ → Progress

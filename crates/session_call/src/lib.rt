@@ -11,7 +11,7 @@ ghost use Rattle.session_file.specs.Checked.{Passed};
 ghost use Rattle.serializer.specs.Call.{long-enough, after-run, session};
 ghost use Rattle.steps.specs.State.{the-file, whole-run, Underway, Ended, Stands};
 ghost use Rattle.steps.specs.Steps.{Nearer};
-ghost use Rattle.session_call.specs.Opened.{Placed, Opened, start-at};
+ghost use Rattle.session_call.specs.Opened.{Cleared, Placed, Opened, start-at};
 ghost use Rattle.session_call.specs.Outcome.{blank, answer-of, slices, result-of, finished-at, ReadsBack};
 
 // The most bytes of output that are used.
@@ -25,12 +25,20 @@ pub struct SessionAnswer {
     pub size: u32,
 }
 
-// The places of the atoms and the handles of the pairs go to work, which is zero everywhere else.
+// The words before the rows of parents become zero. No word from there on is read before it is written.
+fn clear_tables(work: &mut [u32])
+    requires { ⌜ 524288 ≤ length (now work) ⌝ }
+    ensures { λ _. ⌜ Cleared (now (work .exit)) ⌝ }
+{
+    words::clear(&mut work[..layout::PARENTS]);
+}
+
+// The places of the atoms and the handles of the pairs go to work; the words after them are zero, up to the rows of parents.
 fn load_places(file: &[u8], tables: &mut [u32], checked: Checked)
     requires { ⌜ (Passed (now file) (the-file (now file)) checked) × (524288 ≤ length (now tables)) ⌝ }
     ensures { λ _. ⌜ Placed (now (file .entry)) (the-file (now (file .entry))) (now (tables .exit)) ⌝ }
 {
-    words::clear(tables);
+    clear_tables(tables);
     session_file::load_atoms(
         file,
         &mut tables[layout::ATOMS..layout::PAIRS],
@@ -44,7 +52,7 @@ fn load_places(file: &[u8], tables: &mut [u32], checked: Checked)
     );
 }
 
-// The tables of the file go to work, which is zero everywhere else.
+// The tables of the file go to work; the words after them are zero, up to the rows of parents.
 fn open(file: &[u8], work: &mut [u32], checked: Checked)
     requires { ⌜ (Passed (now file) (the-file (now file)) checked) × (524288 ≤ length (now work)) ⌝ }
     ensures { λ _. ⌜ Opened (now (file .entry)) (the-file (now (file .entry))) (now (work .exit)) ⌝ }

@@ -14,7 +14,7 @@ use Rattle.words.specs.Words.{at, tabulate}
 use Rattle.allocator.specs.Handle.{node-of}
 use Rattle.session_file.specs.File.{File, named}
 use Rattle.serializer.specs.Cache.{fresh}
-use Rattle.layout.specs.Layout.{FIRST, PAIR-COUNT, SENTINEL, MAPS, SENTINEL-ENTRY, USED, COUNTS, HEADS, SEEN, ENTRIES}
+use Rattle.layout.specs.Layout.{FIRST, PAIR-COUNT, SENTINEL, MAPS, SENTINEL-ENTRY, USED, COUNTS, HEADS, PARENTS, ENTRIES}
 use Rattle.layout.specs.Rows.{rows-of, prev, Chained, Sound, all-counts}
 use Rattle.tree_cache.specs.Meaning.{first-same, sentinel-word, no-pair, Tables, Handles, Names, unmapped, Whole, Holds}
 use Rattle.tree_cache.proofs.Atoms.{first-found}
@@ -70,7 +70,7 @@ tables-handles f w s t =
 
 -- ---- no entries yet
 
-module _ (w : List ℕ) (long : 524288 ≤ length w) (handles : Handles w) (zeros : (k : ℕ) → MAPS ≤ k → k < SEEN → at w k ≡ 0) where
+module _ (w : List ℕ) (long : 524288 ≤ length w) (handles : Handles w) (zeros : (k : ℕ) → MAPS ≤ k → k < PARENTS → at w k ≡ 0) where
   none-used : at w USED ≡ 0
   none-used = zeros USED (omega arith) (omega arith)
 

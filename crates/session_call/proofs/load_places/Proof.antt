@@ -11,8 +11,8 @@ use Rattle.session_call.proofs.Opening.{few-twice, pairs-room, placed}
 use Rattle.session_call.proofs.load_places.Statement.{statement}
 use Rattle.session_call.proofs.load_places.Tie as tie
 
-clear-requires : tie.Need-clear-requires
-clear-requires c κs = search needs
+clear-tables-requires : tie.Need-clear-tables-requires
+clear-tables-requires c κs = search needs
 
 sub-load-atoms : tie.Need-sub-load-atoms
 sub-load-atoms c = search needs
@@ -25,7 +25,7 @@ part-load-atoms-end c = search needs
 
 load-atoms-requires : tie.Need-load-atoms-requires
 unfolding part
-load-atoms-requires c κs = let s = c .before .before .before .before .before .before .before in let a = s .args in let cl = c .before .before .before .clear in
+load-atoms-requires c κs = let s = c .before .before .before .before .before .before .before in let a = s .args in let cl = c .before .before .before .clear-tables in
     (atoms-to-load (a .file .now) (the-file (a .file .now)) (a .checked) (s .pre .0), omega (arith, few-twice (a .file .now) (the-file (a .file .now)) (a .checked) (s .pre .0) .0, part-length (cl .last .0) 0 2048 (omega (arith, cl .kept .0, s .pre .1))))
 
 sub-load-pairs : tie.Need-sub-load-pairs
@@ -39,7 +39,7 @@ part-load-pairs-end c = search needs
 
 load-pairs-requires : tie.Need-load-pairs-requires
 unfolding part
-load-pairs-requires c κs = let s = c .before .before .before .before .before .before .before .before .before .before .before in let a = s .args in let cl = c .before .before .before .before .before .before .before .clear in let la = c .before .before .before .load-atoms in
+load-pairs-requires c κs = let s = c .before .before .before .before .before .before .before .before .before .before .before in let a = s .args in let cl = c .before .before .before .before .before .before .before .clear-tables in let la = c .before .before .before .load-atoms in
     (pairs-to-load (a .file .now) (the-file (a .file .now)) (a .checked) (s .pre .0), omega (arith, few-twice (a .file .now) (the-file (a .file .now)) (a .checked) (s .pre .0) .1, pairs-room _ (s .pre .1) (cl .last .0) (la .last .1 .0) (cl .kept .0) (la .kept .1 .0)))
 
 same-length : tie.Need-same-length
@@ -47,8 +47,8 @@ same-length c = search needs
 
 returns : tie.Need-returns
 unfolding part
-returns c = let s = c .before .before .before .before .before .before .before .before .before .before .before .before .before .before in let a = s .args in let cl = c .before .before .before .before .before .before .before .before .before .before .clear in let la = c .before .before .before .before .before .before .load-atoms in let lp = c .before .before .load-pairs in let p = s .pre .0 in
-    placed (a .file .now) (the-file (a .file .now)) (a .checked) p _ (s .pre .1) (cl .last .0) (la .last .1 .0) (lp .last .1 .0) (cl .ensures)
+returns c = let s = c .before .before .before .before .before .before .before .before .before .before .before .before .before .before in let a = s .args in let cl = c .before .before .before .before .before .before .before .before .before .before .clear-tables in let la = c .before .before .before .before .before .before .load-atoms in let lp = c .before .before .load-pairs in let p = s .pre .0 in
+    placed (a .file .now) (the-file (a .file .now)) (a .checked) p _ (s .pre .1) (cl .last .0) (la .last .1 .0) (lp .last .1 .0) (cl .kept .0) (cl .ensures)
     (la .kept .1 .0) (la .ensures (the-file (a .file .now) .atoms) (sym (p .atoms-are)) (p .atoms-there))
     (lp .kept .1 .0) (lp .ensures (the-file (a .file .now) .pairs) (sym (p .pairs-are)) (p .pairs-there))
 
@@ -56,7 +56,7 @@ pub load-places-spec : {M : Type 1} → statement M
 load-places-spec =
     tie.close
     (tie.spec
-    clear-requires
+    clear-tables-requires
     sub-load-atoms
     part-load-atoms-start
     part-load-atoms-end

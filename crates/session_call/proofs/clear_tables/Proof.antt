@@ -1,0 +1,32 @@
+-- `session_call::clear_tables` clears the words before the rows of parents.
+-- Assumes nothing.
+use Prim.Native.Nat.{ℕ}
+use mathlib.Core.Path.{sym, ap, _∙_}
+use native.Mathlib.Omega.{arith}
+use lib.ListN.{replicate}
+use lib.Seq.{length-take-le}
+use borrow.Author.Needs.{needs}
+use Rattle.session_call.proofs.Opening.{front-cleared}
+use Rattle.session_call.proofs.clear_tables.Statement.{statement}
+use Rattle.session_call.proofs.clear_tables.Tie as tie
+
+slice-relend-prefix-clear : tie.Need-slice-relend-prefix-clear
+slice-relend-prefix-clear c = search needs
+
+slice-aggregate-clear : tie.Need-slice-aggregate-clear
+slice-aggregate-clear c = let s = c .before .before in sym (length-take-le 47307 (s .args .work .now) (omega (arith, s .pre)))
+
+clear-requires : tie.Need-clear-requires
+clear-requires c κs = search needs
+
+same-length : tie.Need-same-length
+same-length c = search needs
+
+returns : tie.Need-returns
+returns c = let s = c .before .before .before .before .before in let cl = c .before .before .clear in
+    λ k l. front-cleared 47307 k (cl .last .0) _ (cl .ensures ∙ ap (λ (m : ℕ). replicate m 0) (length-take-le 47307 (s .args .work .now) (omega (arith, s .pre)))) l
+
+pub clear-tables-spec : {M : Type 1} → statement M
+clear-tables-spec =
+    tie.close
+    (tie.spec slice-relend-prefix-clear slice-aggregate-clear clear-requires same-length returns)
