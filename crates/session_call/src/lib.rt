@@ -126,13 +126,7 @@ fn begin(file: &[u8], work: &mut [u32], words: usize, records: usize) -> Begun
 }
 
 // What is left is cleared: work, the words past the finished steps, and the output past the size. With 1 to 8 no slice is touched.
-fn clear_rest(
-    work: &mut [u32],
-    words: &mut [u32],
-    output: &mut [u8],
-    refused: bool,
-    p: Progress,
-)
+fn clear_rest(work: &mut [u32], words: &mut [u32], output: &mut [u8], refused: bool, p: Progress)
     requires { ⌜ (p .steps ≤ length (now words)) × (p .size ≤ length (now output)) ⌝ }
     ensures { λ _. ⌜ Cleared p (now (work .entry)) (now (words .entry)) (now (output .entry)) (now (work .exit)) (now (words .exit)) (now (output .exit)) refused ⌝ }
 {

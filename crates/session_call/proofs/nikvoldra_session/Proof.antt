@@ -250,7 +250,7 @@ module _ {M : Type 1} (𝓤 : URA M) (H : Heap 𝓤) (A : Atoms 𝓤) (W : Given
 
       goes-drive : ent 𝓤 (⋆ 𝓤 H A Passed-drive) (Drive 𝓤 H A mem run .pre to-drive)
       goes-drive =
-          qed W Passed-drive ∵ says ! (?, run-asks input (x₁ .now) (x₂ .now) (x₃ .now) (x₄ .now) b w₁ lw₁ (began .1)) $
+          qed W Passed-drive ∵ says ! (run-asks input (x₁ .now) (x₂ .now) (x₃ .now) (x₄ .now) b w₁ lw₁ (began .1)) $
           nothing ! $ owned ! S.the-row (Is S.the-row) (LL.makes S.the-type S′.the-plain 𝓤 H A) (b .start) _ start-is $ fjoin ! $ move ! (9 ∷ 0 ∷ []) $ fjoin ! $ move ! (7 ∷ 0 ∷ []) $ fjoin ! $ move ! (5 ∷ 0 ∷ []) $ fjoin ! $ move ! (3 ∷ 0 ∷ []) $ fjoin ! $ move ! (1 ∷ 0 ∷ []) $ fjoin ! $
           nothing ! $ move ! (6 ∷ 0 ∷ []) $ join ! $ move ! (5 ∷ 0 ∷ []) $ join ! $ move ! (4 ∷ 0 ∷ []) $ join ! $ move ! (3 ∷ 0 ∷ []) $ join ! $ move ! (2 ∷ 0 ∷ []) $ join ! $ frame ! $ done !
 
