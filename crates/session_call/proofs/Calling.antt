@@ -1,6 +1,6 @@
 -- The session call: what its calls give together is what the definition says, and demand 3 follows.
 -- Assumes nothing.
-use Prim.Native.Nat.{ℕ, _+_, _-_, _≤_, _<_, min}
+use Prim.Native.Nat.{ℕ, _-_, _≤_, min}
 use mathlib.Core.Path.{_≡_, refl, sym, ap, subst, _∙_}
 use mathlib.Core.Bool.{Bool, true, false, cond}
 use mathlib.Core.List.{List, [], _++_, append-nil}
@@ -16,7 +16,7 @@ use Rattle.serializer.specs.Items.{Item, output}
 use Rattle.serializer.specs.Output.{output-size}
 use Rattle.serializer.specs.Steps.{Run}
 use Rattle.serializer.specs.Demand3.{demand-3}
-use Rattle.serializer.specs.Call.{Slices, Result, untouched, long-enough, after-run, after-file, session}
+use Rattle.serializer.specs.Call.{Slices, Result, untouched, after-run, after-file, session}
 use Rattle.checkpoints.specs.declared.Checkpoint.{Checkpoint}
 use Rattle.checkpoints.specs.Records.{blank}
 use Rattle.steps.specs.State.{contents-of, the-file, whole-run, Ended}
@@ -24,7 +24,7 @@ use Rattle.steps.specs.declared.Progress.{Progress}
 use Rattle.run_steps.specs.Driven.{Going, Driven}
 use Rattle.session_call.specs.declared.SessionAnswer.{SessionAnswer}
 use Rattle.session_call.specs.declared.Begun.{Begun}
-use Rattle.session_call.specs.Begins.{are-long, asked, refused-with, Starts, Begins}
+use Rattle.session_call.specs.Begins.{are-long, asked, refused-with, Begins}
 use Rattle.session_call.specs.Outcome.{answer-of, answer-at, slices, result-of, Cleared, ReadsBack}
 
 -- ---- what is left is cleared
@@ -111,7 +111,7 @@ module _ (input w ws : List ℕ) (cs : List Checkpoint) (o : List ℕ) where
       go true = refl
       go false = refl
 
-  -- Only the bytes themselves can be the contents of a file that passed.
+  -- The contents of a file that passed are those of the bytes.
   is-file : (f : File) (rest : List ℕ) → the-asked ≡ got f rest → the-file input ≡ f
   unfolding the-file
   is-file f rest e = go (are-long (length w) (length ws) (length cs)) e

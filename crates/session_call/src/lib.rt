@@ -3,7 +3,7 @@ use checkpoints::Checkpoint;
 use session_file::Checked;
 use steps::Progress;
 ghost use mathlib.Core.Path.{_≡_};
-ghost use Prim.Native.Nat.{_+_, _≤_, _<_};
+ghost use Prim.Native.Nat.{_≤_};
 ghost use lib.ListN.{length};
 ghost use Rattle.words.specs.Lists.{Bytes};
 ghost use Rattle.path.specs.Measure.{counted};

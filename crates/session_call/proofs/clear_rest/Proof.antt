@@ -1,6 +1,5 @@
 -- `session_call::clear_rest` clears what is left after a run, and nothing after a refusal.
 -- Assumes nothing.
-use mathlib.Core.Path.{refl}
 use Rattle.session_call.proofs.Calling.{cleared-none, cleared-all, tail-cleared}
 use borrow.Author.Needs.{needs}
 use Rattle.session_call.proofs.clear_rest.Statement.{statement}
