@@ -20,7 +20,7 @@ use Rattle.layout.specs.Layout.{ATOMS, PAIRS, FIRST, ATOM-LENGTHS, ATOM-HEADS, 
 use Rattle.tree_cache.specs.Meaning.{sentinel-word}
 use Rattle.load.specs.Load.{atom-bytes, Ready, Loaded}
 use Rattle.load.proofs.Tables.{table-firsts, table-lengths}
-use Rattle.session_call.specs.Opened.{Cleared, Placed, Opened}
+use Rattle.session_call.specs.Opened.{TablesClear, Placed, Opened}
 
 -- The words before place n are cleared, and the others stay.
 pub front-cleared : (n k : ℕ) (t rest : List ℕ) → t ≡ replicate n 0 → k < n → at (t ++ rest) k ≡ 0
@@ -44,7 +44,7 @@ pairs-room n long w₀ r₁ e len₁ =
 -- ---- the places of the atoms and the handles of the pairs
 
 module _ (input : List ℕ) (f : File) (c : Checked) (p : Passed input f c) (n : ℕ) (long : 524288 ≤ n) (w₀ r₁ r₂ : List ℕ) (long₀ : length w₀ ≡ n)
-    (clear : Cleared w₀)
+    (clear : TablesClear w₀)
     (len₁ : length r₁ ≡ length (part w₀ 0 2048)) (l₁ : AtomsLoaded input (f .atoms) (part w₀ 0 2048) r₁)
     (len₂ : length r₂ ≡ length (part (putMid 0 2048 w₀ r₁) 2048 2048)) (l₂ : PairsLoaded (f .pairs) (part (putMid 0 2048 w₀ r₁) 2048 2048) r₂) where
   abbrev w₁ : List ℕ

@@ -13,8 +13,8 @@ use Rattle.incremental.specs.State.{AtomPlaces, AtomsThere}
 use Rattle.steps.specs.declared.Progress.{Progress}
 
 -- The words before the rows of parents are zero.
-abbrev pub Cleared : List ℕ → Type 0
-Cleared w = (k : ℕ) → k < PARENTS → at w k ≡ 0
+abbrev pub TablesClear : List ℕ → Type 0
+TablesClear w = (k : ℕ) → k < PARENTS → at w k ≡ 0
 
 -- The places of the atoms and the handles of the pairs are there, and the words after them are zero, up to the rows of parents.
 pub record Placed (input : List ℕ) (f : File) (w : List ℕ) : Type 0 where

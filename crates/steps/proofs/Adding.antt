@@ -12,6 +12,8 @@ use borrow.Author.Tests.{lt-ltb}
 use Rattle.words.specs.Words.{at}
 use Rattle.words.specs.Lists.{All}
 use Rattle.words.specs.Choice.{cond-true}
+use Rattle.checkpoints.specs.Records.{blank}
+use Rattle.checkpoints.specs.declared.Checkpoint.{Checkpoint}
 use Rattle.path.specs.Measure.{counted}
 use Rattle.allocator.specs.Handle.{node-of}
 use Rattle.allocator.specs.declared.NodePtr.{NodePtr}
@@ -45,7 +47,7 @@ use Rattle.steps.proofs.States.{at-kept, history-more, go-on}
 
 -- ---- what an add takes
 
-pub adding : (input : List ℕ) (f : File) (w words : List ℕ) (rows : List (List ℕ)) (out : List ℕ) (p : Progress) (h : ℕ) (rest : List Step)
+pub adding : (input : List ℕ) (f : File) (w words : List ℕ) (rows : List Checkpoint) (out : List ℕ) (p : Progress) (h : ℕ) (rest : List Step)
     (u : Underway input f w words rows out p) → u .left ≡ add h ∷ rest → p .finished ≡ false → p .adds < 16 → Adding input w out p h
 adding input f w words rows out p h rest u e fin few =
     let left : length (u .left) ≡ suc (length rest) = ap length e in
@@ -167,7 +169,7 @@ module _ (input w out : List ℕ) (p : Progress) (h : ℕ) (ad : Adding input w 
 
 -- ---- what an add leaves
 
-module _ (input : List ℕ) (f : File) (w words : List ℕ) (rows : List (List ℕ)) (out : List ℕ) (p : Progress) (node : NodePtr) (next : ℕ) (rest : List Step)
+module _ (input : List ℕ) (f : File) (w words : List ℕ) (rows : List Checkpoint) (out : List ℕ) (p : Progress) (node : NodePtr) (next : ℕ) (rest : List Step)
     (u : Underway input f w words rows out p) (e : u .left ≡ add (node .0) ∷ rest) (there : StepsAt input next rest) (fin : p .finished ≡ false) (few : p .adds < 16)
     (w′ out′ : List ℕ) (q : Progress) (a : Added input w out w′ out′ p node q) where
   abbrev h : ℕ
@@ -297,7 +299,7 @@ module _ (input : List ℕ) (f : File) (w words : List ℕ) (rows : List (List �
   session-after (outcome.Stopped pl) = record { cache = c₂; waiting = some (todo-of f w′ (pl .opens)); written = meant .last }
   session-after (outcome.Refused n pl) = record { cache = c₂; waiting = s .waiting; written = meant .last }
 
-  abbrev rows′ : List (List ℕ)
+  abbrev rows′ : List Checkpoint
   rows′ = set rows (p .adds) (record-of w p)
 
   abbrev past′ : List UndoState

@@ -9,6 +9,8 @@ use lib.Dec.{ltb}
 use lib.ListN.{length, getD, set, take}
 use borrow.Author.Tests.{ltb-true, ltb-false}
 use Rattle.words.specs.Words.{at}
+use Rattle.checkpoints.specs.Records.{blank}
+use Rattle.checkpoints.specs.declared.Checkpoint.{Checkpoint}
 use Rattle.path.specs.Measure.{counted}
 use Rattle.allocator.specs.declared.NodePtr.{NodePtr}
 use Rattle.session_file.specs.File.{File, Step, restore}
@@ -27,7 +29,7 @@ use Rattle.steps.proofs.Runs.{run-ends, run-finished, run-full, run-bey
 use Rattle.steps.proofs.Adding.{adding, added-on, added-off}
 use Rattle.steps.proofs.Restoring.{slot, undoing, restored-on}
 
-module _ (input : List ℕ) (f : File) (w words : List ℕ) (rows : List (List ℕ)) (out : List ℕ) (t : Progress) where
+module _ (input : List ℕ) (f : File) (w words : List ℕ) (rows : List Checkpoint) (out : List ℕ) (t : Progress) where
   pub stands-on : t .done ≡ false → Underway input f w words rows out t → Stands input f w words rows out t (t .done)
   stands-on d u = subst (λ (b : Bool). Stands input f w words rows out t b) (sym d) u
 
@@ -40,9 +42,9 @@ module _ (input : List ℕ) (f : File) (w words : List ℕ) (rows : List (List �
   pub ended : t .done ≡ true → Stands input f w words rows out t (t .done) → Ended f words out t
   ended d s = subst (λ (b : Bool). Stands input f w words rows out t b) d s
 
-module _ (input : List ℕ) (f : File) (w words out : List ℕ) (p : Progress) (c : List ℕ) where
+module _ (input : List ℕ) (f : File) (w words out : List ℕ) (p : Progress) (c : Checkpoint) where
   -- The run is over at a step.
-  over : (rows : List (List ℕ)) (u : Underway input f w words rows out p) (n : ℕ)
+  over : (rows : List Checkpoint) (u : Underway input f w words rows out p) (n : ℕ)
       → run-steps counted (length out) f (u .left) (u .past) (u .session) ≡ stop-at n (u .session) → Ended f words out (refused-at p n)
   over rows u n e =
       record {
@@ -57,7 +59,7 @@ module _ (input : List ℕ) (f : File) (w words out : List ℕ) (p : Progress) (
 
   -- The answer of a step that is refused, or of the end.
   stops : (n : ℕ) (a : StepAnswer) → a ≡ stopped-at p n c
-      → ((rows : List (List ℕ)) (u : Underway input f w words rows out p) → run-steps counted (length out) f (u .left) (u .past) (u .session) ≡ stop-at n (u .session))
+      → ((rows : List Checkpoint) (u : Underway input f w words rows out p) → run-steps counted (length out) f (u .left) (u .past) (u .session) ≡ stop-at n (u .session))
       → Onward input f w words out p c w words out a
   stops n a is h =
       subst (λ (x : StepAnswer). Onward input f w words out p c w words out x) (sym is) (λ rows u r. (over rows u n (h rows u), omega arith))
@@ -154,7 +156,7 @@ module _ (input : List ℕ) (f : File) (w words out : List ℕ) (p : Progress) (
             let s : a .state .steps ≡ p .steps + 1 =
             ap (λ (x : Progress). x .steps) is ∙ ap (λ (x : Progress). x .steps + 1) (ad .is) ∙ ap (λ (x : ℕ). x + 1) (steps-same (ad .outcome)) in (
               stands-on input f w′ words′ (set rows (slot-for (u .left) (p .adds)) (a .saved)) out′ (a .state) (ap (λ (x : Progress). x .done) is ∙ d)
-                  (subst (λ (x : List ℕ). Underway input f w′ words′ (set rows (slot-for (u .left) (p .adds)) x) out′ (a .state)) (sym sv)
+                  (subst (λ (x : Checkpoint). Underway input f w′ words′ (set rows (slot-for (u .left) (p .adds)) x) out′ (a .state)) (sym sv)
                   (added-on input f w words rows out p node next (e .0) u (e .1) (e .2) fin few w′ out′ q ad words′ (a .state) d ws is)),
               omega arith,
             )
@@ -182,15 +184,15 @@ module _ (input : List ℕ) (f : File) (w words out : List ℕ) (p : Progress) (
           let e = comes (u .left) (u .steps-there) in
           let l : length (u .left) ≡ suc (length (e .0)) = ap length (e .1) in
           let s : q .steps ≡ p .steps = ap (λ (x : Progress). x .steps) is in
-          let z : q .size ≡ at c 2 = ap (λ (x : Progress). x .size) is in
-          let k : at c 2 ≤ 65535 = size-low (r .rows) u (r .record-is) (e .0) (e .1) in
+          let z : q .size ≡ c .size = ap (λ (x : Progress). x .size) is in
+          let k : c .size ≤ 65535 = size-low (r .rows) u (r .record-is) (e .0) (e .1) in
           (omega (arith, u .few-steps, u .many-words), omega arith, omega (arith, u .few-steps))
         where
-          size-low : (rows : List (List ℕ)) (u : Underway input f w words rows out p) → getD rows (slot-for (u .left) (p .adds)) [] ≡ c
-              → (rest : List Step) → u .left ≡ restore n ∷ rest → at c 2 ≤ 65535
+          size-low : (rows : List Checkpoint) (u : Underway input f w words rows out p) → getD rows (slot-for (u .left) (p .adds)) blank ≡ c
+              → (rest : List Step) → u .left ≡ restore n ∷ rest → c .size ≤ 65535
           size-low rows u r-is rest e =
               let s = slot input f w words rows out p n next rest u e few c r-is in
-              let z : size-at rows n ≡ at c 2 = ap (λ (k : ℕ). size-at rows k) (sym s) ∙ ap (λ (x : List ℕ). at x 2) r-is in
+              let z : size-at rows n ≡ c .size = ap (λ (k : ℕ). size-at rows k) (sym s) ∙ ap (λ (x : Checkpoint). x .size) r-is in
               omega (arith, u .history .sizes n few, u .present .running .fits, u .present .running .short)
 
       pub restores-on : (w′ : List ℕ) → length w′ ≡ length w → Undone w w′ n c → (words′ : List ℕ) (q : Progress) (a : StepAnswer) → q ≡ undone-at p c n
@@ -201,7 +203,7 @@ module _ (input : List ℕ) (f : File) (w words out : List ℕ) (p : Progress) (
           let s : a .state .steps ≡ p .steps + 1 = ap (λ (x : Progress). x .steps) is ∙ ap (λ (x : Progress). x .steps + 1) qi in (
             stands-on input f w′ words′ (set rows (slot-for (u .left) (p .adds)) (a .saved)) out (a .state)
                 (ap (λ (x : Progress). x .done) is ∙ ap (λ (x : Progress). x .done) qi)
-                (subst (λ (x : List ℕ). Underway input f w′ words′ (set rows (slot-for (u .left) (p .adds)) x) out (a .state)) (sym sv)
+                (subst (λ (x : Checkpoint). Underway input f w′ words′ (set rows (slot-for (u .left) (p .adds)) x) out (a .state)) (sym sv)
                 (restored-on input f w words rows out p n next (e .0) u (e .1) few c r-is w′ long un (e .2) words′ q (a .state) qi ws is)),
             omega arith,
           )

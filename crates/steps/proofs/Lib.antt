@@ -5,3 +5,4 @@ pub mod States
 pub mod Adding
 pub mod Restoring
 pub mod Answers
+pub mod Bounds

@@ -11,6 +11,8 @@ use borrow.Author.Tests.{lt-ltb}
 use Rattle.words.specs.Words.{at}
 use Rattle.words.specs.Lists.{All}
 use Rattle.words.specs.Choice.{cond-true}
+use Rattle.checkpoints.specs.Records.{blank}
+use Rattle.checkpoints.specs.declared.Checkpoint.{Checkpoint}
 use Rattle.path.specs.Measure.{counted}
 use Rattle.session_file.specs.File.{File, Step, restore}
 use Rattle.session_file.specs.Places.{StepsAt, StepNamed}
@@ -57,18 +59,18 @@ entry-set v (suc e) n = refl
 
 -- ---- the calls of a restore
 
-pub restore-asks : (w : List ℕ) (depth n : ℕ) (r : List ℕ) (o d : ℕ) → o ≡ at r 0 → d ≡ at r 1 → Undoing w depth n r
+pub restore-asks : (w : List ℕ) (depth n : ℕ) (r : Checkpoint) (o d : ℕ) → o ≡ r .opens → d ≡ r .depth → Undoing w depth n r
     → (524288 ≤ length w) × (Stacked w depth) × (n < 16) × (o ≤ 4096) × (d ≤ DEPTH) × ((i : ℕ) → i < d → at w (copied-stack n + i) < ENTRIES)
 restore-asks w depth n r o d oi di u =
     (u .long, u .stacked, u .few, omega (arith, u .few-opens), omega (arith, u .deep), λ i l. u .entries i (omega arith))
 
-pub undone-of : (w v w′ : List ℕ) (n : ℕ) (r : List ℕ) (o d : ℕ) → o ≡ at r 0 → d ≡ at r 1 → Restored w v n o d → w′ ≡ with-entry v (at r 3) → Undone w w′ n r
+pub undone-of : (w v w′ : List ℕ) (n : ℕ) (r : Checkpoint) (o d : ℕ) → o ≡ r .opens → d ≡ r .depth → Restored w v n o d → w′ ≡ with-entry v (r .sentinel) → Undone w w′ n r
 undone-of w v w′ n r o d oi di re is =
-    record { restored-words = v; restored = subst (λ (x : ℕ). Restored w v n (at r 0) x) di (subst (λ (x : ℕ). Restored w v n x d) oi re); is = is }
+    record { restored-words = v; restored = subst (λ (x : ℕ). Restored w v n (r .opens) x) di (subst (λ (x : ℕ). Restored w v n x d) oi re); is = is }
 
-module _ (input : List ℕ) (f : File) (w words : List ℕ) (rows : List (List ℕ)) (out : List ℕ) (p : Progress) (n next : ℕ) (rest : List Step)
-    (u : Underway input f w words rows out p) (e : u .left ≡ restore n ∷ rest) (few : n < p .adds) (r : List ℕ)
-    (r-is : getD rows (slot-for (u .left) (p .adds)) [] ≡ r) where
+module _ (input : List ℕ) (f : File) (w words : List ℕ) (rows : List Checkpoint) (out : List ℕ) (p : Progress) (n next : ℕ) (rest : List Step)
+    (u : Underway input f w words rows out p) (e : u .left ≡ restore n ∷ rest) (few : n < p .adds) (r : Checkpoint)
+    (r-is : getD rows (slot-for (u .left) (p .adds)) blank ≡ r) where
   -- The state before add n.
   found : Found (u .past) n
   found = nth-found (u .past) n (omega (arith, u .history .long))
@@ -76,11 +78,11 @@ module _ (input : List ℕ) (f : File) (w words : List ℕ) (rows : List (List �
   pub slot : slot-for (u .left) (p .adds) ≡ n
   slot = ap (λ (x : List Step). slot-for x (p .adds)) e ∙ cond-true (ltb n 16) n 0 (lt-ltb n 16 (omega (arith, u .few-adds)))
 
-  row : getD rows n [] ≡ r
-  row = ap (λ (k : ℕ). getD rows k []) (sym slot) ∙ r-is
+  row : getD rows n blank ≡ r
+  row = ap (λ (k : ℕ). getD rows k blank) (sym slot) ∙ r-is
 
   before : Before f w out n r (found .value)
-  before = subst (λ (x : List ℕ). Before f w out n x (found .value)) row (u .history .befores n (found .value) (found .is))
+  before = subst (λ (x : Checkpoint). Before f w out n x (found .value)) row (u .history .befores n (found .value) (found .is))
 
   -- What the restore takes.
   pub undoing : Undoing w (p .depth) n r
@@ -102,7 +104,7 @@ module _ (input : List ℕ) (f : File) (w words : List ℕ) (rows : List (List �
     then = before .words-then
 
     other : (k : ℕ) → (k ≡ SENTINEL-ENTRY → ⊥) → at w′ k ≡ at v k
-    other k q = ap (λ (x : List ℕ). at x k) (a .is) ∙ entry-other v (at r 3) k q
+    other k q = ap (λ (x : List ℕ). at x k) (a .is) ∙ entry-other v (r .sentinel) k q
 
     low : (k : ℕ) → k < OPEN → at w′ k ≡ at w k
     low k l = other k (λ q. omega (arith, q)) ∙ a .restored .low k l
@@ -117,23 +119,23 @@ module _ (input : List ℕ) (f : File) (w words : List ℕ) (rows : List (List �
     wh = u .present .running .stands .whole
 
     v-long : 524288 ≤ length v
-    v-long = omega (arith, wh .sound .long, long, ap length (a .is), entry-length v (at r 3))
+    v-long = omega (arith, wh .sound .long, long, ap length (a .is), entry-length v (r .sentinel))
 
     whole : Whole w′
     whole =
         whole-kept w w′ long low maps cache wh
         (subst (λ (x : List ℕ). at x SENTINEL-ENTRY ≤ at w USED) (sym (a .is))
-        (entry-low v (at r 3) (at w USED) v-long
+        (entry-low v (r .sentinel) (at w USED) v-long
         (omega (arith, before .entry-is, before .stood .running .stands .whole .sentinel-entry, before .used-more))
         (omega (arith, a .restored .high SENTINEL-ENTRY (omega arith), wh .sentinel-entry))))
 
     -- The open pairs, the stack and the marks are those of that time.
-    open-same : (i : ℕ) → i < at r 0 → at w′ (OPEN + i) ≡ at then (OPEN + i)
+    open-same : (i : ℕ) → i < r .opens → at w′ (OPEN + i) ≡ at then (OPEN + i)
     open-same i l =
         let b = before .stood .running .stands .few-opens in
         other (OPEN + i) (λ q. omega (arith, q)) ∙ a .restored .open-pairs i l ∙ before .open-pairs i l
 
-    place-same : (i : ℕ) → i < at r 1 → at w′ (STACK + i) ≡ at then (STACK + i)
+    place-same : (i : ℕ) → i < r .depth → at w′ (STACK + i) ≡ at then (STACK + i)
     place-same i l =
         let b = before .stood .running .stands .stacked .deep in
         other (STACK + i) (λ q. omega (arith, q)) ∙ a .restored .places i l ∙ before .places i l
@@ -144,26 +146,26 @@ module _ (input : List ℕ) (f : File) (w words : List ℕ) (rows : List (List �
     tables-then : (k : ℕ) → k < OPEN → at w′ k ≡ at then k
     tables-then k l = low k l ∙ before .tables-same k l
 
-    running : Running w′ out (at r 0) (at r 1) (at r 2) 0
+    running : Running w′ out (r .opens) (r .depth) (r .size) 0
     running =
         let t = before .stood .running .stands in
         record {
           stands =
               record {
                 whole = whole;
-                stacked = stacked-same v w′ (at r 1) (a .restored .stacked) (λ k x y. other k (λ q. omega (arith, q)));
+                stacked = stacked-same v w′ (r .depth) (a .restored .stacked) (λ k x y. other k (λ q. omega (arith, q)));
                 counts = omega (arith, all-counts-kept w w′ long low maps cache wh, u .present .running .stands .counts);
                 few-opens = t .few-opens;
                 pairs = λ i l. rw (open-same i l, tables-then PAIR-COUNT (omega arith)) (t .pairs i l);
-                balance = rw (rights-same then w′ (at r 0) open-same) (t .balance);
+                balance = rw (rights-same then w′ (r .opens) open-same) (t .balance);
               };
           fits = before .stood .running .fits;
           short = before .stood .running .short;
         }
 
-    todo : todo-of f w′ (at r 0) ≡ todo-of f then (at r 0)
+    todo : todo-of f w′ (r .opens) ≡ todo-of f then (r .opens)
     todo =
-        todo-same f then w′ (at r 0) tables-then open-same (pairs-few then (at r 0) (at r 1) 0 (before .stood .running .stands))
+        todo-same f then w′ (r .opens) tables-then open-same (pairs-few then (r .opens) (r .depth) 0 (before .stood .running .stands))
 
     -- The session is restored.
     abbrev back : Session
@@ -172,7 +174,7 @@ module _ (input : List ℕ) (f : File) (w words : List ℕ) (rows : List (List �
     entry : entry-or-none (at w′ SENTINEL-ENTRY) ≡ or-known (found .value .sentinel-entry) (u .session .cache .sentinel-entry)
     entry =
         ap (λ (x : List ℕ). entry-or-none (at x SENTINEL-ENTRY)) (a .is)
-        ∙ sym (entry-known v (at r 3) v-long)
+        ∙ sym (entry-known v (r .sentinel) v-long)
         ∙ ap (λ (x : ℕ). or-known (entry-or-none x) (entry-or-none (at v SENTINEL-ENTRY))) (before .entry-is)
         ∙ ap (λ (x : Option ℕ). or-known x (entry-or-none (at v SENTINEL-ENTRY))) (sym (before .stood .writes .cache .sentinel-entry))
         ∙ ap (λ (x : UndoState). or-known (x .sentinel-entry) (entry-or-none (at v SENTINEL-ENTRY))) (sym (before .is))
@@ -187,19 +189,19 @@ module _ (input : List ℕ) (f : File) (w words : List ℕ) (rows : List (List �
     written-is : found .value .written ≡ before .session-then .written
     written-is = ap (λ (x : UndoState). x .written) (before .is)
 
-    writes : Writes f w′ out (at r 1) (at r 2) (back .cache) (found .value .written)
+    writes : Writes f w′ out (r .depth) (r .size) (back .cache) (found .value .written)
     writes =
-        subst (λ (x : Written). Writes f w′ out (at r 1) (at r 2) (back .cache) x) (sym written-is)
+        subst (λ (x : Written). Writes f w′ out (r .depth) (r .size) (back .cache) x) (sym written-is)
         (let t = before .stood .writes in
         record {
           cache = holds;
-          stack = t .stack ∙ sym (stack-same then w′ (at r 1) place-same);
+          stack = t .stack ∙ sym (stack-same then w′ (r .depth) place-same);
           marks = λ x l. t .marks x l ∙ sym (marked-same then w′ x l mark-same);
           size-is = t .size-is;
           bytes-are = t .bytes-are;
         })
 
-    waiting : back .waiting ≡ some (todo-of f w′ (at r 0))
+    waiting : back .waiting ≡ some (todo-of f w′ (r .opens))
     waiting =
         ap (λ (x : UndoState). x .waiting) (before .is)
         ∙ before .stood .waiting
@@ -218,9 +220,9 @@ module _ (input : List ℕ) (f : File) (w words : List ℕ) (rows : List (List �
           counts = omega (arith, u .stocked .counts);
         }
 
-    history : History f w′ out rows (at r 2) n (take n (u .past))
+    history : History f w′ out rows (r .size) n (take n (u .past))
     history =
-        subst (λ (x : List ℕ). History f w′ out rows (at x 2) n (take n (u .past))) row
+        subst (λ (x : Checkpoint). History f w′ out rows (x .size) n (take n (u .past))) row
         (history-back out out refl f w w′ low (omega (arith, cache USED (omega arith) (omega arith))) rows (p .size) (p .adds) (u .past)
         (λ j x y. other j (λ q. omega (arith, q)) ∙ a .restored .high j (omega arith)) refl (u .history) n few)
 
@@ -229,7 +231,7 @@ module _ (input : List ℕ) (f : File) (w words : List ℕ) (rows : List (List �
         → Underway input f w′ words′ (set rows (slot-for (u .left) (p .adds)) r) out t
     restored-on there words′ q t qi ws ti =
         subst (λ (x : Progress). Underway input f w′ words′ (set rows (slot-for (u .left) (p .adds)) r) out x) (sym ti)
-        (subst (λ (x : List (List ℕ)). Underway input f w′ words′ x out (noted-at q next)) (sym (set-same rows (slot-for (u .left) (p .adds)) r [] in-rows r-is))
+        (subst (λ (x : List Checkpoint). Underway input f w′ words′ x out (noted-at q next)) (sym (set-same rows (slot-for (u .left) (p .adds)) r blank in-rows r-is))
         (subst (λ (x : Progress). words′ ≡ set words (x .steps) (x .size * 2 + bit (x .finished)) → Underway input f w′ words′ rows out (noted-at x next)) (sym qi)
         (λ y. go-on input f w′ words words′ rows out (undone-at p r n) next rest (take n (u .past)) back
         (record { running = running; writes = writes; waiting = waiting }) stocked history (omega (arith, u .few-adds)) there

@@ -12,6 +12,8 @@ use lib.Seq.{take-take}
 use Rattle.words.specs.Words.{at}
 use Rattle.words.specs.Lists.{All}
 use Rattle.words.specs.Choice.{by-lt}
+use Rattle.checkpoints.specs.Records.{blank}
+use Rattle.checkpoints.specs.declared.Checkpoint.{Checkpoint}
 use Rattle.path.specs.Measure.{counted}
 use Rattle.session_file.specs.File.{File, Step}
 use Rattle.session_file.specs.Places.{StepsAt, StepNamed}
@@ -52,15 +54,15 @@ module _ (out out′ : List ℕ) (long : length out′ ≡ length out) where
   -- ---- the state before add k
 
   module _ (f : File) (w w′ : List ℕ) (low : (j : ℕ) → j < OPEN → at w′ j ≡ at w j) (used : at w USED ≤ at w′ USED) where
-    pub before-kept : (k : ℕ) (r : List ℕ) (u : UndoState) → ((j : ℕ) → copied-open k ≤ j → j < copied-open k + COPY → at w′ j ≡ at w j)
-        → take (at r 2) out′ ≡ take (at r 2) out → Before f w out k r u → Before f w′ out′ k r u
+    pub before-kept : (k : ℕ) (r : Checkpoint) (u : UndoState) → ((j : ℕ) → copied-open k ≤ j → j < copied-open k + COPY → at w′ j ≡ at w j)
+        → take (r .size) out′ ≡ take (r .size) out → Before f w out k r u → Before f w′ out′ k r u
     before-kept k r u copies same b =
         let few = b .stood .running .stands .few-opens in
         let deep = b .stood .running .stands .stacked .deep in
         record {
           words-then = b .words-then;
           session-then = b .session-then;
-          stood = at-kept f (b .words-then) (at r 0) (at r 1) (at r 2) false (b .session-then) same (b .stood);
+          stood = at-kept f (b .words-then) (r .opens) (r .depth) (r .size) false (b .session-then) same (b .stood);
           is = b .is;
           entry-is = b .entry-is;
           tables-same = λ j l. low j l ∙ b .tables-same j l;
@@ -72,12 +74,12 @@ module _ (out out′ : List ℕ) (long : length out′ ≡ length out) where
 
     -- ---- the states before n adds
 
-    module _ (rows : List (List ℕ)) (size n : ℕ) (past : List UndoState) (copies : (j : ℕ) → COPIES ≤ j → j < COPIES + n * COPY → at w′ j ≡ at w j)
+    module _ (rows : List Checkpoint) (size n : ℕ) (past : List UndoState) (copies : (j : ℕ) → COPIES ≤ j → j < COPIES + n * COPY → at w′ j ≡ at w j)
         (same : take size out′ ≡ take size out) (h : History f w out rows size n past) where
-      pub history-kept : (k : ℕ) (u : UndoState) → nth past k ≡ some u → Before f w′ out′ k (getD rows k []) u
+      pub history-kept : (k : ℕ) (u : UndoState) → nth past k ≡ some u → Before f w′ out′ k (getD rows k blank) u
       history-kept k u e =
           let l : k < n = omega (arith, nth-low past k u e, h .long) in
-          before-kept k (getD rows k []) u (λ j a b. copies j (omega arith) (omega arith)) (take-less (size-at rows k) size (h .sizes k l) same) (h .befores k u e)
+          before-kept k (getD rows k blank) u (λ j a b. copies j (omega arith) (omega arith)) (take-less (size-at rows k) size (h .sizes k l) same) (h .befores k u e)
 
       -- Fewer adds: a restore, with the size at record n.
       pub history-back : (m : ℕ) → m < n → History f w′ out′ rows (size-at rows m) m (take m past)
@@ -96,7 +98,7 @@ module _ (out out′ : List ℕ) (long : length out′ ≡ length out) where
           taken (suc m) (x ∷ xs) q = ap suc (taken m xs (omega arith))
 
       -- One add more, with its record r and the state u before it.
-      pub history-more : (r : List ℕ) (u : UndoState) (size′ : ℕ) → n < length rows → at r 2 ≤ size′ → size ≤ at r 2 → Before f w′ out′ n r u
+      pub history-more : (r : Checkpoint) (u : UndoState) (size′ : ℕ) → n < length rows → r .size ≤ size′ → size ≤ r .size → Before f w′ out′ n r u
           → History f w′ out′ (set rows n r) size′ (n + 1) (past ++ u ∷ [])
       history-more r u size′ low-n le ge b =
           record {
@@ -106,30 +108,30 @@ module _ (out out′ : List ℕ) (long : length out′ ≡ length out) where
             ordered = λ j k q q′. ordered j k q q′;
           }
         where
-          here : getD (set rows n r) n [] ≡ r
-          here = set-here rows n r [] low-n
+          here : getD (set rows n r) n blank ≡ r
+          here = set-here rows n r blank low-n
 
-          there : (k : ℕ) → k < n → getD (set rows n r) k [] ≡ getD rows k []
-          there k l = set-there rows n k r [] (λ e. omega (arith, e))
+          there : (k : ℕ) → k < n → getD (set rows n r) k blank ≡ getD rows k blank
+          there k l = set-there rows n k r blank (λ e. omega (arith, e))
 
-          go : (k : ℕ) (v : UndoState) → (nth past k ≡ some v) ⊎ ((k ≡ length past) × (u ≡ v)) → Before f w′ out′ k (getD (set rows n r) k []) v
+          go : (k : ℕ) (v : UndoState) → (nth past k ≡ some v) ⊎ ((k ≡ length past) × (u ≡ v)) → Before f w′ out′ k (getD (set rows n r) k blank) v
           go k v (inl e) =
-              subst (λ (x : List ℕ). Before f w′ out′ k x v) (sym (there k (omega (arith, nth-low past k v e, h .long)))) (history-kept k v e)
+              subst (λ (x : Checkpoint). Before f w′ out′ k x v) (sym (there k (omega (arith, nth-low past k v e, h .long)))) (history-kept k v e)
           go k v (inr e) =
               let q : n ≡ k = sym (e .0 ∙ h .long) in
-              subst (λ (j : ℕ). Before f w′ out′ j (getD (set rows n r) j []) v) q
-              (subst (λ (x : List ℕ). Before f w′ out′ n x v) (sym here) (subst (λ (x : UndoState). Before f w′ out′ n r x) (e .1) b))
+              subst (λ (j : ℕ). Before f w′ out′ j (getD (set rows n r) j blank) v) q
+              (subst (λ (x : Checkpoint). Before f w′ out′ n x v) (sym here) (subst (λ (x : UndoState). Before f w′ out′ n r x) (e .1) b))
 
           size-there : (k : ℕ) → k < n → size-at (set rows n r) k ≡ size-at rows k
-          size-there k l = ap (λ (x : List ℕ). at x 2) (there k l)
+          size-there k l = ap (λ (x : Checkpoint). x .size) (there k l)
 
-          size-here : size-at (set rows n r) n ≡ at r 2
-          size-here = ap (λ (x : List ℕ). at x 2) here
+          size-here : size-at (set rows n r) n ≡ r .size
+          size-here = ap (λ (x : Checkpoint). x .size) here
 
-          up-to : (k : ℕ) → k < n → size-at (set rows n r) k ≤ at r 2
+          up-to : (k : ℕ) → k < n → size-at (set rows n r) k ≤ r .size
           up-to k l = omega (arith, size-there k l, h .sizes k l)
 
-          last : (k : ℕ) → n ≤ k → k < n + 1 → size-at (set rows n r) k ≡ at r 2
+          last : (k : ℕ) → n ≤ k → k < n + 1 → size-at (set rows n r) k ≡ r .size
           last k a b = let q : k ≡ n = omega arith in ap (λ (j : ℕ). size-at (set rows n r) j) q ∙ size-here
 
           sizes : (k : ℕ) → k < n + 1 → size-at (set rows n r) k ≤ size′
@@ -142,7 +144,7 @@ module _ (out out′ : List ℕ) (long : length out′ ≡ length out) where
 -- ---- a finished step
 
 -- The step's word is noted, and the run goes on at the next step.
-pub go-on : (input : List ℕ) (f : File) (w words words′ : List ℕ) (rows : List (List ℕ)) (out : List ℕ) (q : Progress) (next : ℕ) (rest : List Step)
+pub go-on : (input : List ℕ) (f : File) (w words words′ : List ℕ) (rows : List Checkpoint) (out : List ℕ) (q : Progress) (next : ℕ) (rest : List Step)
     (past : List UndoState) (t : Session) → At f w out (q .opens) (q .depth) (q .size) (q .finished) t → Stocked input f w (q .steps + 1)
     → History f w out rows (q .size) (q .adds) past → q .adds ≤ 16 → StepsAt input next rest
     → All (StepNamed (length (f .atoms)) (length (f .pairs))) rest → q .steps + 1 + length rest ≤ 1024 → 16 ≤ length rows → 1024 ≤ length words

@@ -8,6 +8,8 @@ use lib.Dec.{ltb}
 use lib.ListN.{length, getD, take}
 use Rattle.words.specs.Words.{at}
 use Rattle.words.specs.Lists.{All}
+use Rattle.checkpoints.specs.Records.{blank}
+use Rattle.checkpoints.specs.declared.Checkpoint.{Checkpoint}
 use Rattle.path.specs.Measure.{counted}
 use Rattle.session_file.specs.File.{File, Got, got, refused, Step, add, restore, file, version-1}
 use Rattle.session_file.specs.Places.{StepsAt, StepNamed}
@@ -60,27 +62,27 @@ pub record At (f : File) (w out : List ℕ) (opens depth size : ℕ) (finished :
 -- ---- the state before an add
 
 -- Record r and copy k hold the state u before add k. A record has the open pairs, the depth of the stack, the size, and one more than the sentinel's entry.
-pub record Before (f : File) (w out : List ℕ) (k : ℕ) (r : List ℕ) (u : UndoState) : Type 0 where
+pub record Before (f : File) (w out : List ℕ) (k : ℕ) (r : Checkpoint) (u : UndoState) : Type 0 where
   -- The words and the session at that time.
   pub words-then : List ℕ
   pub session-then : Session
-  pub stood : At f words-then out (at r 0) (at r 1) (at r 2) false session-then
+  pub stood : At f words-then out (r .opens) (r .depth) (r .size) false session-then
   pub is : u ≡ undo-state session-then
-  pub entry-is : at r 3 ≡ at words-then SENTINEL-ENTRY
+  pub entry-is : r .sentinel ≡ at words-then SENTINEL-ENTRY
   pub tables-same : (j : ℕ) → j < OPEN → at w j ≡ at words-then j
   pub used-more : at words-then USED ≤ at w USED
-  pub open-pairs : (i : ℕ) → i < at r 0 → at w (copied-open k + i) ≡ at words-then (OPEN + i)
-  pub places : (i : ℕ) → i < at r 1 → at w (copied-stack k + i) ≡ at words-then (STACK + i)
+  pub open-pairs : (i : ℕ) → i < r .opens → at w (copied-open k + i) ≡ at words-then (OPEN + i)
+  pub places : (i : ℕ) → i < r .depth → at w (copied-stack k + i) ≡ at words-then (STACK + i)
   pub marks : (i : ℕ) → i < 96 → at w (copied-marks k + i) ≡ at words-then (WRITTEN + i)
 
 -- The bytes written at record k.
-abbrev pub size-at : List (List ℕ) → ℕ → ℕ
-size-at rows k = at (getD rows k []) 2
+abbrev pub size-at : List Checkpoint → ℕ → ℕ
+size-at rows k = getD rows k blank .size
 
 -- The states before the first n adds.
-pub record History (f : File) (w out : List ℕ) (rows : List (List ℕ)) (size n : ℕ) (past : List UndoState) : Type 0 where
+pub record History (f : File) (w out : List ℕ) (rows : List Checkpoint) (size n : ℕ) (past : List UndoState) : Type 0 where
   pub long : length past ≡ n
-  pub befores : (k : ℕ) (u : UndoState) → nth past k ≡ some u → Before f w out k (getD rows k []) u
+  pub befores : (k : ℕ) (u : UndoState) → nth past k ≡ some u → Before f w out k (getD rows k blank) u
   pub sizes : (k : ℕ) → k < n → size-at rows k ≤ size
   pub ordered : (j k : ℕ) → j < k → k < n → size-at rows j ≤ size-at rows k
 
@@ -94,7 +96,7 @@ pub record Stocked (input : List ℕ) (f : File) (w : List ℕ) (steps : ℕ) : 
   pub room : at w USED + 2 * unmapped w (at w PAIR-COUNT) ≤ 2048 + steps
   pub counts : all-counts w ENTRIES + 2 * unmapped w (at w PAIR-COUNT) ≤ 2048
 
-pub record Underway (input : List ℕ) (f : File) (w words : List ℕ) (rows : List (List ℕ)) (out : List ℕ) (p : Progress) : Type 0 where
+pub record Underway (input : List ℕ) (f : File) (w words : List ℕ) (rows : List Checkpoint) (out : List ℕ) (p : Progress) : Type 0 where
   pub left : List Step
   pub past : List UndoState
   pub session : Session
@@ -119,7 +121,7 @@ pub record Ended (f : File) (words out : List ℕ) (p : Progress) : Type 0 where
   pub many-words : 1024 ≤ length words
   pub same : whole-run f (length out) ≡ record { words = take (p .steps) words; number = p .number; last = session }
 
-abbrev pub Stands : (input : List ℕ) (f : File) (w words : List ℕ) (rows : List (List ℕ)) (out : List ℕ) (p : Progress) → Bool → Type 0
+abbrev pub Stands : (input : List ℕ) (f : File) (w words : List ℕ) (rows : List Checkpoint) (out : List ℕ) (p : Progress) → Bool → Type 0
 Stands input f w words rows out p true = Ended f words out p
 Stands input f w words rows out p false = Underway input f w words rows out p
 

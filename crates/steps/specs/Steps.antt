@@ -2,10 +2,12 @@
 use Prim.Native.Nat.{ℕ, zero, suc, _+_, _*_, _≤_, _<_}
 use mathlib.Core.Path.{_≡_}
 use mathlib.Core.Bool.{Bool, true, false, cond}
-use mathlib.Core.List.{List, [], _∷_}
+use mathlib.Core.List.{List}
 use lib.Dec.{ltb}
 use lib.ListN.{length, getD, set}
 use Rattle.words.specs.Words.{at}
+use Rattle.checkpoints.specs.Records.{blank}
+use Rattle.checkpoints.specs.declared.Checkpoint.{Checkpoint}
 use Rattle.allocator.specs.declared.NodePtr.{NodePtr}
 use Rattle.session_file.specs.File.{File, Step}
 use Rattle.session_file.specs.Places.{StepsAt}
@@ -72,8 +74,8 @@ moved-to p q n b =
     }
 
 -- The record of a state: open pairs, depth, size, and one more than the sentinel's entry, or 0.
-abbrev pub record-of : List ℕ → Progress → List ℕ
-record-of w p = p .opens ∷ p .depth ∷ p .size ∷ at w SENTINEL-ENTRY ∷ []
+abbrev pub record-of : List ℕ → Progress → Checkpoint
+record-of w p = record { opens = p .opens; depth = p .depth; size = p .size; sentinel = at w SENTINEL-ENTRY }
 
 -- ---- an add
 
@@ -112,13 +114,13 @@ pub record Added (input w out w′ out′ : List ℕ) (p : Progress) (node : Nod
 -- ---- a restore
 
 -- What a restore takes: copy n and record r, on a stack of so many entries.
-pub record Undoing (w : List ℕ) (depth n : ℕ) (r : List ℕ) : Type 0 where
+pub record Undoing (w : List ℕ) (depth n : ℕ) (r : Checkpoint) : Type 0 where
   pub long : 524288 ≤ length w
   pub stacked : Stacked w depth
   pub few : n < 16
-  pub few-opens : at r 0 ≤ 4096
-  pub deep : at r 1 ≤ DEPTH
-  pub entries : (i : ℕ) → i < at r 1 → at w (copied-stack n + i) < ENTRIES
+  pub few-opens : r .opens ≤ 4096
+  pub deep : r .depth ≤ DEPTH
+  pub entries : (i : ℕ) → i < r .depth → at w (copied-stack n + i) < ENTRIES
 
 -- The words with the sentinel's entry of a record. One that was not there stays as it is.
 abbrev pub with-entry : List ℕ → ℕ → List ℕ
@@ -126,14 +128,14 @@ with-entry w zero = w
 with-entry w (suc e) = set w SENTINEL-ENTRY (suc e)
 
 -- Copy n and record r are the present state.
-pub record Undone (w w′ : List ℕ) (n : ℕ) (r : List ℕ) : Type 0 where
+pub record Undone (w w′ : List ℕ) (n : ℕ) (r : Checkpoint) : Type 0 where
   pub restored-words : List ℕ
-  pub restored : Restored w restored-words n (at r 0) (at r 1)
-  pub is : w′ ≡ with-entry restored-words (at r 3)
+  pub restored : Restored w restored-words n (r .opens) (r .depth)
+  pub is : w′ ≡ with-entry restored-words (r .sentinel)
 
 -- The progress after a restore.
-abbrev pub undone-at : Progress → List ℕ → ℕ → Progress
-undone-at p r n = moved-to p (record { opens = at r 0; depth = at r 1; size = at r 2 }) n false
+abbrev pub undone-at : Progress → Checkpoint → ℕ → Progress
+undone-at p r n = moved-to p (record { opens = r .opens; depth = r .depth; size = r .size }) n false
 
 -- ---- a step
 
@@ -142,7 +144,7 @@ abbrev pub question-of : (finished : Bool) → (adds : ℕ) → ℕ
 question-of finished adds = cond finished 9 (cond (ltb adds 16) 0 10)
 
 -- The run ends with a number, and the record stays.
-abbrev pub stopped-at : Progress → ℕ → List ℕ → StepAnswer
+abbrev pub stopped-at : Progress → ℕ → Checkpoint → StepAnswer
 stopped-at p n c = record { state = refused-at p n; saved = c }
 
 -- The step at a place of the file.
@@ -150,17 +152,17 @@ abbrev pub Comes : (input : List ℕ) (place : ℕ) → NextStep → Type 0
 Comes input place r = (ss : List Step) → StepsAt input place ss → FirstStep input ss r
 
 -- A run under way, and the record that its next step takes.
-pub record Ready (input : List ℕ) (f : File) (w words out : List ℕ) (p : Progress) (c : List ℕ) : Type 0 where
-  pub rows : List (List ℕ)
+pub record Ready (input : List ℕ) (f : File) (w words out : List ℕ) (p : Progress) (c : Checkpoint) : Type 0 where
+  pub rows : List Checkpoint
   pub underway : Underway input f w words rows out p
-  pub record-is : getD rows (slot-for (underway .left) (p .adds)) [] ≡ c
+  pub record-is : getD rows (slot-for (underway .left) (p .adds)) blank ≡ c
 
 -- One step more is finished, or the run is over.
 abbrev pub Nearer : Progress → Progress → Type 0
 Nearer p q = p .steps + 1 ≤ q .steps + bit (q .done)
 
 -- The step is done, or refused, whatever the other records are.
-abbrev pub Onward : (input : List ℕ) (f : File) (w words out : List ℕ) (p : Progress) (c : List ℕ) (w′ words′ out′ : List ℕ) (a : StepAnswer) → Type 0
+abbrev pub Onward : (input : List ℕ) (f : File) (w words out : List ℕ) (p : Progress) (c : Checkpoint) (w′ words′ out′ : List ℕ) (a : StepAnswer) → Type 0
 Onward input f w words out p c w′ words′ out′ a =
-    (rows : List (List ℕ)) (u : Underway input f w words rows out p) → getD rows (slot-for (u .left) (p .adds)) [] ≡ c
+    (rows : List Checkpoint) (u : Underway input f w words rows out p) → getD rows (slot-for (u .left) (p .adds)) blank ≡ c
     → Stands input f w′ words′ (set rows (slot-for (u .left) (p .adds)) (a .saved)) out′ (a .state) (a .state .done) × Nearer p (a .state)

@@ -1,14 +1,15 @@
 // incremental.rs and the session file: the steps of a session.
 use allocator::NodePtr;
+use checkpoints::Checkpoint;
 use incremental::Outcome;
 use incremental::Place;
 use session_file::NextStep;
 ghost use mathlib.Core.Path.{_≡_};
 ghost use mathlib.Core.Bool.{cond};
 ghost use mathlib.Core.List.{List};
-ghost use Prim.Native.Nat.{_+_, _*_, _^_, _≤_, _<_};
+ghost use Prim.Native.Nat.{_+_, _*_, _^_, _≤_, _<_, min};
 ghost use lib.Dec.{ltb};
-ghost use lib.ListN.{length, set};
+ghost use lib.ListN.{length, set, take};
 ghost use Rattle.session_file.specs.File.{Step};
 ghost use Rattle.session_file.specs.Places.{StepsAt};
 ghost use Rattle.session_file.specs.declared.NextStep.the-variants as next-step;
@@ -17,6 +18,9 @@ ghost use Rattle.steps.specs.Steps.{refused-at, noted-at, moved-to, reco
 
 // The most adds on the present history.
 const ADDS: usize = 16;
+
+// The most bytes of output that are used.
+const OUTPUT: usize = 65535;
 
 // Where a session stands: the next step's place in the file, the finished steps, the adds on the present history, the open pairs, the depth of the stack,
 // the bytes written, and whether the session is finished. The run is done at the end of the file, with number 0, or where a question gets no.
@@ -35,7 +39,7 @@ pub struct Progress {
 // After a step: where the session stands, and the checkpoint record to store.
 pub struct StepAnswer {
     pub state: Progress,
-    pub saved: [u32; 4],
+    pub saved: Checkpoint,
 }
 
 fn wide(x: u32) -> usize
@@ -83,16 +87,16 @@ fn refuse(p: Progress, number: u32) -> Progress
 }
 
 // The checkpoint record of the present state.
-fn record_of(work: &[u32], p: Progress) -> [u32; 4]
+fn record_of(work: &[u32], p: Progress) -> Checkpoint
     requires { ⌜ (524288 ≤ length (now work)) × (p .opens < 2 ^ 32) × (p .depth < 2 ^ 32) × (p .size < 2 ^ 32) ⌝ }
     ensures { λ r. ⌜ r ≡ record-of (now (work .entry)) p ⌝ }
 {
-    [
-        p.opens as u32,
-        p.depth as u32,
-        p.size as u32,
-        work[layout::SENTINEL_ENTRY],
-    ]
+    Checkpoint {
+        opens: p.opens as u32,
+        depth: p.depth as u32,
+        size: p.size as u32,
+        sentinel: work[layout::SENTINEL_ENTRY],
+    }
 }
 
 // A step's word: the size times 2, and 1 more where the session is finished.
@@ -184,28 +188,28 @@ fn bring_entry(work: &mut [u32], entry: u32)
 }
 
 // The state of copy `number` and its record is the present one again, over a stack of `depth` entries. Entries are not freed.
-fn undo(work: &mut [u32], depth: usize, number: usize, c: [u32; 4])
+fn undo(work: &mut [u32], depth: usize, number: usize, c: Checkpoint)
     requires { ⌜ Undoing (now work) depth number c ⌝ }
     ensures { λ _. ⌜ Undone (now (work .entry)) (now (work .exit)) number c ⌝ }
 {
-    stack::restore(work, number, wide(c[0]), depth, wide(c[1]));
-    bring_entry(work, c[3]);
+    stack::restore(work, number, wide(c.opens), depth, wide(c.depth));
+    bring_entry(work, c.sentinel);
 }
 
 // Where the session stands after a restore.
-fn undone(p: Progress, number: usize, c: [u32; 4]) -> Progress
+fn undone(p: Progress, number: usize, c: Checkpoint) -> Progress
     ensures { λ r. ⌜ r ≡ undone-at p c number ⌝ }
 {
     let place = Place {
-        opens: wide(c[0]),
-        depth: wide(c[1]),
-        size: wide(c[2]),
+        opens: wide(c.opens),
+        depth: wide(c.depth),
+        size: wide(c.size),
     };
     moved(p, place, number, false)
 }
 
 // The run ends with a number, and the checkpoint record stays.
-fn stop(p: Progress, number: u32, c: [u32; 4]) -> StepAnswer
+fn stop(p: Progress, number: u32, c: Checkpoint) -> StepAnswer
     ensures { λ a. ⌜ a ≡ stopped-at p number c ⌝ }
 {
     StepAnswer {
@@ -236,7 +240,7 @@ fn add_step(
     p: Progress,
     node: NodePtr,
     next: usize,
-    c: [u32; 4],
+    c: Checkpoint,
 ) -> StepAnswer
     requires { ⌜ (Ready (now file) (the-file (now file)) (now work) (now words) (now output) p c) × (Comes (now file) (p .at) (next-step.Add node next)) ⌝ }
     ensures { λ a. ⌜ Onward (now (file .entry)) (the-file (now (file .entry))) (now (work .entry)) (now (words .entry)) (now (output .entry)) p c (now (work .exit)) (now (words .exit)) (now (output .exit)) a ⌝ }
@@ -265,7 +269,7 @@ fn restore_step(
     p: Progress,
     number: u32,
     next: usize,
-    c: [u32; 4],
+    c: Checkpoint,
 ) -> StepAnswer
     requires { ⌜ (Ready (now file) (the-file (now file)) (now work) (now words) (now output) p c) × (Comes (now file) (p .at) (next-step.Restore number next)) ⌝ }
     ensures { λ a. ⌜ Onward (now (file .entry)) (the-file (now (file .entry))) (now (work .entry)) (now (words .entry)) (now (output .entry)) p c (now (work .exit)) (now (words .exit)) (now (output .entry)) a ⌝ }
@@ -289,7 +293,7 @@ pub fn core_step(
     words: &mut [u32],
     output: &mut [u8],
     p: Progress,
-    c: [u32; 4],
+    c: Checkpoint,
 ) -> StepAnswer
     requires { ⌜ Ready (now file) (the-file (now file)) (now work) (now words) (now output) p c ⌝ }
     ensures { λ a. ⌜ Onward (now (file .entry)) (the-file (now (file .entry))) (now (work .entry)) (now (words .entry)) (now (output .entry)) p c (now (work .exit)) (now (words .exit)) (now (output .exit)) a ⌝ }
@@ -302,4 +306,31 @@ pub fn core_step(
         }
         NextStep::End => stop(p, 0, c),
     }
+}
+
+// The bytes of output that are used.
+fn space_of(output: &[u8]) -> usize
+    ensures { λ r. ⌜ r ≡ min (length (now (output .entry))) 65535 ⌝ }
+{
+    let n = output.len();
+    if n < OUTPUT {
+        return n;
+    }
+    OUTPUT
+}
+
+// A step, with the first 65,535 bytes of the output.
+pub fn bounded_step(
+    work: &mut [u32],
+    words: &mut [u32],
+    output: &mut [u8],
+    file: &[u8],
+    p: Progress,
+    c: Checkpoint,
+) -> StepAnswer
+    requires { ⌜ Ready (now file) (the-file (now file)) (now work) (now words) (take 65535 (now output)) p c ⌝ }
+    ensures { λ a. ⌜ Onward (now (file .entry)) (the-file (now (file .entry))) (now (work .entry)) (now (words .entry)) (take 65535 (now (output .entry))) p c (now (work .exit)) (now (words .exit)) (take 65535 (now (output .exit))) a ⌝ }
+{
+    let space = space_of(output);
+    core_step(file, work, words, &mut output[..space], p, c)
 }

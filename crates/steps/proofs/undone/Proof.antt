@@ -7,20 +7,11 @@ use Rattle.steps.specs.Steps.{moved-to}
 use Rattle.steps.proofs.undone.Statement.{statement}
 use Rattle.steps.proofs.undone.Tie as tie
 
-array-read-wide : tie.Need-array-read-wide
-array-read-wide c = search needs
-
 wide-requires : tie.Need-wide-requires
 wide-requires c κs = search needs
 
-array-read-wide-2 : tie.Need-array-read-wide-2
-array-read-wide-2 c = search needs
-
 wide-requires-2 : tie.Need-wide-requires-2
 wide-requires-2 c κs = search needs
-
-array-read-wide-3 : tie.Need-array-read-wide-3
-array-read-wide-3 c = search needs
 
 wide-requires-3 : tie.Need-wide-requires-3
 wide-requires-3 c κs = search needs
@@ -35,11 +26,8 @@ pub undone-spec : {M : Type 1} → statement M
 undone-spec =
     tie.close
     (tie.spec
-    array-read-wide
     wide-requires
-    array-read-wide-2
     wide-requires-2
-    array-read-wide-3
     wide-requires-3
     moved-requires
     returns)
