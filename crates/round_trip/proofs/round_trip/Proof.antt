@@ -242,10 +242,14 @@ module _ {M : Type 1} (𝓤 : URA M) (H : Heap 𝓤) (A : Atoms 𝓤) (W : Given
         move ! (1 ∷ []) $ split ! $ move ! (1 ∷ []) $ split ! $ move ! (1 ∷ []) $ split ! $ move ! (1 ∷ []) $ split ! $ move ! (1 ∷ []) $ split ! $ move ! (1 ∷ []) $
         split ! $ move ! (1 ∷ []) $ drop ! $
         -- the slices as the session call takes them; work and output are lent again for lifetimes of the call
-        assigns ! (addr ! (from ! (fld ! refl (hop ! (look-in ! 68 (sub ! 0 refl (all-of !))) (stop !))))) (from ! (stop !)) (init ! 50 refl (tt, tt)) $ assigns ! (agg ! (and-then ! (load ! (from ! (stop !)) (look ! 50 refl)) (and-then ! (load ! (from ! (fld ! refl (stop !))) (look-in ! 68 (sub ! 1 refl (all-of !)))) (no-more !)))) (from ! (stop !)) (init ! 48 refl (tt, (tt, (record { fits = room₁ .0 }, tt)))) $
-        assigns ! (addr ! (from ! (fld ! refl (hop ! (look-in ! 66 (sub ! 0 refl (all-of !))) (stop !))))) (from ! (stop !)) (init ! 46 refl (tt, tt)) $ assigns ! (agg ! (and-then ! (load ! (from ! (stop !)) (look ! 46 refl)) (and-then ! (load ! (from ! (fld ! refl (stop !))) (look-in ! 66 (sub ! 1 refl (all-of !)))) (no-more !)))) (from ! (stop !)) (init ! 44 refl (tt, (tt, (record { fits = room₂ .0 }, tt)))) $
-        assigns ! (addr ! (from ! (fld ! refl (hop ! (look-in ! 64 (sub ! 0 refl (all-of !))) (stop !))))) (from ! (stop !)) (init ! 42 refl (tt, tt)) $ assigns ! (agg ! (and-then ! (load ! (from ! (stop !)) (look ! 42 refl)) (and-then ! (load ! (from ! (fld ! refl (stop !))) (look-in ! 64 (sub ! 1 refl (all-of !)))) (no-more !)))) (from ! (stop !)) (init ! 40 refl (tt, (tt, (record { fits = room₃ .0 }, tt)))) $
-        assigns ! (addr ! (from ! (fld ! refl (hop ! (look-in ! 62 (sub ! 0 refl (all-of !))) (stop !))))) (from ! (stop !)) (init ! 38 refl (tt, tt)) $ assigns ! (agg ! (and-then ! (load ! (from ! (stop !)) (look ! 38 refl)) (and-then ! (load ! (from ! (fld ! refl (stop !))) (look-in ! 62 (sub ! 1 refl (all-of !)))) (no-more !)))) (from ! (stop !)) (init ! 36 refl (tt, (tt, (record { fits = room₄ .0 }, tt)))) $
+        assigns ! (addr ! (from ! (fld ! refl (hop ! (look-in ! 68 (sub ! 0 refl (all-of !))) (stop !))))) (from ! (stop !)) (init ! 50 refl (tt, tt)) $
+        assigns ! (agg ! (and-then ! (load ! (from ! (stop !)) (look ! 50 refl)) (and-then ! (load ! (from ! (fld ! refl (stop !))) (look-in ! 68 (sub ! 1 refl (all-of !)))) (no-more !)))) (from ! (stop !)) (init ! 48 refl (tt, (tt, (record { fits = room₁ .0 }, tt)))) $
+        assigns ! (addr ! (from ! (fld ! refl (hop ! (look-in ! 66 (sub ! 0 refl (all-of !))) (stop !))))) (from ! (stop !)) (init ! 46 refl (tt, tt)) $
+        assigns ! (agg ! (and-then ! (load ! (from ! (stop !)) (look ! 46 refl)) (and-then ! (load ! (from ! (fld ! refl (stop !))) (look-in ! 66 (sub ! 1 refl (all-of !)))) (no-more !)))) (from ! (stop !)) (init ! 44 refl (tt, (tt, (record { fits = room₂ .0 }, tt)))) $
+        assigns ! (addr ! (from ! (fld ! refl (hop ! (look-in ! 64 (sub ! 0 refl (all-of !))) (stop !))))) (from ! (stop !)) (init ! 42 refl (tt, tt)) $
+        assigns ! (agg ! (and-then ! (load ! (from ! (stop !)) (look ! 42 refl)) (and-then ! (load ! (from ! (fld ! refl (stop !))) (look-in ! 64 (sub ! 1 refl (all-of !)))) (no-more !)))) (from ! (stop !)) (init ! 40 refl (tt, (tt, (record { fits = room₃ .0 }, tt)))) $
+        assigns ! (addr ! (from ! (fld ! refl (hop ! (look-in ! 62 (sub ! 0 refl (all-of !))) (stop !))))) (from ! (stop !)) (init ! 38 refl (tt, tt)) $
+        assigns ! (agg ! (and-then ! (load ! (from ! (stop !)) (look ! 38 refl)) (and-then ! (load ! (from ! (fld ! refl (stop !))) (look-in ! 62 (sub ! 1 refl (all-of !)))) (no-more !)))) (from ! (stop !)) (init ! 36 refl (tt, (tt, (record { fits = room₄ .0 }, tt)))) $
         lft-new ! tt (λ ν₁. move ! (15 ∷ 7 ∷ []) $ use2 W (later (some (λ (δ : GName). ‵ (MutSlice (named 1) (ν₁ ∷ []) u32 .own (lent₁ ν₁ δ) (v₁ ∷ [])) ⊛ ‵ (Lent u32 κ₁ (ν₁ ∷ []) q₁ 𝓤 H A W (named 1) (named 1) x₁ (length (x₁ .now)) (x₁ .now) refl δ)))) (lends-at u32 κ₁ (ν₁ ∷ []) q₁ 𝓤 H A W (named 1) (named 1) x₁ (length (x₁ .now)) (x₁ .now) refl) $ await ! tt $ pick ! (λ δ₁. split ! $
         lft-new ! tt (λ ν₄. move ! (14 ∷ 7 ∷ []) $ use2 W (later (some (λ (δ : GName). ‵ (MutSlice (named 4) (ν₄ ∷ []) u8 .own (lent₄ ν₄ δ) (v₄ ∷ [])) ⊛ ‵ (Lent u8 κ₄ (ν₄ ∷ []) q₄ 𝓤 H A W (named 4) (named 4) x₄ (length (x₄ .now)) (x₄ .now) refl δ)))) (lends-at u8 κ₄ (ν₄ ∷ []) q₄ 𝓤 H A W (named 4) (named 4) x₄ (length (x₄ .now)) (x₄ .now) refl) $ await ! tt $ pick ! (λ δ₄. split ! $
         -- a copy of `file` is kept
@@ -254,30 +258,39 @@ module _ {M : Type 1} (𝓤 : URA M) (H : Heap 𝓤) (A : Atoms 𝓤) (W : Given
         calls-at ! fm (Session 𝓤 H A mem run) known-session (to-session ν₁ ν₄ δ₁ δ₄) (and-then ! (load ! (from ! (stop !)) (look ! 64 refl)) (and-then ! (load ! (from ! (stop !)) (look ! 42 refl)) (and-then ! (load ! (from ! (stop !)) (look ! 38 refl)) (and-then ! (load ! (from ! (stop !)) (look ! 34 refl)) (and-then ! (load ! (from ! (stop !)) (look ! 30 refl)) (no-more !)))))) (λ u.
         use1 W (later (some (λ (s : SessionAnswer). ((‵ (flft κ₀ q₀) ⊛ ‵ (flft (ν₁ ∷ []) fullShare) ⊛ ‵ (flft κ₂ q₂) ⊛ ‵ (flft κ₃ q₃) ⊛ ‵ (flft (ν₄ ∷ []) fullShare) ⊛ ‵ ftrue) ⊛ ‵ (R.the-row .own s (u ∷ []))) ⊛ raw (ensured 𝓤 H A call.ended (call.clauses 𝓤 H A mem run) (κ₀, (ν₁ ∷ [], (κ₂, (κ₃, (ν₄ ∷ [], tt))))) (given-session ν₁ ν₄ δ₁ δ₄) tt s)))) (id⊢ 𝓤 _) $ await ! tt $ pick ! (λ s. split ! $
         move ! (1 ∷ []) $ use1 W (some (λ (zs : Unit {0} × (List ℕ × (List ℕ × (List Checkpoint × (List ℕ × Unit {0}))))). ‵ (lasts call.ended (κ₀, (ν₁ ∷ [], (κ₂, (κ₃, (ν₄ ∷ [], tt))))) (given-session ν₁ ν₄ δ₁ δ₄) zs) ⊛ (raw (fact 𝓤 (Ran s (zs .1 .0) (zs .1 .1 .0) (zs .1 .1 .1 .0) (zs .1 .1 .1 .1 .0))) ⊛ raw (fact 𝓤 (Back s (zs .1 .0) (zs .1 .1 .0) (zs .1 .1 .1 .0) (zs .1 .1 .1 .1 .0)))))) (id⊢ 𝓤 _) $ pick ! (λ zs. split ! $
-        move ! (1 ∷ []) $ split ! $ heard ! (Ran s (zs .1 .0) (zs .1 .1 .0) (zs .1 .1 .1 .0) (zs .1 .1 .1 .1 .0)) (λ ran. heard ! (Back s (zs .1 .0) (zs .1 .1 .0) (zs .1 .1 .1 .0) (zs .1 .1 .1 .1 .0)) (λ back.
+        move ! (1 ∷ []) $ split ! $
+        heard ! (Ran s (zs .1 .0) (zs .1 .1 .0) (zs .1 .1 .1 .0) (zs .1 .1 .1 .1 .0)) (λ ran. heard ! (Back s (zs .1 .0) (zs .1 .1 .0) (zs .1 .1 .1 .0) (zs .1 .1 .1 .1 .0)) (λ back.
         -- each last list, and its length
         fsplit ! $ drop ! $ fsplit ! $ fsplit ! $ move ! (1 ∷ []) $ feqL ! (λ e₁. move ! (1 ∷ []) $ fsplit ! $ fsplit ! $ move ! (1 ∷ []) $ feqL ! (λ e₂. move ! (1 ∷ []) $
         fsplit ! $ fsplit ! $ move ! (1 ∷ []) $ feqL ! (λ e₃. move ! (1 ∷ []) $ fsplit ! $ fsplit ! $ move ! (1 ∷ []) $ feqL ! (λ e₄. move ! (1 ∷ []) $ drop ! $
-        move ! (4 ∷ []) $ split ! $ move ! (1 ∷ []) $ facts ! R.the-row (Is R.the-row) (shows 𝓤 H A R.the-row) s (u ∷ []) (λ s-is. land ! (from ! (stop !)) (init ! 52 refl (LL.lawful R.the-type R′.the-laws 𝓤 H A W .typed s _ s-is .0)) $ rewrite ! 52 (λ (z : Val). ‵ (fat fullShare R′.mir l₉ 0 z)) (ap only (LL.tells R.the-type R′.the-laws s _ s-is)) refl $
+        move ! (4 ∷ []) $ split ! $ move ! (1 ∷ []) $ facts ! R.the-row (Is R.the-row) (shows 𝓤 H A R.the-row) s (u ∷ []) (λ s-is.
+        land ! (from ! (stop !)) (init ! 52 refl (LL.lawful R.the-type R′.the-laws 𝓤 H A W .typed s _ s-is .0)) $ rewrite ! 52 (λ (z : Val). ‵ (fat fullShare R′.mir l₉ 0 z)) (ap only (LL.tells R.the-type R′.the-laws s _ s-is)) refl $
         -- the lifetimes are ended, and work and output come back
         split ! $ move ! (1 ∷ []) $ split ! $ move ! (1 ∷ []) $ split ! $ move ! (1 ∷ []) $ split ! $ move ! (1 ∷ []) $ split ! $ move ! (1 ∷ []) $ drop ! $ move ! (3 ∷ []) $
         lft-end ! tt $ move ! (0 ∷ 11 ∷ 8 ∷ []) $ use3 W (later (‵ (MutSlice (named 1) κ₁ u32 .own (at-last x₁ (zs .1 .0)) (v₁ ∷ [])) ⊛ ‵ (flft κ₁ q₁))) (comes-at u32 κ₁ (ν₁ ∷ []) q₁ 𝓤 H A W (named 1) (named 1) x₁ (length (x₁ .now)) (x₁ .now) refl δ₁ (zs .1 .0) room₁ e₁) $ await ! tt $ split ! $
         move ! (2 ∷ []) $ lft-end ! tt $ move ! (0 ∷ 10 ∷ 6 ∷ []) $ use3 W (later (‵ (MutSlice (named 4) κ₄ u8 .own (at-last x₄ (zs .1 .1 .1 .1 .0)) (v₄ ∷ [])) ⊛ ‵ (flft κ₄ q₄))) (comes-at u8 κ₄ (ν₄ ∷ []) q₄ 𝓤 H A W (named 4) (named 4) x₄ (length (x₄ .now)) (x₄ .now) refl δ₄ (zs .1 .1 .1 .1 .0) room₄ e₄) $ await ! tt $ split ! $
         -- the slices as the reading takes them; output is lent as a `&[u8]`
-        assigns ! (addr ! (from ! (fld ! refl (hop ! (look-in ! 62 (sub ! 0 refl (all-of !))) (stop !))))) (from ! (stop !)) (init ! 34 refl (tt, tt)) $ assigns ! (agg ! (and-then ! (load ! (from ! (stop !)) (look ! 34 refl)) (and-then ! (load ! (from ! (fld ! refl (stop !))) (look-in ! 62 (sub ! 1 refl (all-of !)))) (no-more !)))) (from ! (stop !)) (init ! 32 refl (tt, (tt, (record { fits = room₄ .0 }, tt)))) $
-        assigns ! (addr ! (from ! (fld ! refl (hop ! (look-in ! 68 (sub ! 0 refl (all-of !))) (stop !))))) (from ! (stop !)) (init ! 30 refl (tt, tt)) $ assigns ! (agg ! (and-then ! (load ! (from ! (stop !)) (look ! 30 refl)) (and-then ! (load ! (from ! (fld ! refl (stop !))) (look-in ! 68 (sub ! 1 refl (all-of !)))) (no-more !)))) (from ! (stop !)) (init ! 28 refl (tt, (tt, (record { fits = room₁ .0 }, tt)))) $
-        assigns ! (addr ! (from ! (fld ! refl (hop ! (look-in ! 60 (sub ! 0 refl (all-of !))) (stop !))))) (from ! (stop !)) (init ! 26 refl (tt, tt)) $ assigns ! (agg ! (and-then ! (load ! (from ! (stop !)) (look ! 26 refl)) (and-then ! (load ! (from ! (fld ! refl (stop !))) (look-in ! 60 (sub ! 1 refl (all-of !)))) (no-more !)))) (from ! (stop !)) (init ! 24 refl (tt, (tt, (record { fits = room₅ .0 }, tt)))) $
-        assigns ! (addr ! (from ! (fld ! refl (hop ! (look-in ! 58 (sub ! 0 refl (all-of !))) (stop !))))) (from ! (stop !)) (init ! 22 refl (tt, tt)) $ assigns ! (agg ! (and-then ! (load ! (from ! (stop !)) (look ! 22 refl)) (and-then ! (load ! (from ! (fld ! refl (stop !))) (look-in ! 58 (sub ! 1 refl (all-of !)))) (no-more !)))) (from ! (stop !)) (init ! 20 refl (tt, (tt, (record { fits = room₆ .0 }, tt)))) $
-        assigns ! (addr ! (from ! (fld ! refl (hop ! (look-in ! 56 (sub ! 0 refl (all-of !))) (stop !))))) (from ! (stop !)) (init ! 18 refl (tt, tt)) $ assigns ! (agg ! (and-then ! (load ! (from ! (stop !)) (look ! 18 refl)) (and-then ! (load ! (from ! (fld ! refl (stop !))) (look-in ! 56 (sub ! 1 refl (all-of !)))) (no-more !)))) (from ! (stop !)) (init ! 16 refl (tt, (tt, (record { fits = room₇ .0 }, tt)))) $
+        assigns ! (addr ! (from ! (fld ! refl (hop ! (look-in ! 62 (sub ! 0 refl (all-of !))) (stop !))))) (from ! (stop !)) (init ! 34 refl (tt, tt)) $
+        assigns ! (agg ! (and-then ! (load ! (from ! (stop !)) (look ! 34 refl)) (and-then ! (load ! (from ! (fld ! refl (stop !))) (look-in ! 62 (sub ! 1 refl (all-of !)))) (no-more !)))) (from ! (stop !)) (init ! 32 refl (tt, (tt, (record { fits = room₄ .0 }, tt)))) $
+        assigns ! (addr ! (from ! (fld ! refl (hop ! (look-in ! 68 (sub ! 0 refl (all-of !))) (stop !))))) (from ! (stop !)) (init ! 30 refl (tt, tt)) $
+        assigns ! (agg ! (and-then ! (load ! (from ! (stop !)) (look ! 30 refl)) (and-then ! (load ! (from ! (fld ! refl (stop !))) (look-in ! 68 (sub ! 1 refl (all-of !)))) (no-more !)))) (from ! (stop !)) (init ! 28 refl (tt, (tt, (record { fits = room₁ .0 }, tt)))) $
+        assigns ! (addr ! (from ! (fld ! refl (hop ! (look-in ! 60 (sub ! 0 refl (all-of !))) (stop !))))) (from ! (stop !)) (init ! 26 refl (tt, tt)) $
+        assigns ! (agg ! (and-then ! (load ! (from ! (stop !)) (look ! 26 refl)) (and-then ! (load ! (from ! (fld ! refl (stop !))) (look-in ! 60 (sub ! 1 refl (all-of !)))) (no-more !)))) (from ! (stop !)) (init ! 24 refl (tt, (tt, (record { fits = room₅ .0 }, tt)))) $
+        assigns ! (addr ! (from ! (fld ! refl (hop ! (look-in ! 58 (sub ! 0 refl (all-of !))) (stop !))))) (from ! (stop !)) (init ! 22 refl (tt, tt)) $
+        assigns ! (agg ! (and-then ! (load ! (from ! (stop !)) (look ! 22 refl)) (and-then ! (load ! (from ! (fld ! refl (stop !))) (look-in ! 58 (sub ! 1 refl (all-of !)))) (no-more !)))) (from ! (stop !)) (init ! 20 refl (tt, (tt, (record { fits = room₆ .0 }, tt)))) $
+        assigns ! (addr ! (from ! (fld ! refl (hop ! (look-in ! 56 (sub ! 0 refl (all-of !))) (stop !))))) (from ! (stop !)) (init ! 18 refl (tt, tt)) $
+        assigns ! (agg ! (and-then ! (load ! (from ! (stop !)) (look ! 18 refl)) (and-then ! (load ! (from ! (fld ! refl (stop !))) (look-in ! 56 (sub ! 1 refl (all-of !)))) (no-more !)))) (from ! (stop !)) (init ! 16 refl (tt, (tt, (record { fits = room₇ .0 }, tt)))) $
         lft-new ! tt (λ ν. move ! (1 ∷ 2 ∷ []) $ use2 W (later (some (λ (δ : GName). ‵ (ShrSlice (named 0) (ν ∷ []) u8 .own (seen₄ ν (zs .1 .1 .1 .1 .0) δ) (v₄ ∷ [])) ⊛ ‵ (Kept u8 κ₄ (ν ∷ []) q₄ 𝓤 H A W (named 4) (named 0) x₄ (zs .1 .1 .1 .1 .0))))) (shares-at u8 κ₄ (ν ∷ []) q₄ 𝓤 H A W (named 4) (named 0) x₄ (zs .1 .1 .1 .1 .0) (length (x₄ .now)) e₄) $ await ! tt $ pick ! (λ δ. split ! $
         move ! (0 ∷ 2 ∷ 3 ∷ 4 ∷ 16 ∷ 13 ∷ 15 ∷ 12 ∷ 14 ∷ 11 ∷ []) $ group ! 10 $ use1 W (raw (Read 𝓤 H A mem run .pre (to-read (zs .1 .1 .1 .1 .0) (zs .1 .0) s ν δ))) (goes-read (zs .1 .1 .1 .1 .0) (zs .1 .0) s ν δ (spelled s u s-is)) $
         calls-at ! fm (Read 𝓤 H A mem run) known-read (to-read (zs .1 .1 .1 .1 .0) (zs .1 .0) s ν δ) (and-then ! (load ! (from ! (stop !)) (look ! 24 refl)) (and-then ! (load ! (from ! (stop !)) (look ! 46 refl)) (and-then ! (load ! (from ! (stop !)) (look ! 20 refl)) (and-then ! (load ! (from ! (stop !)) (look ! 16 refl)) (and-then ! (load ! (from ! (stop !)) (look ! 12 refl)) (and-then ! (load ! (from ! (stop !)) (look ! 8 refl)) (no-more !))))))) (λ y.
         use1 W (later (some (λ (r : ReadAnswer). ((‵ (flft (ν ∷ []) fullShare) ⊛ ‵ (flft κ₁ q₁) ⊛ ‵ (flft κ₅ q₅) ⊛ ‵ (flft κ₆ q₆) ⊛ ‵ (flft κ₇ q₇) ⊛ ‵ ftrue) ⊛ ‵ (Q.the-row .own r (y ∷ []))) ⊛ raw (ensured 𝓤 H A first.ended (first.clauses 𝓤 H A mem run) (ν ∷ [], (κ₁, (κ₅, (κ₆, (κ₇, tt))))) (given-read (zs .1 .1 .1 .1 .0) (zs .1 .0) s ν δ) tt r)))) (id⊢ 𝓤 _) $ await ! tt $ pick ! (λ r. split ! $
         move ! (1 ∷ []) $ use1 W (some (λ (ls : Unit {0} × (Unit {0} × (List ℕ × (List ℕ × (List ℕ × (List ℕ × Unit {0})))))). ‵ (lasts first.ended (ν ∷ [], (κ₁, (κ₅, (κ₆, (κ₇, tt))))) (given-read (zs .1 .1 .1 .1 .0) (zs .1 .0) s ν δ) ls) ⊛ raw (fact 𝓤 (WasRead s (zs .1 .0) (zs .1 .1 .1 .1 .0) r (ls .1 .1 .0) (ls .1 .1 .1 .0) (ls .1 .1 .1 .1 .0) (ls .1 .1 .1 .1 .1 .0))))) (id⊢ 𝓤 _) $ pick ! (λ ls. split ! $
-        move ! (1 ∷ []) $ heard ! (WasRead s (zs .1 .0) (zs .1 .1 .1 .1 .0) r (ls .1 .1 .0) (ls .1 .1 .1 .0) (ls .1 .1 .1 .1 .0) (ls .1 .1 .1 .1 .1 .0)) (λ was-read.
-        fsplit ! $ drop ! $ fsplit ! $ drop ! $ fsplit ! $ fsplit ! $ move ! (1 ∷ []) $ feqL ! (λ d₁. move ! (1 ∷ []) $ fsplit ! $ fsplit ! $ move ! (1 ∷ []) $
-        feqL ! (λ e₅. move ! (1 ∷ []) $ fsplit ! $ fsplit ! $ move ! (1 ∷ []) $ feqL ! (λ e₆. move ! (1 ∷ []) $ fsplit ! $ fsplit ! $ move ! (1 ∷ []) $ feqL ! (λ e₇.
-        move ! (1 ∷ []) $ drop ! $ move ! (4 ∷ []) $ split ! $ move ! (1 ∷ []) $ facts ! Q.the-row (Is Q.the-row) (shows 𝓤 H A Q.the-row) r (y ∷ []) (λ r-is. land ! (from ! (stop !)) (init ! 48 refl (LL.lawful Q.the-type Q′.the-laws 𝓤 H A W .typed r _ r-is .0)) $ rewrite ! 48 (λ (z : Val). ‵ (fat fullShare Q′.mir l₁₀ 0 z)) (ap only (LL.tells Q.the-type Q′.the-laws r _ r-is)) refl $
+        move ! (1 ∷ []) $
+        heard ! (WasRead s (zs .1 .0) (zs .1 .1 .1 .1 .0) r (ls .1 .1 .0) (ls .1 .1 .1 .0) (ls .1 .1 .1 .1 .0) (ls .1 .1 .1 .1 .1 .0)) (λ was-read. fsplit ! $ drop ! $
+        fsplit ! $ drop ! $ fsplit ! $ fsplit ! $ move ! (1 ∷ []) $ feqL ! (λ d₁. move ! (1 ∷ []) $ fsplit ! $ fsplit ! $ move ! (1 ∷ []) $ feqL ! (λ e₅. move ! (1 ∷ []) $
+        fsplit ! $ fsplit ! $ move ! (1 ∷ []) $ feqL ! (λ e₆. move ! (1 ∷ []) $ fsplit ! $ fsplit ! $ move ! (1 ∷ []) $ feqL ! (λ e₇. move ! (1 ∷ []) $ drop ! $
+        move ! (4 ∷ []) $ split ! $ move ! (1 ∷ []) $ facts ! Q.the-row (Is Q.the-row) (shows 𝓤 H A Q.the-row) r (y ∷ []) (λ r-is.
+        land ! (from ! (stop !)) (init ! 48 refl (LL.lawful Q.the-type Q′.the-laws 𝓤 H A W .typed r _ r-is .0)) $ rewrite ! 48 (λ (z : Val). ‵ (fat fullShare Q′.mir l₁₀ 0 z)) (ap only (LL.tells Q.the-type Q′.the-laws r _ r-is)) refl $
         split ! $ move ! (1 ∷ []) $ split ! $ move ! (1 ∷ []) $ split ! $ move ! (1 ∷ []) $ split ! $ move ! (1 ∷ []) $ split ! $ move ! (1 ∷ []) $ drop ! $ move ! (4 ∷ []) $
         lft-end ! tt $ move ! (0 ∷ 9 ∷ []) $ use2 W (later (‵ (MutSlice (named 4) κ₄ u8 .own (at-last x₄ (zs .1 .1 .1 .1 .0)) (v₄ ∷ [])) ⊛ ‵ (flft κ₄ q₄))) (returns-at u8 κ₄ (ν ∷ []) q₄ 𝓤 H A W (named 4) (named 0) x₄ (zs .1 .1 .1 .1 .0) (length (x₄ .now)) e₄ room₄) $ await ! tt $ split ! $
         -- both answers

@@ -153,18 +153,23 @@ module _ {M : Type 1} (𝓤 : URA M) (H : Heap 𝓤) (A : Atoms 𝓤) (W : Given
         -- the sixteen records
         assigns ! (agg ! (and-then ! (lit ! tt) (and-then ! (lit ! tt) (and-then ! (lit ! tt) (and-then ! (lit ! tt) (no-more !)))))) (from ! (stop !)) (init ! 24 refl (LL.lawful T.the-type T′.the-laws 𝓤 H A W .typed blank _ blank-is .0)) $
         owned ! T.the-row (Is T.the-row) (LL.makes T.the-type T′.the-plain 𝓤 H A) blank _ blank-is $ use1 W (‵ (Array T.the-row 16 .own blanks (zeros ∷ []))) (array-repeat 𝓤 H A W T.the-row (LL.copy T.the-type T′.the-copy 𝓤 H A W) 16 blank (LL.val T.the-type T′.the-laws blank)) $
-        peeks ! (Array T.the-row 16) (Is (Array T.the-row 16)) (shows 𝓤 H A (Array T.the-row 16)) blanks (zeros ∷ []) (λ are. assigns ! (rep ! 16 (load ! (from ! (stop !)) (look ! 25 refl))) (from ! (stop !)) (init ! 27 refl (array-lawful 𝓤 H A W T.the-row (LL.lawful T.the-type T′.the-laws 𝓤 H A W) 16 .typed blanks (zeros ∷ []) are .0)) $
+        peeks ! (Array T.the-row 16) (Is (Array T.the-row 16)) (shows 𝓤 H A (Array T.the-row 16)) blanks (zeros ∷ []) (λ are.
+        assigns ! (rep ! 16 (load ! (from ! (stop !)) (look ! 25 refl))) (from ! (stop !)) (init ! 27 refl (array-lawful 𝓤 H A W T.the-row (LL.lawful T.the-type T′.the-laws 𝓤 H A W) 16 .typed blanks (zeros ∷ []) are .0)) $
         -- the slices as the call takes them
-        assigns ! (addr ! (from ! (fld ! refl (hop ! (look-in ! 33 (sub ! 0 refl (whole !))) (stop !))))) (from ! (stop !)) (init ! 23 refl (tt, tt)) $ assigns ! (agg ! (and-then ! (load ! (from ! (stop !)) (look ! 23 refl)) (and-then ! (load ! (from ! (fld ! refl (stop !))) (look-in ! 33 (sub ! 1 refl (whole !)))) (no-more !)))) (from ! (stop !)) (init ! 21 refl (tt, (tt, (record { fits = room₁ .0 }, tt)))) $
-        assigns ! (addr ! (from ! (fld ! refl (hop ! (look-in ! 31 (sub ! 0 refl (whole !))) (stop !))))) (from ! (stop !)) (init ! 19 refl (tt, tt)) $ assigns ! (agg ! (and-then ! (load ! (from ! (stop !)) (look ! 19 refl)) (and-then ! (load ! (from ! (fld ! refl (stop !))) (look-in ! 31 (sub ! 1 refl (whole !)))) (no-more !)))) (from ! (stop !)) (init ! 17 refl (tt, (tt, (record { fits = room₂ .0 }, tt)))) $
-        assigns ! (addr ! (from ! (stop !))) (from ! (stop !)) (init ! 15 refl (tt, tt)) $ assigns ! (agg ! (and-then ! (load ! (from ! (stop !)) (look ! 15 refl)) (and-then ! (lit ! tt) (no-more !)))) (from ! (stop !)) (init ! 13 refl (tt, (tt, (record { fits = lit< tt }, tt)))) $
-        assigns ! (addr ! (from ! (fld ! refl (hop ! (look-in ! 29 (sub ! 0 refl (whole !))) (stop !))))) (from ! (stop !)) (init ! 11 refl (tt, tt)) $ assigns ! (agg ! (and-then ! (load ! (from ! (stop !)) (look ! 11 refl)) (and-then ! (load ! (from ! (fld ! refl (stop !))) (look-in ! 29 (sub ! 1 refl (whole !)))) (no-more !)))) (from ! (stop !)) (init ! 9 refl (tt, (tt, (record { fits = room₃ .0 }, tt)))) $
+        assigns ! (addr ! (from ! (fld ! refl (hop ! (look-in ! 33 (sub ! 0 refl (whole !))) (stop !))))) (from ! (stop !)) (init ! 23 refl (tt, tt)) $
+        assigns ! (agg ! (and-then ! (load ! (from ! (stop !)) (look ! 23 refl)) (and-then ! (load ! (from ! (fld ! refl (stop !))) (look-in ! 33 (sub ! 1 refl (whole !)))) (no-more !)))) (from ! (stop !)) (init ! 21 refl (tt, (tt, (record { fits = room₁ .0 }, tt)))) $
+        assigns ! (addr ! (from ! (fld ! refl (hop ! (look-in ! 31 (sub ! 0 refl (whole !))) (stop !))))) (from ! (stop !)) (init ! 19 refl (tt, tt)) $
+        assigns ! (agg ! (and-then ! (load ! (from ! (stop !)) (look ! 19 refl)) (and-then ! (load ! (from ! (fld ! refl (stop !))) (look-in ! 31 (sub ! 1 refl (whole !)))) (no-more !)))) (from ! (stop !)) (init ! 17 refl (tt, (tt, (record { fits = room₂ .0 }, tt)))) $
+        assigns ! (addr ! (from ! (stop !))) (from ! (stop !)) (init ! 15 refl (tt, tt)) $
+        assigns ! (agg ! (and-then ! (load ! (from ! (stop !)) (look ! 15 refl)) (and-then ! (lit ! tt) (no-more !)))) (from ! (stop !)) (init ! 13 refl (tt, (tt, (record { fits = lit< tt }, tt)))) $
+        assigns ! (addr ! (from ! (fld ! refl (hop ! (look-in ! 29 (sub ! 0 refl (whole !))) (stop !))))) (from ! (stop !)) (init ! 11 refl (tt, tt)) $
+        assigns ! (agg ! (and-then ! (load ! (from ! (stop !)) (look ! 11 refl)) (and-then ! (load ! (from ! (fld ! refl (stop !))) (look-in ! 29 (sub ! 1 refl (whole !)))) (no-more !)))) (from ! (stop !)) (init ! 9 refl (tt, (tt, (record { fits = room₃ .0 }, tt)))) $
         -- the array is lent for a lifetime of the call
         lft-new ! tt (λ ν. move ! (28 ∷ 1 ∷ []) $ use2 W (later (some (λ (γ : GName). ‵ (MutSlice (named 3) (ν ∷ []) T.the-row .own (records l₅ γ) (sliceVal (l₅, 0) 16 ∷ [])) ⊛ ‵ (flent (ν ∷ []) (Held T.the-row 16 l₅ 0 γ))))) (lends-array 𝓤 H A W T.the-row (named 3) (ν ∷ []) 16 l₅ tt room blanks zeros) $ await ! tt $ pick ! (λ γ. split ! $
         -- a copy of `file` is kept
         move ! (10 ∷ []) $ use1 W (‵ (ShrSlice (named 0) κ₀ u8 .own x₀ (v₀ ∷ [])) ⊛ ‵ (ShrSlice (named 0) κ₀ u8 .own x₀ (v₀ ∷ []))) (shr-slice-copy 𝓤 H A W (named 0) κ₀ u8 .twice x₀ (v₀ ∷ [])) $ split ! $
         move ! (0 ∷ 8 ∷ 11 ∷ 7 ∷ 10 ∷ 6 ∷ 2 ∷ 4 ∷ 9 ∷ 5 ∷ []) $ group ! 10 $ use1 W (raw (Call 𝓤 H A mem run .pre (to-call l₅ ν γ))) (goes-call l₅ ν γ) $
-        -- [pre; F2; lent; _14; d14; _13; d13; _12; d12; _11; d11; _10; d10; _9; d9; _8; d8; _7; d7; _6; d6; d5; _4; d4; _3; d3; _2; d2; _1; d1; _0; d0]
+        -- [what the call asks; a copy of `file`; what the lender keeps; _14; …; _0]
         calls-at ! fm (Call 𝓤 H A mem run) known (to-call l₅ ν γ) (and-then ! (load ! (from ! (stop !)) (look ! 28 refl)) (and-then ! (load ! (from ! (stop !)) (look ! 15 refl)) (and-then ! (load ! (from ! (stop !)) (look ! 11 refl)) (and-then ! (load ! (from ! (stop !)) (look ! 7 refl)) (and-then ! (load ! (from ! (stop !)) (look ! 3 refl)) (no-more !)))))) (λ w.
         use1 W (later (some (λ (r : SessionAnswer). ((‵ (flft κ₀ q₀) ⊛ ‵ (flft κ₁ q₁) ⊛ ‵ (flft κ₂ q₂) ⊛ ‵ (flft (ν ∷ []) fullShare) ⊛ ‵ (flft κ₃ q₃) ⊛ ‵ ftrue) ⊛ ‵ (R.the-row .own r (w ∷ []))) ⊛ raw (ensured 𝓤 H A call.ended (call.clauses 𝓤 H A mem run) (κ₀, (κ₁, (κ₂, (ν ∷ [], (κ₃, tt))))) (given-call l₅ γ) tt r)))) (id⊢ 𝓤 _) $ await ! tt $ pick ! (λ r. split ! $
         move ! (1 ∷ []) $ use1 W (some (λ (zs : Unit {0} × (List ℕ × (List ℕ × (List Checkpoint × (List ℕ × Unit {0}))))). ‵ (lasts call.ended (κ₀, (κ₁, (κ₂, (ν ∷ [], (κ₃, tt))))) (given-call l₅ γ) zs) ⊛ raw (call.clauses 𝓤 H A mem run (κ₀, (κ₁, (κ₂, (ν ∷ [], (κ₃, tt))))) (given-call l₅ γ) .ensures tt r (atExit call.ended (κ₀, (κ₁, (κ₂, (ν ∷ [], (κ₃, tt))))) (given-call l₅ γ) zs)))) (id⊢ 𝓤 _) $ pick ! (λ zs. split ! $
@@ -176,14 +181,16 @@ module _ {M : Type 1} (𝓤 : URA M) (H : Heap 𝓤) (A : Atoms 𝓤) (W : Given
         -- the lifetime is ended, and the room of the array comes back
         split ! $ move ! (1 ∷ []) $ split ! $ move ! (1 ∷ []) $ split ! $ move ! (1 ∷ []) $ split ! $ move ! (1 ∷ []) $ split ! $ move ! (1 ∷ []) $ drop ! $ move ! (1 ∷ []) $
         lft-end ! tt $ move ! (0 ∷ 11 ∷ 7 ∷ []) $ use3 W (later (‵ (froom (tyArray T′.mir 16) l₅ 0))) (array-back 𝓤 H A W T.the-row (named 3) (ν ∷ []) 16 l₅ γ (zs .1 .1 .1 .0)) $ await ! tt $
-        -- [_5; t3; t2; t1; t0; R; f3; f2; f1; F2; _14; d14; _13; d13; _12; d12; _11; d11; _10; d10; _9; d9; _8; d8; _7; d7; _6; d6; d5; _4; d4; _3; d3; _2; d2; _1; d1; _0; d0]
-        move ! (5 ∷ []) $ peeks ! R.the-row (Is R.the-row) (shows 𝓤 H A R.the-row) r (w ∷ []) (λ r-is. land ! (from ! (stop !)) (init ! 37 refl (LL.lawful R.the-type R′.the-laws 𝓤 H A W .typed r _ r-is .0)) $
+        -- [the room of _5; the tokens; the answer; the last lists; `file`; _14; …; _0]
+        move ! (5 ∷ []) $ peeks ! R.the-row (Is R.the-row) (shows 𝓤 H A R.the-row) r (w ∷ []) (λ r-is.
+        land ! (from ! (stop !)) (init ! 37 refl (LL.lawful R.the-type R′.the-laws 𝓤 H A W .typed r _ r-is .0)) $
         returns ! (look ! 37 refl) $ forget ! 10 refl $ forget ! 12 refl $ forget ! 14 refl $ forget ! 16 refl $ forget ! 18 refl $ forget ! 20 refl $ forget ! 22 refl $
         forget ! 24 refl $ forget ! 26 refl $ forget ! 29 refl $ forget ! 31 refl $ forget ! 33 refl $ forget ! 35 refl $ forget ! 37 refl $ move ! (37 ∷ 38 ∷ []) $
         free1 ! $ move ! (35 ∷ 36 ∷ []) $ free1 ! $ move ! (33 ∷ 34 ∷ []) $ free1 ! $ move ! (31 ∷ 32 ∷ []) $ free1 ! $ move ! (29 ∷ 30 ∷ []) $ free1 ! $ move ! (1 ∷ 28 ∷ []) $
         free1 ! $ move ! (25 ∷ 26 ∷ []) $ free1 ! $ move ! (23 ∷ 24 ∷ []) $ free1 ! $ move ! (21 ∷ 22 ∷ []) $ free1 ! $ move ! (19 ∷ 20 ∷ []) $ free1 ! $ move ! (17 ∷ 18 ∷ []) $
         free1 ! $ move ! (15 ∷ 16 ∷ []) $ free1 ! $ move ! (13 ∷ 14 ∷ []) $ free1 ! $ move ! (11 ∷ 12 ∷ []) $ free1 ! $ move ! (9 ∷ 10 ∷ []) $ free1 ! $ free0 ! $
-        move ! (8 ∷ 4 ∷ 3 ∷ 2 ∷ 1 ∷ 7 ∷ 6 ∷ 5 ∷ 0 ∷ []) $ by ! (exits r w (zs .1 .0) (zs .1 .1 .0) (zs .1 .1 .1 .1 .0) e₁ e₂ e₄)))))))))))))))))))))))))))
+        move ! (8 ∷ 4 ∷ 3 ∷ 2 ∷ 1 ∷ 7 ∷ 6 ∷ 5 ∷ 0 ∷ []) $
+        by ! (exits r w (zs .1 .0) (zs .1 .1 .0) (zs .1 .1 .1 .1 .0) e₁ e₂ e₄)))))))))))))))))))))))))))
 
 module _ {M : Type 1} (𝓤 : URA M) (H : Heap 𝓤) (A : Atoms 𝓤) (W : Given 𝓤 H A) (mem : Memory → SProp 𝓤) (run : Routine → Fun 𝓤) where
   run-walks : (C : Calls 𝓤 H) (Λ : Loops 𝓤 H) → FmC 𝓤 H (W .laws) C → Triple 𝓤 (C #call) (Call 𝓤 H A mem run) → Walks 𝓤 H A run′.ended stayed (WpFn 𝓤 H C Λ code.function) (run′.clauses 𝓤 H A mem run)
