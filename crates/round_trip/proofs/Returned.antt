@@ -13,6 +13,7 @@ use Rattle.reading.specs.Call as read
 use Rattle.de_br.specs.Outcome.{slices as store-slices}
 use Rattle.serializer.specs.Demand3.{ReadAs}
 use Rattle.serializer.specs.Call.{Slices, Result}
+use Rattle.checkpoints.specs.declared.Checkpoint.{Checkpoint}
 use Rattle.session_call.specs.Outcome.{ReadsBack}
 use Rattle.round_trip.specs.RoundTrip.{the-session, the-reading, RoundTrips}
 
@@ -37,17 +38,17 @@ same-enough w w′ p a b e h =
     ap (λ (n : ℕ). leb 524288 n && (leb 262144 (length p) && (leb 131072 (length a) && leb 65536 (length b)))) e ∙ h
 
 -- The session gave t, and the reading of t's bytes with t's work gave r.
-module _ (input : List ℕ) (lent : Slices (List ℕ)) (p a b : List ℕ) (t : Result (List ℕ)) (ran : t ≡ the-session input lent) (r : read.Result)
+module _ (input : List ℕ) (lent : Slices Checkpoint) (p a b : List ℕ) (t : Result Checkpoint) (ran : t ≡ the-session input lent) (r : read.Result)
     (was-read : r ≡ the-reading t p a b) where
   -- The work that the session left need not be named.
   pub session-part : record { answer = t .answer; slices = record { work = the-session input lent .slices .work; words = t .slices .words; checkpoints = t .slices .checkpoints; output = t .slices .output } }
       ≡ the-session input lent
   session-part =
-      subst (λ (x : Result (List ℕ)). record { answer = t .answer; slices = record { work = x .slices .work; words = t .slices .words; checkpoints = t .slices .checkpoints; output = t .slices .output } } ≡ x)
+      subst (λ (x : Result Checkpoint). record { answer = t .answer; slices = record { work = x .slices .work; words = t .slices .words; checkpoints = t .slices .checkpoints; output = t .slices .output } } ≡ x)
       ran refl
 
   pub reading-part : r ≡ the-reading (the-session input lent) p a b
-  reading-part = was-read ∙ ap (λ (x : Result (List ℕ)). the-reading x p a b) ran
+  reading-part = was-read ∙ ap (λ (x : Result Checkpoint). the-reading x p a b) ran
 
   pub whole-read : ReadsBack input t → length (t .slices .work) ≡ length (lent .work)
       → RoundTrips input (store-slices (lent .work) p a b) (t .answer .steps) (t .slices .words) r

@@ -14,14 +14,15 @@ use Rattle.session_file.specs.Filling.{plain-filling}
 use Rattle.serializer.specs.Premises.{Apart}
 use Rattle.serializer.specs.Demand3.{Finished, ReadAs}
 use Rattle.serializer.specs.Call.{Slices, Result, session}
-use Rattle.session_call.specs.Outcome.{blank}
+use Rattle.checkpoints.specs.declared.Checkpoint.{Checkpoint}
+use Rattle.checkpoints.specs.Records.{blank}
 
 -- The session of a file's bytes, with 01's limits.
-abbrev pub the-session : (input : List ℕ) → Slices (List ℕ) → Result (List ℕ)
+abbrev pub the-session : (input : List ℕ) → Slices Checkpoint → Result Checkpoint
 the-session input lent = session blank version-1 counted input lent
 
 -- The reading of the first `size` bytes of a session's output, with the work that the session left.
-abbrev pub the-reading : Result (List ℕ) → (pairs atoms bytes : List ℕ) → read.Result
+abbrev pub the-reading : Result Checkpoint → (pairs atoms bytes : List ℕ) → read.Result
 the-reading r p a b =
     read.reading (take (r .answer .size) (r .slices .output)) (record { work = r .slices .work; pairs = p; atoms = a; bytes = b })
 

@@ -1,4 +1,5 @@
 // A session file is run, and the finished bytes are read.
+use checkpoints::Checkpoint;
 use de_br::ReadAnswer;
 use session_call::SessionAnswer;
 ghost use mathlib.Core.Path.{_≡_};
@@ -27,18 +28,18 @@ fn lesser(output: &[u8], size: u32) -> usize
     n
 }
 
-// The first `size` bytes of the output are read.
+// The bytes that the session wrote are read.
 fn read_first(
     output: &[u8],
-    size: u32,
+    session: SessionAnswer,
     work: &mut [u32],
     pairs: &mut [u32],
     atoms: &mut [u32],
     bytes: &mut [u8],
 ) -> ReadAnswer
-    ensures { λ r. ⌜ resultOf r (now (work .exit)) (now (pairs .exit)) (now (atoms .exit)) (now (bytes .exit)) ≡ reading (take size (now (output .entry))) (store-slices (now (work .entry)) (now (pairs .entry)) (now (atoms .entry)) (now (bytes .entry))) ⌝ }
+    ensures { λ r. ⌜ resultOf r (now (work .exit)) (now (pairs .exit)) (now (atoms .exit)) (now (bytes .exit)) ≡ reading (take (session .size) (now (output .entry))) (store-slices (now (work .entry)) (now (pairs .entry)) (now (atoms .entry)) (now (bytes .entry))) ⌝ }
 {
-    let n = lesser(output, size);
+    let n = lesser(output, session.size);
     de_br::nikvoldra_read(&output[..n], work, pairs, atoms, bytes)
 }
 
@@ -47,7 +48,7 @@ pub fn round_trip(
     file: &[u8],
     work: &mut [u32],
     words: &mut [u32],
-    checkpoints: &mut [[u32; 4]],
+    checkpoints: &mut [Checkpoint],
     output: &mut [u8],
     pairs: &mut [u32],
     atoms: &mut [u32],
@@ -58,6 +59,6 @@ pub fn round_trip(
     ensures { λ r. ⌜ RoundTrips (now (file .entry)) (store-slices (now (work .entry)) (now (pairs .entry)) (now (atoms .entry)) (now (bytes .entry))) (r .session .steps) (now (words .exit)) (resultOf (r .read) (now (work .exit)) (now (pairs .exit)) (now (atoms .exit)) (now (bytes .exit))) ⌝ }
 {
     let session = session_call::nikvoldra_session(file, work, words, checkpoints, output);
-    let read = read_first(output, session.size, work, pairs, atoms, bytes);
+    let read = read_first(output, session, work, pairs, atoms, bytes);
     RoundTrip { session, read }
 }

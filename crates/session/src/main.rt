@@ -2,21 +2,27 @@
 mod items;
 mod print;
 
+use checkpoints::Checkpoint;
 use libc::STDIN_FILENO;
+use session_call::SessionAnswer;
+
+// The session call with sixteen checkpoint records of its own.
+fn run(file: &[u8], work: &mut [u32], words: &mut [u32], output: &mut [u8]) -> SessionAnswer {
+    let mut checkpoints = [Checkpoint {
+        opens: 0,
+        depth: 0,
+        size: 0,
+        sentinel: 0,
+    }; 16];
+    session_call::nikvoldra_session(file, work, words, &mut checkpoints, output)
+}
 
 // A line for each finished step, the output in hexadecimal or item by item, and the number of the question that got no.
 fn report(file: &[u8], by_items: bool) {
     let mut work = [0u32; 524288];
     let mut words = [0u32; 1024];
-    let mut checkpoints = [[0u32; 4]; 16];
     let mut output = [0u8; 65535];
-    let a = session_call::nikvoldra_session(
-        file,
-        &mut work,
-        &mut words,
-        &mut checkpoints,
-        &mut output,
-    );
+    let a = run(file, &mut work, &mut words, &mut output);
     print::steps(&words, a.steps);
     items::output(&output, a.size, by_items);
     print::refusal(a.number);

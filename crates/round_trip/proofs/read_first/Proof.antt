@@ -10,7 +10,7 @@ lesser-requires : tie.Need-lesser-requires
 lesser-requires c κs = search needs
 
 slice-aggregate-nikvoldra-read : tie.Need-slice-aggregate-nikvoldra-read
-slice-aggregate-nikvoldra-read c = let a = c .before .before .before .before .before .before .before .args in lesser-many (c .before .lesser .result) (a .size) (a .output .now) (c .before .lesser .ensures)
+slice-aggregate-nikvoldra-read c = let a = c .before .before .before .before .before .before .before .args in lesser-many (c .before .lesser .result) (a .session .size) (a .output .now) (c .before .lesser .ensures)
 
 nikvoldra-read-requires : tie.Need-nikvoldra-read-requires
 nikvoldra-read-requires c κs = search needs
@@ -29,7 +29,7 @@ same-length-4 c = search needs
 
 returns : tie.Need-returns
 returns c = let a = c .before .before .before .before .before .before .before .before .before .before .before .before .before .before .before .before .before .before .before .before .args in let l = c .before .before .before .before .before .before .before .before .before .before .before .before .before .before .lesser in let r = c .before .before .before .before .before .before .before .before .nikvoldra-read in
-    first-read (l .result) (a .size) (a .output .now) (l .ensures) (slices (a .work .now) (a .pairs .now) (a .atoms .now) (a .bytes .now)) (resultOf (r .result) (r .last .1 .0) (r .last .1 .1 .0) (r .last .1 .1 .1 .0) (r .last .1 .1 .1 .1 .0)) (r .ensures)
+    first-read (l .result) (a .session .size) (a .output .now) (l .ensures) (slices (a .work .now) (a .pairs .now) (a .atoms .now) (a .bytes .now)) (resultOf (r .result) (r .last .1 .0) (r .last .1 .1 .0) (r .last .1 .1 .1 .0) (r .last .1 .1 .1 .1 .0)) (r .ensures)
 
 pub read-first-spec : {M : Type 1} → statement M
 read-first-spec =
