@@ -4,7 +4,7 @@ pub const WORK: usize = 524_288;
 pub const WORDS: usize = 1_024;
 pub const CHECKPOINTS: usize = 16;
 
-/// A checkpoint's record.
+/// A checkpoint record: open pairs, depth of the stack, size, one more than the sentinel's entry.
 pub type Record = [u32; 4];
 
 #[repr(C)]
