@@ -14,13 +14,6 @@ pub struct Checkpoint {
     pub sentinel: u32,
 }
 
-// How many records there are.
-pub fn count(checkpoints: &[Checkpoint]) -> usize
-    ensures { λ r. ⌜ r ≡ length (now (checkpoints .entry)) ⌝ }
-{
-    checkpoints.len()
-}
-
 // The first n records become zero.
 pub fn clear_first(checkpoints: &mut [Checkpoint], n: usize)
     requires { ⌜ n ≤ length (now checkpoints) ⌝ }

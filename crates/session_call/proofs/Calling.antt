@@ -1,31 +1,31 @@
--- The session call: what the run ends with is what the definition says, and so are the refusals of the file.
+-- The session call: what its calls give together is what the definition says, and demand 3 follows.
 -- Assumes nothing.
-use Prim.Native.Nat.{ℕ, _+_, _-_, _≤_, _<_, min}
+use Prim.Native.Nat.{ℕ, _-_, _≤_, min}
 use mathlib.Core.Path.{_≡_, refl, sym, ap, subst, _∙_}
-use mathlib.Core.Bool.{Bool, true, false, cond, _&&_}
+use mathlib.Core.Bool.{Bool, true, false, cond}
 use mathlib.Core.List.{List, [], _++_, append-nil}
 use native.Mathlib.Omega.{arith}
-use lib.Dec.{leb}
-use lib.ListN.{length, take, drop, replicate, length-append, length-take, length-drop, drop-of-length-le}
-use lib.Seq.{length-take-le, take-append-le}
-use borrow.Author.Tests.{leb-true, le-leb, lt-leb}
+use lib.ListN.{length, take, drop, replicate, length-take, length-drop, drop-of-length-le}
+use lib.Seq.{length-take-le, take-take}
 use borrow.Rule.Slice.PartMut.{putMid}
 use Rattle.words.specs.Lists.{Bytes}
 use Rattle.path.specs.Measure.{counted}
 use Rattle.reading.specs.Call.{zeroed, filled}
-use Rattle.session_file.specs.File.{Got, File, version-1, file}
-use Rattle.session_file.specs.Checked.{Passed, Checks}
-use Rattle.session_file.specs.CheckedLaws.{Accepted, accepted, rejected}
-use Rattle.session_file.specs.declared.Checked.{Checked}
+use Rattle.session_file.specs.File.{Got, got, refused, File, version-1, file}
 use Rattle.serializer.specs.Items.{Item, output}
 use Rattle.serializer.specs.Output.{output-size}
 use Rattle.serializer.specs.Steps.{Run}
 use Rattle.serializer.specs.Demand3.{demand-3}
-use Rattle.serializer.specs.Call.{Slices, Result, untouched, long-enough, after-run, after-file, session}
+use Rattle.serializer.specs.Call.{Slices, Result, untouched, after-run, after-file, session}
+use Rattle.checkpoints.specs.declared.Checkpoint.{Checkpoint}
+use Rattle.checkpoints.specs.Records.{blank}
 use Rattle.steps.specs.State.{contents-of, the-file, whole-run, Ended}
 use Rattle.steps.specs.declared.Progress.{Progress}
+use Rattle.run_steps.specs.Driven.{Going, Driven}
 use Rattle.session_call.specs.declared.SessionAnswer.{SessionAnswer}
-use Rattle.session_call.specs.Outcome.{blank, answer-of, answer-at, slices, result-of, finished-at, ReadsBack}
+use Rattle.session_call.specs.declared.Begun.{Begun}
+use Rattle.session_call.specs.Begins.{are-long, asked, refused-with, Begins}
+use Rattle.session_call.specs.Outcome.{answer-of, answer-at, slices, result-of, Cleared, ReadsBack}
 
 -- ---- what is left is cleared
 
@@ -43,142 +43,162 @@ tail-cleared l r n le e =
     many =
         length-take-le (length l - n) (drop n l) (omega (arith, length-drop n l)) ∙ omega (arith, length-take-le n l le)
 
-pub result-finished : (p : Progress) (w ws : List ℕ) (cs : List (List ℕ)) (o w′ ws′ : List ℕ) (cs′ : List (List ℕ)) (o′ : List ℕ) → w′ ≡ zeroed w
-    → ws′ ≡ filled ws (take (p .steps) ws) → cs′ ≡ replicate (length cs) blank → o′ ≡ filled o (take (p .size) o)
-    → result-of (record { number = p .number; steps = p .steps; size = p .size }) w′ ws′ cs′ o′ ≡ finished-at p (slices w ws cs o)
-result-finished p w ws cs o w′ ws′ cs′ o′ e f g h =
-    λ i. record { answer = answer-at p; slices = record { work = e i; words = f i; checkpoints = g i; output = h i } }
+-- With 1 to 8 nothing is cleared.
+pub cleared-none : (p : Progress) (w ws o : List ℕ) (over : Bool) → over ≡ true → Cleared p w ws o w ws o over
+cleared-none p w ws o over e = subst (Cleared p w ws o w ws o) (sym e) (refl, refl, refl)
+
+pub cleared-all : (p : Progress) (w ws o w′ ws′ o′ : List ℕ) (over : Bool) → over ≡ false → w′ ≡ zeroed w → ws′ ≡ filled ws (take (p .steps) ws)
+    → o′ ≡ filled o (take (p .size) o) → Cleared p w ws o w′ ws′ o′ over
+cleared-all p w ws o w′ ws′ o′ over e a b c = subst (Cleared p w ws o w′ ws′ o′) (sym e) (a, b, c)
 
 -- ---- the run is over
 
-module _ (f : File) (words out : List ℕ) (p : Progress) (e : Ended f words out p) where
+module _ (f : File) (words out : List ℕ) (p : Progress) (e : Ended f words (take 65535 out) p) where
   abbrev items : List Item
   items = e .session .written .items
 
-  size-low : p .size ≤ length out
+  size-low : p .size ≤ length (take 65535 out)
   size-low =
-      omega (arith, e .size-is, output-size items, ap length (e .bytes-are), length-take (p .size) out)
+      omega (arith, e .size-is, output-size items, ap length (e .bytes-are), length-take (p .size) (take 65535 out))
 
-  pub finish-asks : (rest : List ℕ) → (p .steps ≤ 1024) × (p .steps ≤ length words) × (p .size ≤ 65535) × (p .size ≤ length (out ++ rest))
-  finish-asks rest =
-      let z = size-low in
-      (e .few-steps, omega (arith, e .few-steps, e .many-words), omega (arith, e .short), omega (arith, length-append out rest))
+  pub ended-asks : (p .steps ≤ 1024) × (p .steps ≤ length words) × (p .size ≤ 65535) × (p .size ≤ length out)
+  ended-asks =
+      (e .few-steps, omega (arith, e .few-steps, e .many-words), omega (arith, size-low, length-take 65535 out), omega (arith, size-low, length-take 65535 out))
 
   -- The answer and the slices are those of the whole run.
-  pub run-result : (w w₀ words₀ : List ℕ) (cs cs₀ : List (List ℕ)) (out₀ rest : List ℕ) → length w ≡ length w₀ → length words ≡ length words₀
-      → length cs ≡ length cs₀ → length (out ++ rest) ≡ length out₀ → length out ≡ min (length out₀) 65535
-      → finished-at p (slices w words cs (out ++ rest)) ≡ after-run blank (whole-run f (min (length out₀) 65535)) (slices w₀ words₀ cs₀ out₀)
-  run-result w w₀ words₀ cs cs₀ out₀ rest lw lws lcs lo space =
-      (λ i. record {
+  pub run-result : (r : SessionAnswer) (w words′ : List ℕ) (cs : List Checkpoint) (out′ w₀ words₀ : List ℕ) (cs₀ : List Checkpoint) (out₀ : List ℕ) → answer-of r ≡ answer-at p
+      → w ≡ replicate (length w₀) 0 → words′ ≡ filled words (take (p .steps) words) → cs ≡ replicate (length cs₀) blank → out′ ≡ filled out (take (p .size) out)
+      → length words ≡ length words₀ → length out ≡ length out₀
+      → result-of r w words′ cs out′ ≡ after-run blank (whole-run f (min (length out₀) 65535)) (slices w₀ words₀ cs₀ out₀)
+  run-result r w words′ cs out′ w₀ words₀ cs₀ out₀ ea ew ews ecs eo lws lo =
+      (λ i. record { answer = ea i; slices = record { work = ew i; words = ews i; checkpoints = ecs i; output = eo i } })
+      ∙ (λ i. record {
         answer = record { number = p .number; steps = steps i; size = e .size-is i };
         slices =
             record {
-              work = replicate (lw i) 0;
+              work = zeroed w₀;
               words = take (p .steps) words ++ replicate (lws i - length (take (p .steps) words)) 0;
-              checkpoints = replicate (lcs i) blank;
+              checkpoints = replicate (length cs₀) blank;
               output = bytes i ++ replicate (lo i - length (bytes i)) 0;
             };
       })
-      ∙ ap (λ (r : Run). after-run blank r (slices w₀ words₀ cs₀ out₀)) (sym (e .same) ∙ ap (whole-run f) space)
+      ∙ ap (λ (x : Run). after-run blank x (slices w₀ words₀ cs₀ out₀)) (sym (e .same) ∙ ap (whole-run f) space)
     where
       steps : p .steps ≡ length (take (p .steps) words)
       steps = sym (length-take-le (p .steps) words (omega (arith, e .few-steps, e .many-words)))
 
-      bytes : take (p .size) (out ++ rest) ≡ output items
-      bytes = take-append-le (p .size) out rest size-low ∙ e .bytes-are
+      bytes : take (p .size) out ≡ output items
+      bytes = sym (take-take (p .size) 65535 out (omega (arith, size-low, length-take 65535 out))) ∙ e .bytes-are
 
--- The part of the output that is used, lent and come back.
-pub part-back : (o part : List ℕ) (n : ℕ) → n ≡ min (length o) 65535 → length part ≡ length (take n o)
-    → (length (part ++ drop n o) ≡ length o) × (length part ≡ min (length o) 65535)
-part-back o part n e l =
-    let t : length (take n o) ≡ n = length-take-le n o (omega arith) in
-    (length-append part (drop n o) ∙ omega (arith, length-drop n o), omega arith)
-
--- ---- question 1
-
-both : (x y : Bool) → x ≡ true → x && y ≡ y
-both x y e = rw e refl
-
-pub enough : (w ws : List ℕ) (cs : List (List ℕ)) (o : List ℕ) → 524288 ≤ length w → 1024 ≤ length ws
-    → leb 16 (length cs) ≡ long-enough version-1 (slices w ws cs o)
-enough w ws cs o a b = sym (both (leb 524288 (length w)) _ (le-leb 524288 (length w) a) ∙ both (leb 1024 (length ws)) _ (le-leb 1024 (length ws) b))
-
-pub short-work : (w ws : List ℕ) (cs : List (List ℕ)) (o : List ℕ) → length w < 524288 → false ≡ long-enough version-1 (slices w ws cs o)
-short-work w ws cs o a = rw (lt-leb 524288 (length w) a) refl
-
-pub short-words : (w ws : List ℕ) (cs : List (List ℕ)) (o : List ℕ) → 524288 ≤ length w → length ws < 1024 → false ≡ long-enough version-1 (slices w ws cs o)
-short-words w ws cs o a b = rw (le-leb 524288 (length w) a, lt-leb 1024 (length ws) b) refl
-
--- What question 1 was answered by.
-pub record Long (w ws : List ℕ) (cs : List (List ℕ)) : Type 0 where
-  pub work : 524288 ≤ length w
-  pub words : 1024 ≤ length ws
-  pub checkpoints : 16 ≤ length cs
-
-pub are-long : (w ws : List ℕ) (cs : List (List ℕ)) (o : List ℕ) → long-enough version-1 (slices w ws cs o) ≡ true → Long w ws cs
-are-long w ws cs o e = go (leb 524288 (length w)) refl (leb 1024 (length ws)) refl e
-  where
-    go : (a : Bool) → leb 524288 (length w) ≡ a → (b : Bool) → leb 1024 (length ws) ≡ b → a && (b && leb 16 (length cs)) ≡ true → Long w ws cs
-    go true p true q r = record { work = leb-true 524288 (length w) p; words = leb-true 1024 (length ws) q; checkpoints = leb-true 16 (length cs) r }
-    go true p false q r = absurd (let z : _≡_ {A = ℕ} 0 1 = cc in omega arith)
-    go false p b q r = absurd (let z : _≡_ {A = ℕ} 0 1 = cc in omega arith)
+      space : length (take 65535 out) ≡ min (length out₀) 65535
+      space = length-take 65535 out ∙ omega (arith, lo)
 
 -- ---- the whole call
 
-module _ (input w ws : List ℕ) (cs : List (List ℕ)) (o : List ℕ) where
-  abbrev s : Slices (List ℕ)
+module _ (input w ws : List ℕ) (cs : List Checkpoint) (o : List ℕ) where
+  abbrev s : Slices Checkpoint
   s = slices w ws cs o
 
-  refused-result : (n : ℕ) (r : SessionAnswer) → answer-of r ≡ record { number = n; steps = 0; size = 0 } → result-of r w ws cs o ≡ untouched n s
-  refused-result n r e = λ i. record { answer = e i; slices = s }
+  abbrev the-asked : Got File
+  the-asked = asked input (length w) (length ws) (length cs)
 
-  -- The slices are too short.
-  pub call-short : (b : Bool) → b ≡ long-enough version-1 s → b ≡ false → (r : SessionAnswer) → answer-of r ≡ record { number = 1; steps = 0; size = 0 }
-      → result-of r w ws cs o ≡ session blank version-1 counted input s
+  session-of : session blank version-1 counted input s ≡ after-file blank version-1 counted the-asked s
   unfolding session
-  call-short b e z r q = refused-result 1 r q ∙ ap (λ (x : Bool). cond x (after-file blank version-1 counted (file version-1 input) s) (untouched 1 s)) (sym z ∙ e)
+  session-of = go (are-long (length w) (length ws) (length cs))
+    where
+      go : (b : Bool) → cond b (after-file blank version-1 counted (file version-1 input) s) (untouched 1 s)
+          ≡ after-file blank version-1 counted (cond b (file version-1 input) (refused 1)) s
+      go true = refl
+      go false = refl
 
-  session-of : long-enough version-1 s ≡ true → session blank version-1 counted input s ≡ after-file blank version-1 counted (file version-1 input) s
-  unfolding session
-  session-of e = ap (λ (x : Bool). cond x (after-file blank version-1 counted (file version-1 input) s) (untouched 1 s)) e
+  -- The contents of a file that passed are those of the bytes.
+  is-file : (f : File) (rest : List ℕ) → the-asked ≡ got f rest → the-file input ≡ f
+  unfolding the-file
+  is-file f rest e = go (are-long (length w) (length ws) (length cs)) e
+    where
+      go : (b : Bool) → cond b (file version-1 input) (refused 1) ≡ got f rest → contents-of (file version-1 input) ≡ f
+      go true q = ap contents-of q
+      go false q = absurd (let z : _≡_ {A = ℕ} 0 1 = cc in omega arith)
 
-  module _ (b : Bool) (long-is : b ≡ long-enough version-1 s) (long : b ≡ true) (c : Checked) (checks : Checks input c (file version-1 input)) where
-    enough-is : long-enough version-1 s ≡ true
-    enough-is = sym long-is ∙ long
+  -- The run of a file that passed is the definition's.
+  file-run : (f : File) (rest : List ℕ) → the-asked ≡ got f rest
+      → after-run blank (whole-run (the-file input) (min (length o) 65535)) s ≡ after-file blank version-1 counted the-asked s
+  unfolding whole-run
+  file-run f rest is =
+      ap (λ (x : File). after-run blank (whole-run x (min (length o) 65535)) s) (is-file f rest is)
+      ∙ ap (λ (x : Got File). after-file blank version-1 counted x s) (sym is)
 
-    -- The file is turned down.
-    pub call-refused : (c .number ≡ 0 → ⊥) → (r : SessionAnswer) → answer-of r ≡ record { number = c .number; steps = 0; size = 0 }
-        → result-of r w ws cs o ≡ session blank version-1 counted input s
-    call-refused n r q =
-        refused-result (c .number) r q
-        ∙ ap (λ (g : Got File). after-file blank version-1 counted g s) (sym (rejected input c (file version-1 input) checks n))
-        ∙ sym (session-of enough-is)
+  module _ (b : Begun) (w₁ : List ℕ) (same-work : length w₁ ≡ length w) (begins : Begins input w (length ws) (length cs) w₁ b the-asked) where
+    -- What `run_steps` asks.
+    pub run-asks : Going input w₁ ws cs o (b .start) (b .start .done)
+    run-asks = go the-asked begins
+      where
+        go : (g : Got File) → Begins input w (length ws) (length cs) w₁ b g → Going input w₁ ws cs o (b .start) (b .start .done)
+        go (refused n) h = subst (λ (x : Begun). Going input w₁ ws cs o (x .start) (x .start .done)) (sym (h .0)) refl
+        go (got f rest) h =
+            subst (λ (x : Bool). Going input w₁ ws cs o (b .start) x) (sym (h .goes))
+            (h .ready ws cs (take 65535 o) (h .many-words) (h .many-rows) (omega (arith, length-take 65535 o)))
 
-    module _ (z : c .number ≡ 0) where
-      accepted-file : Accepted input c (file version-1 input)
-      accepted-file = accepted input c (file version-1 input) checks z
+    module _ (p : Progress) (w₂ ws₂ : List ℕ) (cs₂ : List Checkpoint) (o₂ : List ℕ) (lw : length w₂ ≡ length w₁) (lws : length ws₂ ≡ length ws) (lcs : length cs₂ ≡ length cs)
+        (lo : length o₂ ≡ length o) (driven : Driven input w₁ ws cs o (b .start) w₂ ws₂ cs₂ o₂ p (b .start .done)) where
+      stays : (n : ℕ) → b ≡ record { start = refused-with n; records = 0 } → (w₂ ≡ w₁) × (ws₂ ≡ ws) × (cs₂ ≡ cs) × (o₂ ≡ o) × (p ≡ refused-with n)
+      stays n e = subst (λ (x : Begun). Driven input w₁ ws cs o (x .start) w₂ ws₂ cs₂ o₂ p (x .start .done)) e driven
 
-      is-file : the-file input ≡ accepted-file .file
-      unfolding the-file
-      is-file = ap contents-of (accepted-file .is)
+      ends : b .start .done ≡ false → Ended (the-file input) ws₂ (take 65535 o₂) p
+      ends e = subst (λ (x : Bool). Driven input w₁ ws cs o (b .start) w₂ ws₂ cs₂ o₂ p x) e driven
 
-      pub run-asks : Passed input (the-file input) c × (524288 ≤ length w) × (1024 ≤ length ws) × (16 ≤ length cs)
-      run-asks =
-          let l = are-long w ws cs o enough-is in
-          (subst (λ (f : File). Passed input f c) (sym is-file) (accepted-file .passed), l .work, l .words, l .checkpoints)
+      -- What `clear_first` asks.
+      pub clear-asks : b .records ≤ length cs₂
+      clear-asks = go the-asked begins
+        where
+          go : (g : Got File) → Begins input w (length ws) (length cs) w₁ b g → b .records ≤ length cs₂
+          go (refused n) h = omega (arith, ap (λ (x : Begun). x .records) (h .0))
+          go (got f rest) h = omega (arith, h .all-records, lcs)
 
-      -- The file is run.
-      pub call-run : (t : Result (List ℕ)) → t ≡ after-run blank (whole-run (the-file input) (min (length o) 65535)) s
-          → t ≡ session blank version-1 counted input s
-      unfolding whole-run
-      call-run t e =
-          e
-          ∙ ap (λ (f : File). after-run blank (whole-run f (min (length o) 65535)) s) is-file
-          ∙ ap (λ (g : Got File). after-file blank version-1 counted g s) (sym (accepted-file .is))
-          ∙ sym (session-of enough-is)
+      -- What `finish` asks.
+      abbrev Asks : Type 0
+      Asks = (p .steps ≤ 1024) × (p .steps ≤ length ws₂) × (p .size ≤ 65535) × (p .size ≤ length o₂)
+
+      pub finish-asks : Asks
+      finish-asks = go the-asked begins
+        where
+          none : p .steps ≡ 0 → p .size ≡ 0 → Asks
+          none e f = (omega arith, omega arith, omega arith, omega arith)
+
+          go : (g : Got File) → Begins input w (length ws) (length cs) w₁ b g → Asks
+          go (refused n) h = let q = stays n (h .0) .4 in none (ap (λ (x : Progress). x .steps) q) (ap (λ (x : Progress). x .size) q)
+          go (got f rest) h = ended-asks (the-file input) ws₂ o₂ p (ends (h .goes))
+
+      -- The answer and the slices are those of the definition.
+      pub call-result : (r : SessionAnswer) (w₃ ws₃ : List ℕ) (cs₃ : List Checkpoint) (o₃ : List ℕ) → cs₃ ≡ replicate (b .records) blank ++ drop (b .records) cs₂
+          → (answer-of r ≡ answer-at p) × Cleared p w₂ ws₂ o₂ w₃ ws₃ o₃ (b .start .done)
+          → result-of r w₃ ws₃ cs₃ o₃ ≡ session blank version-1 counted input s
+      call-result r w₃ ws₃ cs₃ o₃ ec e = go the-asked refl begins ∙ sym session-of
+        where
+          go : (g : Got File) → the-asked ≡ g → Begins input w (length ws) (length cs) w₁ b g → result-of r w₃ ws₃ cs₃ o₃ ≡ after-file blank version-1 counted the-asked s
+          go (refused n) is h =
+              let d = stays n (h .0) in
+              let c : (w₃ ≡ w₂) × (ws₃ ≡ ws₂) × (o₃ ≡ o₂) = subst (λ (x : Begun). Cleared p w₂ ws₂ o₂ w₃ ws₃ o₃ (x .start .done)) (h .0) (e .1) in
+              let a = e .0 ∙ ap answer-at (d .4) in
+              let rows = ec ∙ ap (λ (x : Begun). replicate (x .records) blank ++ drop (x .records) cs₂) (h .0) ∙ d .2 in
+              let work = c .0 ∙ d .0 ∙ h .1 in
+              let words = c .1 ∙ d .1 in
+              let out = c .2 ∙ d .3 in
+              (λ i. record { answer = a i; slices = record { work = work i; words = words i; checkpoints = rows i; output = out i } })
+              ∙ ap (λ (x : Got File). after-file blank version-1 counted x s) (sym is)
+          go (got f rest) is h =
+              let c : (w₃ ≡ zeroed w₂) × (ws₃ ≡ filled ws₂ (take (p .steps) ws₂)) × (o₃ ≡ filled o₂ (take (p .size) o₂)) = subst (λ (x : Bool). Cleared p w₂ ws₂ o₂ w₃ ws₃ o₃ x) (h .goes) (e .1) in
+              run-result (the-file input) ws₂ o₂ p (ends (h .goes)) r w₃ ws₃ cs₃ o₃ w ws cs o (e .0) (c .0 ∙ ap (λ (n : ℕ). replicate n 0) (lw ∙ same-work)) (c .1) (rows (h .all-records)) (c .2) lws lo
+              ∙ file-run f rest is
+            where
+              rows : b .records ≡ length cs → cs₃ ≡ replicate (length cs) blank
+              rows q =
+                  ec ∙ ap (λ (n : ℕ). replicate n blank ++ drop n cs₂) q
+                  ∙ ap (λ (x : List Checkpoint). replicate (length cs) blank ++ x) (drop-of-length-le cs₂ {i = length cs} (omega (arith, lcs)))
+                  ∙ append-nil (replicate (length cs) blank)
 
 -- ---- demand 3
 
 -- What is the definition's result reads back.
-pub reads-back : (input : List ℕ) → Bytes input → (l : Slices (List ℕ)) (t : Result (List ℕ)) → t ≡ session blank version-1 counted input l → ReadsBack input t
-reads-back input bytes l t e = subst (λ (x : Result (List ℕ)). ReadsBack input x) (sym e) (λ f rest is hs steps k. demand-3 blank input bytes f rest is hs steps l k)
+pub reads-back : (input : List ℕ) → Bytes input → (l : Slices Checkpoint) (t : Result Checkpoint) → t ≡ session blank version-1 counted input l → ReadsBack input t
+reads-back input bytes l t e = subst (λ (x : Result Checkpoint). ReadsBack input x) (sym e) (λ f rest is hs steps k. demand-3 blank input bytes f rest is hs steps l k)

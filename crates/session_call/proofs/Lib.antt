@@ -1,5 +1,4 @@
 pub mod Opening
 pub mod Starting
-pub mod Rows
-pub mod Driving
+pub mod Asking
 pub mod Calling

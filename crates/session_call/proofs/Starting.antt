@@ -24,6 +24,7 @@ use Rattle.stack.proofs.Stacks.{stacked-none}
 use Rattle.tree_cache.specs.Meaning.{Handles}
 use Rattle.tree_cache.proofs.Fresh.{Sorted, tables-handles, fresh-whole, fresh-holds, fresh-room, fresh-counts}
 use Rattle.incremental.specs.State.{todo-of, rights-left}
+use Rattle.checkpoints.specs.declared.Checkpoint.{Checkpoint}
 use Rattle.steps.specs.State.{whole-run, At, Underway}
 use Rattle.session_call.specs.Opened.{Opened, start-at}
 
@@ -46,7 +47,7 @@ sorted f c =
 no-mark : (k : ℕ) → odd (0 / 2 ^ k) ≡ false
 no-mark k = ap odd (zero-div (2 ^ k))
 
-module _ (input : List ℕ) (f : File) (c : Checked) (p : Passed input f c) (w words : List ℕ) (rows : List (List ℕ)) (out : List ℕ) (o : Opened input f w)
+module _ (input : List ℕ) (f : File) (c : Checked) (p : Passed input f c) (w words : List ℕ) (rows : List Checkpoint) (out : List ℕ) (o : Opened input f w)
     (long : 524288 ≤ length w) (many-words : 1024 ≤ length words) (many-rows : 16 ≤ length rows) (short : length out ≤ 65535) where
   handles : Handles w
   handles = tables-handles f w (sorted f (p .contents)) (o .tables)

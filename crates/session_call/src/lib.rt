@@ -1,21 +1,20 @@
 // The session call: a session file is checked, its tables are loaded, and its steps are run.
+use checkpoints::Checkpoint;
 use session_file::Checked;
 use steps::Progress;
 ghost use mathlib.Core.Path.{_≡_};
-ghost use Prim.Native.Nat.{_+_, _≤_, _<_, min};
-ghost use lib.ListN.{length, replicate};
+ghost use Prim.Native.Nat.{_≤_};
+ghost use lib.ListN.{length};
+ghost use Rattle.words.specs.Lists.{Bytes};
 ghost use Rattle.path.specs.Measure.{counted};
-ghost use Rattle.reading.specs.Call.{zeroed};
 ghost use Rattle.session_file.specs.File.{version-1};
 ghost use Rattle.session_file.specs.Checked.{Passed};
-ghost use Rattle.serializer.specs.Call.{long-enough, after-run, session};
-ghost use Rattle.steps.specs.State.{the-file, whole-run, Underway, Ended, Stands};
-ghost use Rattle.steps.specs.Steps.{Nearer};
+ghost use Rattle.serializer.specs.Call.{session};
+ghost use Rattle.checkpoints.specs.Records.{blank};
+ghost use Rattle.steps.specs.State.{the-file};
 ghost use Rattle.session_call.specs.Opened.{Placed, Opened, start-at};
-ghost use Rattle.session_call.specs.Outcome.{blank, answer-of, slices, result-of, finished-at, ReadsBack};
-
-// The most bytes of output that are used.
-const OUTPUT: usize = 65535;
+ghost use Rattle.session_call.specs.Begins.{are-long, asked, refused-with, Begins};
+ghost use Rattle.session_call.specs.Outcome.{answer-of, answer-at, slices, result-of, Cleared, ReadsBack};
 
 // The number, 0 for none; the count of finished steps; and the bytes written.
 #[repr(C)]
@@ -23,6 +22,12 @@ pub struct SessionAnswer {
     pub number: u32,
     pub steps: u32,
     pub size: u32,
+}
+
+// Where the run starts, and how many checkpoint records are to be cleared after it. With 1 to 8 the run is over before it starts, and no record is cleared.
+pub struct Begun {
+    pub start: Progress,
+    pub records: usize,
 }
 
 // The places of the atoms and the handles of the pairs go to work, which is zero everywhere else.
@@ -56,40 +61,43 @@ fn open(file: &[u8], work: &mut [u32], checked: Checked)
     work[layout::SENTINEL] = checked.sentinel;
 }
 
-// One step, with the checkpoint record that it takes and stores.
-fn step(
-    file: &[u8],
-    work: &mut [u32],
-    words: &mut [u32],
-    checkpoints: &mut [[u32; 4]],
-    output: &mut [u8],
-    p: Progress,
-) -> Progress
-    requires { ⌜ Underway (now file) (the-file (now file)) (now work) (now words) (now checkpoints) (now output) p ⌝ }
-    ensures { λ q. ⌜ (Stands (now (file .entry)) (the-file (now (file .entry))) (now (work .exit)) (now (words .exit)) (now (checkpoints .exit)) (now (output .exit)) q (q .done)) × (Nearer p q) ⌝ }
+// Question 1, of the lengths of the slices: are they long enough?
+fn long_enough(work: usize, words: usize, records: usize) -> bool
+    ensures { λ r. ⌜ r ≡ are-long work words records ⌝ }
 {
-    let k = steps::slot_of(file, p.at, p.adds);
-    let c = checkpoints[k];
-    let a = steps::core_step(file, work, words, output, p, c);
-    let saved = a.saved;
-    checkpoints[k] = saved;
-    a.state
+    if work < 524288 {
+        return false;
+    }
+    if words < 1024 {
+        return false;
+    }
+    16 <= records
 }
 
-// The steps, to the end of the file or to the first that is refused.
-fn drive(
-    file: &[u8],
-    work: &mut [u32],
-    words: &mut [u32],
-    checkpoints: &mut [[u32; 4]],
-    output: &mut [u8],
-    place: usize,
-) -> Progress
-    requires { ⌜ Underway (now file) (the-file (now file)) (now work) (now words) (now checkpoints) (now output) (start-at place) ⌝ }
-    ensures { λ p. ⌜ Ended (the-file (now (file .entry))) (now (words .exit)) (now (output .exit)) p ⌝ }
+// The call ends with this number.
+fn refused(number: u32) -> Begun
+    ensures { λ r. ⌜ r ≡ record { start = refused-with number; records = 0 } ⌝ }
 {
-    let mut p = Progress {
-        at: place,
+    let start = Progress {
+        at: 0,
+        steps: 0,
+        adds: 0,
+        opens: 0,
+        depth: 0,
+        size: 0,
+        finished: false,
+        number,
+        done: true,
+    };
+    Begun { start, records: 0 }
+}
+
+// The steps come next, from this place of the file on.
+fn started(at: usize, records: usize) -> Begun
+    ensures { λ r. ⌜ r ≡ record { start = start-at at; records = records } ⌝ }
+{
+    let start = Progress {
+        at,
         steps: 0,
         adds: 0,
         opens: 0,
@@ -99,111 +107,55 @@ fn drive(
         number: 0,
         done: false,
     };
-    while !p.done {
-        p = step(file, work, words, checkpoints, output, p);
-    }
-    p
+    Begun { start, records }
 }
 
-// All checkpoint records are zero.
-fn clear_checkpoints(checkpoints: &mut [[u32; 4]])
-    ensures { λ _. ⌜ now (checkpoints .exit) ≡ replicate (length (now (checkpoints .entry))) blank ⌝ }
+// Questions 1 to 8, of so many words and checkpoint records. Where all get yes, the tables of the file are loaded.
+fn begin(file: &[u8], work: &mut [u32], words: usize, records: usize) -> Begun
+    ensures { λ b. ⌜ (Bytes (now (file .entry))) × (Begins (now (file .entry)) (now (work .entry)) words records (now (work .exit)) b (asked (now (file .entry)) (length (now (work .entry))) words records)) ⌝ }
 {
-    let n = checkpoints.len();
-    let mut i = 0;
-    while i < n {
-        checkpoints[i] = [0u32; 4];
-        i += 1;
+    if !long_enough(work.len(), words, records) {
+        return refused(1);
     }
+    let checked = session_file::check(file);
+    if checked.number != 0 {
+        return refused(checked.number);
+    }
+    open(file, work, checked);
+    started(checked.steps_at, records)
 }
 
-// All of work and all checkpoint records are zero.
-fn clear_all(work: &mut [u32], checkpoints: &mut [[u32; 4]])
-    ensures { λ _. ⌜ (now (work .exit) ≡ zeroed (now (work .entry))) × (now (checkpoints .exit) ≡ replicate (length (now (checkpoints .entry))) blank) ⌝ }
+// What is left is cleared: work, the words past the finished steps, and the output past the size. With 1 to 8 no slice is touched.
+fn clear_rest(work: &mut [u32], words: &mut [u32], output: &mut [u8], refused: bool, p: Progress)
+    requires { ⌜ (p .steps ≤ length (now words)) × (p .size ≤ length (now output)) ⌝ }
+    ensures { λ _. ⌜ Cleared p (now (work .entry)) (now (words .entry)) (now (output .entry)) (now (work .exit)) (now (words .exit)) (now (output .exit)) refused ⌝ }
 {
+    if refused {
+        return;
+    }
+    let steps = p.steps;
+    let size = p.size;
     words::clear(work);
-    clear_checkpoints(checkpoints);
+    words::clear(&mut words[steps..]);
+    words::clear_bytes(&mut output[size..]);
 }
 
-// What is left is cleared: work and the checkpoint records, the words past the finished steps, and the output past the size.
+// The answer, after what is left is cleared.
 fn finish(
     work: &mut [u32],
     words: &mut [u32],
-    checkpoints: &mut [[u32; 4]],
     output: &mut [u8],
+    refused: bool,
     p: Progress,
 ) -> SessionAnswer
     requires { ⌜ (p .steps ≤ 1024) × (p .steps ≤ length (now words)) × (p .size ≤ 65535) × (p .size ≤ length (now output)) ⌝ }
-    ensures { λ r. ⌜ result-of r (now (work .exit)) (now (words .exit)) (now (checkpoints .exit)) (now (output .exit)) ≡ finished-at p (slices (now (work .entry)) (now (words .entry)) (now (checkpoints .entry)) (now (output .entry))) ⌝ }
+    ensures { λ r. ⌜ (answer-of r ≡ answer-at p) × (Cleared p (now (work .entry)) (now (words .entry)) (now (output .entry)) (now (work .exit)) (now (words .exit)) (now (output .exit)) refused) ⌝ }
 {
-    let steps = p.steps;
-    let size = p.size;
-    clear_all(work, checkpoints);
-    words::clear(&mut words[steps..]);
-    words::clear_bytes(&mut output[size..]);
+    clear_rest(work, words, output, refused, p);
     SessionAnswer {
         number: p.number,
-        steps: steps as u32,
-        size: size as u32,
-    }
-}
-
-// The bytes of output that are used.
-fn space_of(output: &[u8]) -> usize
-    ensures { λ r. ⌜ r ≡ min (length (now (output .entry))) 65535 ⌝ }
-{
-    let n = output.len();
-    if n < OUTPUT {
-        return n;
-    }
-    OUTPUT
-}
-
-// A file that passed: its tables are loaded, its steps run, and what is left is cleared.
-fn run_file(
-    file: &[u8],
-    work: &mut [u32],
-    words: &mut [u32],
-    checkpoints: &mut [[u32; 4]],
-    output: &mut [u8],
-    checked: Checked,
-) -> SessionAnswer
-    requires { ⌜ (Passed (now file) (the-file (now file)) checked) × (524288 ≤ length (now work)) × (1024 ≤ length (now words)) × (16 ≤ length (now checkpoints)) ⌝ }
-    ensures { λ r. ⌜ result-of r (now (work .exit)) (now (words .exit)) (now (checkpoints .exit)) (now (output .exit)) ≡ after-run blank (whole-run (the-file (now (file .entry))) (min (length (now (output .entry))) 65535)) (slices (now (work .entry)) (now (words .entry)) (now (checkpoints .entry)) (now (output .entry))) ⌝ }
-{
-    let space = space_of(output);
-    open(file, work, checked);
-    let p = drive(
-        file,
-        work,
-        words,
-        checkpoints,
-        &mut output[..space],
-        checked.steps_at,
-    );
-    finish(work, words, checkpoints, output, p)
-}
-
-// Question 1: are the slices long enough?
-fn long_enough(work: &[u32], words: &[u32], checkpoints: &[[u32; 4]], output: &[u8]) -> bool
-    ensures { λ r. ⌜ r ≡ long-enough version-1 (slices (now (work .entry)) (now (words .entry)) (now (checkpoints .entry)) (now (output .entry))) ⌝ }
-{
-    if work.len() < 524288 {
-        return false;
-    }
-    if words.len() < 1024 {
-        return false;
-    }
-    16 <= checkpoints.len()
-}
-
-fn refusal(number: u32) -> SessionAnswer
-    ensures { λ r. ⌜ answer-of r ≡ record { number = number; steps = 0; size = 0 } ⌝ }
-{
-    SessionAnswer {
-        number,
-        steps: 0,
-        size: 0,
+        steps: p.steps as u32,
+        size: p.size as u32,
     }
 }
 
@@ -213,18 +165,18 @@ pub extern "C" fn nikvoldra_session(
     file: &[u8],
     work: &mut [u32],
     words: &mut [u32],
-    checkpoints: &mut [[u32; 4]],
+    checkpoints: &mut [Checkpoint],
     output: &mut [u8],
 ) -> SessionAnswer
     ensures { λ r. ⌜ result-of r (now (work .exit)) (now (words .exit)) (now (checkpoints .exit)) (now (output .exit)) ≡ session blank version-1 counted (now (file .entry)) (slices (now (work .entry)) (now (words .entry)) (now (checkpoints .entry)) (now (output .entry))) ⌝ }
     ensures { λ r. ⌜ ReadsBack (now (file .entry)) (result-of r (now (work .exit)) (now (words .exit)) (now (checkpoints .exit)) (now (output .exit))) ⌝ }
 {
-    if !long_enough(work, words, checkpoints, output) {
-        return refusal(1);
-    }
-    let checked = session_file::check(file);
-    if checked.number != 0 {
-        return refusal(checked.number);
-    }
-    run_file(file, work, words, checkpoints, output, checked)
+    let many = words.len();
+    let records = checkpoints.len();
+    let begun = begin(file, work, many, records);
+    let start = begun.start;
+    let used = begun.records;
+    let p = run_steps::run_steps(checkpoints, work, words, output, file, start);
+    checkpoints::clear_first(checkpoints, used);
+    finish(work, words, output, start.done, p)
 }

@@ -1,0 +1,108 @@
+-- The start of the session call: questions 1 to 8 are those of the definition, and a file that passes can be run.
+-- Assumes nothing.
+use Prim.Native.Nat.{ℕ, _≤_, _<_}
+use mathlib.Core.Path.{_≡_, refl, sym, ap, subst, _∙_}
+use mathlib.Core.Bool.{Bool, true, false, cond, _&&_}
+use mathlib.Core.List.{List}
+use native.Mathlib.Omega.{arith}
+use lib.Dec.{leb}
+use lib.ListN.{length}
+use borrow.Author.Tests.{leb-true, le-leb, lt-leb}
+use Rattle.session_file.specs.File.{Got, File, refused, version-1, file}
+use Rattle.session_file.specs.Checked.{Passed, Checks}
+use Rattle.session_file.specs.CheckedLaws.{Accepted, accepted, rejected}
+use Rattle.session_file.specs.declared.Checked.{Checked}
+use Rattle.steps.specs.State.{contents-of, the-file}
+use Rattle.session_call.specs.declared.Begun.{Begun}
+use Rattle.session_call.specs.Opened.{Opened, start-at}
+use Rattle.session_call.specs.Begins.{are-long, asked, refused-with, Starts, Begins}
+use Rattle.session_call.proofs.Starting.{starts}
+
+-- ---- question 1
+
+both : (x y : Bool) → x ≡ true → x && y ≡ y
+both x y e = rw e refl
+
+pub enough : (w ws cs : ℕ) → 524288 ≤ w → 1024 ≤ ws → leb 16 cs ≡ are-long w ws cs
+enough w ws cs a b = sym (both (leb 524288 w) _ (le-leb 524288 w a) ∙ both (leb 1024 ws) _ (le-leb 1024 ws b))
+
+pub short-work : (w ws cs : ℕ) → w < 524288 → false ≡ are-long w ws cs
+short-work w ws cs a = rw (lt-leb 524288 w a) refl
+
+pub short-words : (w ws cs : ℕ) → 524288 ≤ w → ws < 1024 → false ≡ are-long w ws cs
+short-words w ws cs a b = rw (le-leb 524288 w a, lt-leb 1024 ws b) refl
+
+-- What question 1 was answered by.
+pub record Long (w ws cs : ℕ) : Type 0 where
+  pub work : 524288 ≤ w
+  pub words : 1024 ≤ ws
+  pub records : 16 ≤ cs
+
+pub lengths : (w ws cs : ℕ) → are-long w ws cs ≡ true → Long w ws cs
+lengths w ws cs e = go (leb 524288 w) refl (leb 1024 ws) refl e
+  where
+    go : (a : Bool) → leb 524288 w ≡ a → (b : Bool) → leb 1024 ws ≡ b → a && (b && leb 16 cs) ≡ true → Long w ws cs
+    go true p true q r = record { work = leb-true 524288 w p; words = leb-true 1024 ws q; records = leb-true 16 cs r }
+    go true p false q r = absurd (let z : _≡_ {A = ℕ} 0 1 = cc in omega arith)
+    go false p b q r = absurd (let z : _≡_ {A = ℕ} 0 1 = cc in omega arith)
+
+-- ---- questions 1 to 8
+
+module _ (input w : List ℕ) (ws cs : ℕ) where
+  abbrev n : ℕ
+  n = length w
+
+  asked-short : are-long n ws cs ≡ false → asked input n ws cs ≡ refused 1
+  asked-short e = ap (λ (x : Bool). cond x (file version-1 input) (refused 1)) e
+
+  asked-file : are-long n ws cs ≡ true → asked input n ws cs ≡ file version-1 input
+  asked-file e = ap (λ (x : Bool). cond x (file version-1 input) (refused 1)) e
+
+  refuses : (k : ℕ) → asked input n ws cs ≡ refused k → (b : Begun) → b ≡ record { start = refused-with k; records = 0 }
+      → Begins input w ws cs w b (asked input n ws cs)
+  refuses k e b q = subst (λ (g : Got File). Begins input w ws cs w b g) (sym e) (q, refl)
+
+  -- The slices are too short.
+  pub begin-short : (l : Bool) → l ≡ are-long n ws cs → l ≡ false → (b : Begun) → b ≡ record { start = refused-with 1; records = 0 }
+      → Begins input w ws cs w b (asked input n ws cs)
+  begin-short l e z b q = refuses 1 (asked-short (sym e ∙ z)) b q
+
+  module _ (l : Bool) (long-is : l ≡ are-long n ws cs) (long : l ≡ true) (c : Checked) (checks : Checks input c (file version-1 input)) where
+    is-long : are-long n ws cs ≡ true
+    is-long = sym long-is ∙ long
+
+    -- The file is turned down.
+    pub begin-refused : (c .number ≡ 0 → ⊥) → (b : Begun) → b ≡ record { start = refused-with (c .number); records = 0 }
+        → Begins input w ws cs w b (asked input n ws cs)
+    begin-refused z b q = refuses (c .number) (asked-file is-long ∙ rejected input c (file version-1 input) checks z) b q
+
+    module _ (z : c .number ≡ 0) where
+      accepted-file : Accepted input c (file version-1 input)
+      accepted-file = accepted input c (file version-1 input) checks z
+
+      is-file : the-file input ≡ accepted-file .file
+      unfolding the-file
+      is-file = ap contents-of (accepted-file .is)
+
+      passed : Passed input (the-file input) c
+      passed = subst (λ (f : File). Passed input f c) (sym is-file) (accepted-file .passed)
+
+      pub open-asks : Passed input (the-file input) c × (524288 ≤ n)
+      open-asks = (passed, lengths n ws cs is-long .work)
+
+      -- The tables are loaded, and the run can start.
+      pub begin-run : (w′ : List ℕ) → length w′ ≡ n → Opened input (the-file input) w′ → (b : Begun) → b ≡ record { start = start-at (c .«steps_at»); records = cs }
+          → Begins input w ws cs w′ b (asked input n ws cs)
+      begin-run w′ e o b q =
+          subst (λ (g : Got File). Begins input w ws cs w′ b g) (sym (asked-file is-long ∙ accepted-file .is))
+          (subst (λ (x : Begun). Starts input w′ ws cs x) (sym q)
+          record {
+            many-words = have .words;
+            many-rows = have .records;
+            all-records = refl;
+            goes = refl;
+            ready = λ words rows out m r s. starts input (the-file input) c passed w′ words rows out o (omega (arith, have .work)) m r s;
+          })
+        where
+          have : Long n ws cs
+          have = lengths n ws cs is-long

@@ -1,0 +1,37 @@
+-- Questions 1 to 8 of a session call, and what its run starts with.
+use Prim.Native.Nat.{ℕ, _≤_}
+use mathlib.Core.Path.{_≡_}
+use mathlib.Core.Bool.{Bool, true, false, cond, _&&_}
+use mathlib.Core.List.{List}
+use lib.Dec.{leb}
+use lib.ListN.{length}
+use Rattle.session_file.specs.File.{File, Got, got, refused, version-1, file}
+use Rattle.checkpoints.specs.declared.Checkpoint.{Checkpoint}
+use Rattle.steps.specs.declared.Progress.{Progress}
+use Rattle.steps.specs.State.{the-file, Underway}
+use Rattle.session_call.specs.declared.Begun.{Begun}
+
+-- Question 1, of the lengths of work, words and checkpoint records.
+abbrev pub are-long : (work words records : ℕ) → Bool
+are-long work words records = leb 524288 work && (leb 1024 words && leb 16 records)
+
+-- Questions 1 to 8, of the bytes and of these lengths: the contents of the file, or the question that gets no.
+abbrev pub asked : (input : List ℕ) (work words records : ℕ) → Got File
+asked input work words records = cond (are-long work words records) (file version-1 input) (refused 1)
+
+-- A run that is over before it starts.
+abbrev pub refused-with : ℕ → Progress
+refused-with n = record { at = 0; steps = 0; adds = 0; opens = 0; depth = 0; size = 0; finished = false; number = n; done = true }
+
+-- The run can start, with work as it is. All records are to be cleared.
+pub record Starts (input w : List ℕ) (words records : ℕ) (b : Begun) : Type 0 where
+  pub many-words : 1024 ≤ words
+  pub many-rows : 16 ≤ records
+  pub all-records : b .records ≡ records
+  pub goes : b .start .done ≡ false
+  pub ready : (ws : List ℕ) (rows : List Checkpoint) (out : List ℕ) → 1024 ≤ length ws → 16 ≤ length rows → length out ≤ 65535 → Underway input (the-file input) w ws rows out (b .start)
+
+-- With a number of 1 to 8 work is as it was.
+abbrev pub Begins : (input w : List ℕ) (words records : ℕ) (w′ : List ℕ) (b : Begun) → Got File → Type 0
+Begins input w words records w′ b (refused n) = (b ≡ record { start = refused-with n; records = 0 }) × (w′ ≡ w)
+Begins input w words records w′ b (got f rest) = Starts input w′ words records b
