@@ -16,8 +16,8 @@ pub enum Kind {
     SmallAtom,
 }
 
-/// A node's handle: a kind in bits 26 up and an index or a small value below. It means something only together with the
-/// session that gave it, or the store that it was read from.
+/// A node's handle: a kind in bits 26 up and an index or a small value below. That of a pair or a listed atom means something
+/// only together with the session that gave it, or the store that it was read from.
 ///
 /// ```
 /// use nikvoldra::{Kind, NodePtr, Session};
@@ -36,6 +36,18 @@ pub struct NodePtr(u32);
 impl NodePtr {
     /// The empty atom, which is the small atom 0.
     pub const NIL: NodePtr = NodePtr(2 << INDEX_BITS);
+
+    /// The small atom of a number below 2^26. It means the same in every session and store.
+    ///
+    /// ```
+    /// use nikvoldra::NodePtr;
+    ///
+    /// assert_eq!(NodePtr::small(0), Some(NodePtr::NIL));
+    /// assert_eq!(NodePtr::small(1 << 26), None);
+    /// ```
+    pub fn small(value: u32) -> Option<NodePtr> {
+        (value <= MASK).then(|| NodePtr::new(Kind::SmallAtom, value as usize))
+    }
 
     pub(crate) fn new(kind: Kind, index: usize) -> NodePtr {
         let bits = match kind {
