@@ -43,6 +43,7 @@ fn read_named(i: usize) {
     let fd = os::open_read(&path[..length]);
     if fd < 0 {
         os::fail(&path[..length]);
+        print::usage();
         return;
     }
     read_from(fd, &path[..length]);
