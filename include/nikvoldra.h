@@ -13,6 +13,7 @@
  *   - nobody else writes to them, or reads those that aren't const, while the call runs.
  *
  * No slice has to be cleared before a call, and none is ever too short for memory safety: question 1 asks the lengths.
+ * nikvoldra_session goes down a tree by recursion, at most 1,024 deep; the tests run that with a stack of 256 KiB.
  */
 #ifndef NIKVOLDRA_H
 #define NIKVOLDRA_H

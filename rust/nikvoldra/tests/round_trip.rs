@@ -191,3 +191,21 @@ fn a_tree_too_large_to_unfold() {
     let (left, right) = one.tree().pair().unwrap();
     assert!(left == right && left != other.tree());
 }
+
+/// The session call goes down a tree by recursion, and no session has more than 1,024 pairs.
+#[test]
+fn the_deepest_tree_on_a_small_stack() {
+    let mut session = Session::new();
+    let mut node = session.sentinel().unwrap();
+    for _ in 0..1_024 {
+        node = session.pair(node, NodePtr::NIL).unwrap();
+    }
+    session.add(node).unwrap();
+    session.add(NodePtr::NIL).unwrap();
+    let run = move || {
+        let run = session.run().unwrap();
+        nikvoldra::read(run.bytes()).unwrap().pair_count()
+    };
+    let thread = std::thread::Builder::new().stack_size(256 * 1_024);
+    assert_eq!(thread.spawn(run).unwrap().join().unwrap(), 1_024);
+}
