@@ -106,7 +106,7 @@ impl Session {
 
     /// The handle of an atom. One that fits in a small atom is one; another is listed, once for the same bytes.
     ///
-    /// It is never the handle of the open place.
+    /// A listed one is never the handle of the open place.
     pub fn atom(&mut self, bytes: &[u8]) -> Result<NodePtr, BuildError> {
         if let Some(value) = small_value(bytes) {
             return Ok(NodePtr::new(Kind::SmallAtom, value as usize));
