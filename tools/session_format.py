@@ -7,6 +7,16 @@ INDEX_BITS = 26
 NIL = SMALL << INDEX_BITS
 MAX_FILE, MAX_ATOMS, MAX_PAIRS = 65535, 1024, 1024
 MAX_ATOM_BYTES, MAX_STEPS = 32768, 1024
+QUESTIONS = {
+    2: "Is the input at most 65,535 bytes?",
+    3: "Does the file begin with the mark and version 1?",
+    4: "Does the field end inside the file?",
+    5: "At most 1,024 atoms, 1,024 pairs, 32,768 atom bytes so far, 1,024 steps?",
+    6: "Is this atom one that fits_in_small_atom turns down?",
+    7: "Does the handle name a listed atom, a small atom, or a pair listed earlier "
+    "(for the sentinel and steps: any listed pair; the sentinel may be ffffffff)?",
+    8: "Is the step code known?",
+}
 
 
 def handle(kind, index):
@@ -45,6 +55,9 @@ class Refused(Exception):
     def __init__(self, number, at):
         super().__init__(f"refused {number} at byte {at}")
         self.number = number
+
+    def words(self):
+        return f"question {self.number} got no: {QUESTIONS[self.number]}"
 
 
 class Session:

@@ -4,7 +4,7 @@ mod print;
 use libc::STDIN_FILENO;
 use print::Row;
 
-// The answer, the pairs, the listed atoms and the atom bytes.
+// The answer, the pairs, the listed atoms and the atom bytes; and the question that got no.
 fn report(input: &[u8]) {
     let mut work = [0u32; 524288];
     let mut pairs = [0u32; 262144];
@@ -15,6 +15,7 @@ fn report(input: &[u8]) {
     print::rows(Row::Pair, &pairs, a.pairs);
     print::rows(Row::Atom, &atoms, a.atoms);
     print::hex(&bytes, a.bytes);
+    print::refusal(a.number);
 }
 
 // A read of no bytes first, which fails where nothing can be read, as from a directory.
@@ -39,6 +40,7 @@ fn read_named(i: usize) {
     let fd = os::open_read(&path[..length]);
     if fd < 0 {
         os::fail(&path[..length]);
+        print::usage();
         return;
     }
     read_from(fd, &path[..length]);

@@ -54,6 +54,7 @@ fn read_named(i: usize, by_items: bool) -> bool {
     let fd = os::open_read(&path[..length]);
     if fd < 0 {
         os::fail(&path[..length]);
+        print::usage();
         return by_items;
     }
     read_from(fd, &path[..length], by_items);

@@ -1,0 +1,42 @@
+//! Finds the port's static libraries and has them linked.
+
+use std::path::PathBuf;
+use std::process::exit;
+
+fn fail(text: &str) -> ! {
+    eprintln!("nikvoldra: {text}");
+    exit(1);
+}
+
+/// `NIKVOLDRA_LIBRARIES`, or `target/staticlib` of the repository.
+fn folder() -> PathBuf {
+    if let Some(named) = std::env::var_os("NIKVOLDRA_LIBRARIES") {
+        return named.into();
+    }
+    let here = std::env::var_os("CARGO_MANIFEST_DIR").expect("cargo sets it");
+    PathBuf::from(here).join("../../target/staticlib")
+}
+
+fn main() {
+    println!("cargo:rerun-if-env-changed=NIKVOLDRA_LIBRARIES");
+    let target = std::env::var("TARGET").expect("cargo sets it");
+    if !target.starts_with("x86_64-") || !target.contains("-linux-") {
+        fail(&format!(
+            "the static libraries are for x86-64 Linux, and the target is {target}"
+        ));
+    }
+    let folder = folder();
+    println!("cargo:rustc-link-search=native={}", folder.display());
+    for name in ["session_call", "de_br"] {
+        let library = folder.join(format!("lib{name}.a"));
+        println!("cargo:rerun-if-changed={}", library.display());
+        if !library.is_file() {
+            fail(&format!(
+                "{} is missing.\nIn the repository's folder, `rt staticlib {name}` proves and writes it; \
+                 or the variable NIKVOLDRA_LIBRARIES names the folder that has it.",
+                library.display()
+            ));
+        }
+        println!("cargo:rustc-link-lib=static={name}");
+    }
+}

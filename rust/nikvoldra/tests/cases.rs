@@ -1,0 +1,138 @@
+//! The worked cases of the scope (01), through this crate.
+
+use nikvoldra::{read, NodePtr, Reader, Refusal, Run, Session};
+
+fn hex(text: &str) -> Vec<u8> {
+    let digits: String = text.split_whitespace().collect();
+    let byte = |i| u8::from_str_radix(&digits[i..i + 2], 16).unwrap();
+    (0..digits.len()).step_by(2).map(byte).collect()
+}
+
+fn words(run: &Run) -> Vec<usize> {
+    let word = |s: &nikvoldra::Step| 2 * s.size + usize::from(s.finished);
+    run.steps().iter().map(word).collect()
+}
+
+/// Whether two serialized trees are accepted and equal.
+fn same(one: &[u8], other: &[u8]) -> bool {
+    read(one).unwrap().tree() == read(other).unwrap().tree()
+}
+
+#[test]
+fn whole_case() {
+    let mut session = Session::new();
+    let foobar = session.atom(b"foobar").unwrap();
+    let open = session.pair(NodePtr::NIL, NodePtr::NIL).unwrap();
+    session.set_sentinel(open).unwrap();
+    let tree = session.pair(foobar, open).unwrap();
+    session.add(tree).unwrap();
+    session.add(foobar).unwrap();
+    let file =
+        "42 52 53 00 01 00 01 00 06 66 6f 6f 62 61 72 00 02 08 00 00 00 08 00 00 00 04 00 00 00
+        00 00 00 00 00 00 00 00 01 00 00 00 01 01 04 00 00 00";
+    assert_eq!(session.to_file(), hex(file));
+    let run = session.run().unwrap();
+    let steps: Vec<_> = run.steps().iter().map(|s| (s.size, s.finished)).collect();
+    assert_eq!(steps, [(8, false), (10, true)]);
+    assert_eq!(run.bytes(), hex("ff86666f6f626172fe02"));
+    assert!(same(run.bytes(), b"\xff\x86foobar\x86foobar"));
+}
+
+#[test]
+fn references_from_four_bytes_on() {
+    for (atom, output) in [
+        (&b"abc"[..], "ff 83 61 62 63 fe 02"),
+        (b"ab", "ff 82 61 62 82 61 62"),
+    ] {
+        let mut session = Session::new();
+        let atom = session.atom(atom).unwrap();
+        let tree = session.pair(atom, atom).unwrap();
+        session.add(tree).unwrap();
+        assert_eq!(session.run().unwrap().bytes(), hex(output));
+    }
+}
+
+#[test]
+fn undo_keeps_entries_and_parents() {
+    let mut session = Session::new();
+    let open = session.sentinel().unwrap();
+    let b = session.atom(b"foobar").unwrap();
+    let left = session.pair(open, NodePtr::NIL).unwrap();
+    let a = session.pair(left, b).unwrap();
+    let c = session.pair(b, NodePtr::NIL).unwrap();
+    session.add(a).unwrap();
+    session.add(b).unwrap();
+    session.restore(1).unwrap();
+    session.add(c).unwrap();
+    let run = session.run().unwrap();
+    assert_eq!(words(&run), [4, 25, 4, 29]);
+    assert_eq!(
+        run.bytes(),
+        hex("ff ff ff 86 66 6f 6f 62 61 72 80 80 fe 04")
+    );
+    // ((C . nil) . C) with C = (foobar . nil)
+    let full = b"\xff\xff\xff\x86foobar\x80\x80\xff\x86foobar\x80";
+    assert!(same(run.bytes(), full));
+}
+
+#[test]
+fn the_sentinel_alone_writes_nothing() {
+    let mut session = Session::new();
+    let open = session.sentinel().unwrap();
+    session.add(open).unwrap();
+    session.add(open).unwrap();
+    session.add(NodePtr::NIL).unwrap();
+    let run = session.run().unwrap();
+    assert_eq!(words(&run), [0, 0, 3]);
+    assert_eq!(run.bytes(), [0x80]);
+}
+
+/// The bytes, and the number they get or a plain form of the same tree.
+#[test]
+fn reading() {
+    let long = |prefix: &str, count| [hex(prefix), vec![b'x'; count]].concat();
+    let refused = [
+        (hex("81 7f"), 15),
+        (hex("81"), 14),
+        (long("c0 3f", 63), 15),
+        (hex("fc 00 00 00 00 00"), 15),
+        (hex("fc 04 00 00 00 00"), 14),
+        (hex(""), 14),
+        (hex("80 80"), 14),
+        (hex("fe 02"), 16),
+        (hex("ff 01 fe 04"), 16),
+    ];
+    let mut reader = Reader::new();
+    for (bytes, number) in refused {
+        let refusal = reader.read(&bytes).unwrap_err();
+        assert_eq!(refusal.number(), number, "{bytes:02x?}");
+        assert_eq!(Refusal::from_number(number), Some(refusal));
+    }
+    let accepted = [
+        ("fe 01", "80"),
+        ("fe 80", "80"),
+        ("fe 00", "80"),
+        ("ff 01 fe 01", "ff 01 ff 01 80"),
+        ("ff 01 fe 03", "ff 01 80"),
+        ("ff 01 fe 82 00 03", "ff 01 80"),
+    ];
+    for (bytes, plain) in accepted {
+        assert!(same(&hex(bytes), &hex(plain)), "{bytes}");
+    }
+    assert_eq!(
+        &*read(&hex("81 80")).unwrap().tree().atom().unwrap(),
+        [0x80]
+    );
+    let store = read(&long("c0 40", 64)).unwrap();
+    assert_eq!(&*store.tree().atom().unwrap(), [b'x'; 64]);
+    assert_eq!((store.atom_count(), store.byte_count()), (1, 64));
+}
+
+#[test]
+fn counts_of_a_store() {
+    let store = read(&hex("ff 01 fe 01")).unwrap();
+    assert_eq!((store.pair_count(), store.atom_count()), (2, 0));
+    assert_eq!(store.byte_count(), 0);
+    assert!(read(&hex("80")).unwrap().tree() != store.tree());
+    assert!(read(&hex("ff 01 ff 02 80")).unwrap().tree() != store.tree());
+}

@@ -1,0 +1,211 @@
+//! Sessions that keep to the premises of read-back, made by chance: what is read is the tree that was handed in, also when
+//! the same writer and reader are used for all of them, refused ones between.
+
+use nikvoldra::{Node, NodePtr, Reader, Refusal, Session, Tree, Writer};
+use std::rc::Rc;
+
+/// A tree as it is handed in.
+enum Plain {
+    Open,
+    Atom(Vec<u8>),
+    Pair(Rc<Plain>, Rc<Plain>),
+}
+
+impl Plain {
+    fn has_open(&self) -> bool {
+        match self {
+            Plain::Open => true,
+            Plain::Atom(_) => false,
+            Plain::Pair(left, right) => left.has_open() || right.has_open(),
+        }
+    }
+
+    /// The bytes with every subtree in full.
+    fn full(&self) -> Vec<u8> {
+        match self {
+            Plain::Open => panic!("an open place has no bytes"),
+            Plain::Atom(atom) => match atom[..] {
+                [] => vec![0x80],
+                [byte] if byte < 0x80 => vec![byte],
+                _ => [&[0x80 + atom.len() as u8], &atom[..]].concat(),
+            },
+            Plain::Pair(left, right) => [vec![0xff], left.full(), right.full()].concat(),
+        }
+    }
+
+    fn is(&self, tree: Tree) -> bool {
+        match (self, tree.node()) {
+            (Plain::Atom(bytes), Node::Atom(atom)) => bytes[..] == *atom,
+            (Plain::Pair(left, right), Node::Pair(l, r)) => left.is(l) && right.is(r),
+            _ => false,
+        }
+    }
+}
+
+/// The tree with another at its first open place from the left.
+fn filled(state: &Rc<Plain>, with: &Rc<Plain>) -> Rc<Plain> {
+    match &**state {
+        Plain::Open => with.clone(),
+        Plain::Pair(left, right) if left.has_open() => {
+            Rc::new(Plain::Pair(filled(left, with), right.clone()))
+        }
+        Plain::Pair(left, right) => Rc::new(Plain::Pair(left.clone(), filled(right, with))),
+        Plain::Atom(_) => panic!("no place is open"),
+    }
+}
+
+struct Chance(u64);
+
+impl Chance {
+    fn below(&mut self, n: usize) -> usize {
+        self.0 ^= self.0 << 13;
+        self.0 ^= self.0 >> 7;
+        self.0 ^= self.0 << 17;
+        (self.0 >> 33) as usize % n
+    }
+}
+
+type Both = (NodePtr, Rc<Plain>);
+
+struct Made {
+    session: Session,
+    chance: Chance,
+    /// Subtrees without the open place, which later ones share.
+    pool: Vec<Both>,
+}
+
+impl Made {
+    fn pair(&mut self, left: Both, right: Both) -> Both {
+        let node = self.session.pair(left.0, right.0).unwrap();
+        (node, Rc::new(Plain::Pair(left.1, right.1)))
+    }
+
+    fn leaf(&mut self) -> Both {
+        const ATOMS: [&[u8]; 7] = [b"", &[1], &[0x80], b"ab", b"abc", b"foobar", &[0xff; 40]];
+        let atom = ATOMS[self.chance.below(ATOMS.len())];
+        let node = self.session.atom(atom).unwrap();
+        (node, Rc::new(Plain::Atom(atom.to_vec())))
+    }
+
+    fn shared(&mut self) -> Both {
+        if self.pool.is_empty() || self.chance.below(4) == 0 {
+            return self.leaf();
+        }
+        let i = self.chance.below(self.pool.len());
+        self.pool[i].clone()
+    }
+
+    /// Fresh pairs around one open place: none of them occurs in a later tree.
+    fn around_open(&mut self) -> Both {
+        let open = self.session.sentinel().unwrap();
+        let mut tree = (open, Rc::new(Plain::Open));
+        for _ in 0..self.chance.below(8) {
+            let side = self.shared();
+            tree = if self.chance.below(2) == 0 {
+                self.pair(tree, side)
+            } else {
+                self.pair(side, tree)
+            };
+        }
+        tree
+    }
+
+    fn grow_pool(&mut self) {
+        for _ in 0..self.chance.below(10) {
+            let (left, right) = (self.shared(), self.shared());
+            let both = self.pair(left, right);
+            self.pool.push(both);
+        }
+    }
+}
+
+/// A session of some adds, the last of which finishes it, and the whole tree.
+fn make(seed: u64) -> (Session, Rc<Plain>) {
+    let mut made = Made {
+        session: Session::new(),
+        chance: Chance(seed.wrapping_mul(0x9e37_79b9_7f4a_7c15) | 1),
+        pool: vec![],
+    };
+    let mut state = Rc::new(Plain::Open);
+    for _ in 0..made.chance.below(6) {
+        made.grow_pool();
+        let (node, plain) = made.around_open();
+        made.session.add(node).unwrap();
+        state = filled(&state, &plain);
+    }
+    let (node, plain) = made.shared();
+    made.session.add(node).unwrap();
+    (made.session, filled(&state, &plain))
+}
+
+#[test]
+fn reads_back_as_the_tree_handed_in() {
+    let (mut writer, mut reader) = (Writer::new(), Reader::new());
+    let mut shorter = 0;
+    for seed in 1..=500 {
+        let (session, whole) = make(seed);
+        let full = whole.full();
+        if full.len() > 60_000 {
+            continue;
+        }
+        let run = writer.run(&session).unwrap();
+        assert!(run.is_finished(), "seed {seed}");
+        assert!(run.bytes().len() <= full.len(), "seed {seed}");
+        shorter += usize::from(run.bytes().len() < full.len());
+        let store = reader.read(run.bytes()).unwrap();
+        assert!(whole.is(store.tree()), "seed {seed}");
+        assert!(store.tree() == reader.read(&full).unwrap().tree());
+        if seed % 50 == 0 {
+            // fresh slices give the same
+            assert_eq!(session.run().unwrap(), run);
+            assert_eq!(nikvoldra::read(run.bytes()).unwrap(), store);
+        }
+        // a refused session and a refused reading between
+        let cut = &run.bytes()[..run.bytes().len() - 1];
+        assert_eq!(reader.read(cut).unwrap_err(), Refusal::BrokenBytes);
+        let mut late = session.clone();
+        late.add(NodePtr::NIL).unwrap();
+        let error = writer.run(&late).unwrap_err();
+        assert_eq!(error.refusal(), Refusal::AlreadyFinished);
+        assert_eq!(error.into_run(), run);
+    }
+    assert!(shorter > 100, "only {shorter} sessions have references");
+}
+
+/// 1,024 pairs deep, and each of them shared: 2^1024 leaves. Neither the calls nor the comparison unfold it.
+#[test]
+fn a_tree_too_large_to_unfold() {
+    let mut session = Session::new();
+    let mut node = session.atom(b"foobar").unwrap();
+    for _ in 0..1_024 {
+        node = session.pair(node, node).unwrap();
+    }
+    session.add(node).unwrap();
+    let run = session.run().unwrap();
+    let (one, other) = (
+        nikvoldra::read(run.bytes()).unwrap(),
+        nikvoldra::read(run.bytes()).unwrap(),
+    );
+    assert_eq!(one.pair_count(), 1_024);
+    assert!(one.tree() == other.tree());
+    let (left, right) = one.tree().pair().unwrap();
+    assert!(left == right && left != other.tree());
+}
+
+/// The session call goes down a tree by recursion, and no session has more than 1,024 pairs.
+#[test]
+fn the_deepest_tree_on_a_small_stack() {
+    let mut session = Session::new();
+    let mut node = session.sentinel().unwrap();
+    for _ in 0..1_024 {
+        node = session.pair(node, NodePtr::NIL).unwrap();
+    }
+    session.add(node).unwrap();
+    session.add(NodePtr::NIL).unwrap();
+    let run = move || {
+        let run = session.run().unwrap();
+        nikvoldra::read(run.bytes()).unwrap().pair_count()
+    };
+    let thread = std::thread::Builder::new().stack_size(256 * 1_024);
+    assert_eq!(thread.spawn(run).unwrap().join().unwrap(), 1_024);
+}
