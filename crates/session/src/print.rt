@@ -102,5 +102,5 @@ pub fn refusal(number: u32) {
 
 // How the program is called, on standard error.
 pub fn usage() {
-    say(b"usage: session [FILE ..]    no file: standard input\n");
+    say(b"usage: session [--items] [FILE ..]    no file: standard input\n");
 }
