@@ -30,10 +30,10 @@ pub enum Head {
 fn byte_at(input: &[u8], position: usize) -> First
     ensures { λ r. ⌜ r ≡ «byte-at» (now (input .entry)) position ⌝ }
 {
-    if input.len() <= position {
-        return First::End;
+    if position < input.len() {
+        return First::Byte(input[position]);
     }
-    First::Byte(input[position])
+    First::End
 }
 
 // How many bytes stand before the atom or path: the mark of a reference.
