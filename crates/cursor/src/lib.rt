@@ -8,6 +8,7 @@ const BACK_REFERENCE: u8 = 0xfe;
 
 const CONS_BOX_MARKER: u8 = 0xff;
 
+// A place of the input. A struct that holds a reference is proved by hand, so what is over it is thin and goes straight on.
 pub struct Cursor<'a> {
     pub input: &'a [u8],
     pub position: usize,
@@ -70,12 +71,14 @@ fn parse_at(input: &[u8], position: usize, first: First) -> Head
     }
 }
 
+// The byte at the cursor, or that there is none.
 fn read_byte<'a>(c: Cursor<'a>) -> First
     ensures { λ r. ⌜ r ≡ «byte-at» (now (c .entry .input)) (c .entry .position) ⌝ }
 {
     byte_at(c.input, c.position)
 }
 
+// The cursor that many bytes further on.
 fn advance<'a>(c: Cursor<'a>, count: usize) -> Cursor<'a>
     requires { ⌜ c .position + count < 2 ^ 64 ⌝ }
     ensures { λ r. ⌜ (r .input ≡ c .entry .input) × (r .position ≡ c .entry .position + count) ⌝ }
@@ -86,13 +89,14 @@ fn advance<'a>(c: Cursor<'a>, count: usize) -> Cursor<'a>
     }
 }
 
+// What begins with this byte, with its atom or path parsed at the cursor.
 fn parse<'a>(c: Cursor<'a>, first: First) -> Head
     ensures { λ h. ⌜ headOf h ≡ parsed first (now (c .entry .input)) (c .entry .position) ⌝ }
 {
     parse_at(c.input, c.position, first)
 }
 
-// What stands at a place of the input.
+// What stands at a place of the input. A reference's path is parsed after its mark.
 pub fn head_at(input: &[u8], position: usize) -> Head
     ensures { λ h. ⌜ headOf h ≡ «head-at» (now (input .entry)) position ⌝ }
 {
