@@ -45,16 +45,15 @@ module _ (input w p a b : List ℕ) (r : Reader) where
         from-first ∙ cond-true _ _ _ (eq-eqb (getD input (r .position) 0) 0xff e)
         ∙ ap (λ (n : ℕ). go (record { rest = drop n input; ops = SExp ∷ Cons ∷ ops; values = stored })) (sym (add-one (r .position)))
 
-    module _ (other : getD input (r .position) 0 ≡ 0xff → ⊥) where
-      pub step-path : getD input (r .position) 0 ≡ 0xfe → step store-values (atOf input w p a b r) ≡ path-there input w p (take (2 * r .atoms) a) (take (r .bytes) b) r
-      step-path e =
-          from-first ∙ cond-false _ _ _ (ne-eqb (getD input (r .position) 0) 0xff other) ∙ cond-true _ _ _ (eq-eqb (getD input (r .position) 0) 0xfe e)
-          ∙ ap (λ (n : ℕ). path-item store-values (parse (drop n input)) (drop n input) ops stored) (sym (add-one (r .position)))
+    pub step-path : getD input (r .position) 0 ≡ 0xfe → step store-values (atOf input w p a b r) ≡ path-there input w p (take (2 * r .atoms) a) (take (r .bytes) b) r
+    step-path e =
+        from-first ∙ cond-false _ _ _ (ne-eqb (getD input (r .position) 0) 0xff (λ z. absurd (omega (arith, z, e)))) ∙ cond-true _ _ _ (eq-eqb (getD input (r .position) 0) 0xfe e)
+        ∙ ap (λ (n : ℕ). path-item store-values (parse (drop n input)) (drop n input) ops stored) (sym (add-one (r .position)))
 
-      pub step-atom : (getD input (r .position) 0 ≡ 0xfe → ⊥) → step store-values (atOf input w p a b r) ≡ atom-item store-values (parse (drop (r .position) input)) (drop (r .position) input) ops stored
-      step-atom d =
-          from-first ∙ cond-false _ _ _ (ne-eqb (getD input (r .position) 0) 0xff other) ∙ cond-false _ _ _ (ne-eqb (getD input (r .position) 0) 0xfe d)
-          ∙ ap (λ (l : List ℕ). atom-item store-values (parse l) l ops stored) (sym (drop-cons input (r .position) 0 h))
+    pub step-atom : (getD input (r .position) 0 ≡ 0xff → ⊥) → (getD input (r .position) 0 ≡ 0xfe → ⊥) → step store-values (atOf input w p a b r) ≡ atom-item store-values (parse (drop (r .position) input)) (drop (r .position) input) ops stored
+    step-atom other d =
+        from-first ∙ cond-false _ _ _ (ne-eqb (getD input (r .position) 0) 0xff other) ∙ cond-false _ _ _ (ne-eqb (getD input (r .position) 0) 0xfe d)
+        ∙ ap (λ (l : List ℕ). atom-item store-values (parse l) l ops stored) (sym (drop-cons input (r .position) 0 h))
 
     module _ (k : Stands input w p a b r) where
       -- ---- a pair's mark
@@ -98,13 +97,13 @@ module _ (input w p a b : List ℕ) (r : Reader) where
             sound = k .sound;
           }
 
-      pub path-stepped : (w″ p″ : List ℕ) (i : Item) → (getD input (r .position) 0 ≡ 0xff → ⊥) → getD input (r .position) 0 ≡ 0xfe → SteppedPath input w p r w″ p″ i → Stepped input w p a b r w″ p″ a b i
-      path-stepped w″ p″ i d e (path-refused n ei f) =
-          subst (λ (x : Item). Stepped input w p a b r w″ p″ a b x) (sym ei) (record { same = step-path d e ∙ f (take (2 * r .atoms) a) (take (r .bytes) b); stands = tt })
-      path-stepped w″ p″ i d e (path-settled w′ p′ s q lw lp n) =
+      pub path-stepped : (w″ p″ : List ℕ) (i : Item) → getD input (r .position) 0 ≡ 0xfe → SteppedPath input w p r w″ p″ i → Stepped input w p a b r w″ p″ a b i
+      path-stepped w″ p″ i e (path-refused n ei f) =
+          subst (λ (x : Item). Stepped input w p a b r w″ p″ a b x) (sym ei) (record { same = step-path e ∙ f (take (2 * r .atoms) a) (take (r .bytes) b); stands = tt })
+      path-stepped w″ p″ i e (path-settled w′ p′ s q lw lp n) =
           record {
             same =
-                step-path d e ∙ q .same (take (2 * r .atoms) a) (take (r .bytes) b)
+                step-path e ∙ q .same (take (2 * r .atoms) a) (take (r .bytes) b)
                 ∙ ap (λ (x : Stored). settle store-values (drop (s .position) input) (opsOf w′ (s .ops)) x) atoms-are
                 ∙ n .same (take (2 * s .atoms) a) (take (s .bytes) b) ∙ item-same input w′ p′ s a b w″ p″ lent lw lp sound i (n .follows);
             stands = item-stands input w′ p′ s a b w″ p″ lent lw lp sound i (n .follows);

@@ -1,4 +1,5 @@
 // One item of a serialized tree: a pair's mark, an atom, or a reference.
+use cursor::Head;
 use parse_atom::ParseAtom;
 use store::OPS;
 use traverse_path_with_vec::Built;
@@ -10,12 +11,8 @@ ghost use lib.ListN.{length};
 ghost use Rattle.reading.specs.Format.{Cons};
 ghost use Rattle.store.specs.Layout.{opsOf, PushedValue, PushedPair};
 ghost use Rattle.read_item.specs.State.{Ready, Onward, Settled, Next, AtomRoom, AtomPushed, node-pushed, BeforePath, PathFound, SteppedPath, Stands, SteppedAtom, Stepped, pair-begun};
-ghost use Rattle.atom.specs.Parse.{blob-of};
+ghost use Rattle.atom.specs.Parse.{blob-of, parse-at};
 ghost use Rattle.parse_atom.specs.Answers.{parseOf};
-
-const BACK_REFERENCE: u8 = 0xfe;
-
-const CONS_BOX_MARKER: u8 = 0xff;
 
 // Where the reader stands: the next byte, and how much of each stack and of the store is in use.
 pub struct Reader {
@@ -130,12 +127,11 @@ fn atom_item(
     atoms: &mut [u32],
     bytes: &mut [u8],
     r: Reader,
+    found: ParseAtom,
 ) -> Item
-    requires { ⌜ Stands (now input) (now work) (now pairs) (now atoms) (now bytes) r ⌝ }
+    requires { ⌜ (Stands (now input) (now work) (now pairs) (now atoms) (now bytes) r) × (parseOf found ≡ parse-at (now input) (r .position)) ⌝ }
     ensures { λ i. ⌜ SteppedAtom (now (input .entry)) (now (work .entry)) (now (pairs .entry)) (now (atoms .entry)) (now (bytes .entry)) r (now (work .exit)) (now (pairs .exit)) (now (atoms .exit)) (now (bytes .exit)) i ⌝ }
 {
-    let position = r.position;
-    let found = parse_atom::parse_atom(input, position);
     match found {
         ParseAtom::Blob { start: _, end } => {
             let next = push_atom(input, work, atoms, bytes, r, found, end);
@@ -193,12 +189,10 @@ fn push_path(
     }
 }
 
-fn path_item(input: &[u8], work: &mut [u32], pairs: &mut [u32], r: Reader) -> Item
-    requires { ⌜ BeforePath (now input) (now work) (now pairs) r ⌝ }
+fn path_item(input: &[u8], work: &mut [u32], pairs: &mut [u32], r: Reader, found: ParseAtom) -> Item
+    requires { ⌜ (BeforePath (now input) (now work) (now pairs) r) × (parseOf found ≡ parse-at (now input) (r .position + 1)) ⌝ }
     ensures { λ i. ⌜ SteppedPath (now (input .entry)) (now (work .entry)) (now (pairs .entry)) r (now (work .exit)) (now (pairs .exit)) i ⌝ }
 {
-    let position = r.position + 1;
-    let found = parse_atom::parse_atom(input, position);
     match found {
         ParseAtom::Blob { start: _, end } => push_path(input, work, pairs, r, found, end),
         ParseAtom::SerializationError => Item::Refused(14),
@@ -235,16 +229,10 @@ pub fn next_item(
     requires { ⌜ Stands (now input) (now work) (now pairs) (now atoms) (now bytes) r ⌝ }
     ensures { λ i. ⌜ Stepped (now (input .entry)) (now (work .entry)) (now (pairs .entry)) (now (atoms .entry)) (now (bytes .entry)) r (now (work .exit)) (now (pairs .exit)) (now (atoms .exit)) (now (bytes .exit)) i ⌝ }
 {
-    let position = r.position;
-    if input.len() <= position {
-        return Item::Refused(14);
+    match cursor::head_at(input, r.position) {
+        Head::End => Item::Refused(14),
+        Head::Pair => pair_item(work, r),
+        Head::Path(found) => path_item(input, work, pairs, r, found),
+        Head::Atom(found) => atom_item(input, work, pairs, atoms, bytes, r, found),
     }
-    let b = input[position];
-    if b == CONS_BOX_MARKER {
-        return pair_item(work, r);
-    }
-    if b == BACK_REFERENCE {
-        return path_item(input, work, pairs, r);
-    }
-    atom_item(input, work, pairs, atoms, bytes, r)
 }

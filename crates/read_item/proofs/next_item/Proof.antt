@@ -1,19 +1,52 @@
--- `read_item::next_item` meets its contract: the first byte says which kind of item it is.
+-- `read_item::next_item` meets its contract: what stands at the place says which kind of item it is.
 -- Assumes nothing.
-use native.Mathlib.Omega.{arith}
+use Rattle.cursor.specs.declared.Head.the-variants as head
+use Rattle.cursor.specs.HeadLaws.{told}
 use Rattle.read_item.proofs.Items as items
 use borrow.Author.Needs.{needs}
 use Rattle.read_item.proofs.next_item.Statement.{statement}
 use Rattle.read_item.proofs.next_item.Tie as tie
 
-returns : tie.Need-returns
-returns c = let s = c .before .before .before .before .before .before in record { same = items.step-end (s .args .input .now) (s .args .work .now) (s .args .pairs .now) (s .args .atoms .now) (s .args .bytes .now) (s .args .r) (c .if1 .taken); stands = tt }
+head-at-requires : tie.Need-head-at-requires
+head-at-requires c κs = search needs
 
-shared-slice-read-b : tie.Need-shared-slice-read-b
-shared-slice-read-b c = search needs
+enum-told : tie.Need-enum-told
+enum-told c = search needs
+
+enum-told-2 : tie.Need-enum-told-2
+enum-told-2 c = search needs
 
 pair-item-requires : tie.Need-pair-item-requires
-pair-item-requires c κs = let s = c .before .before .before .before .before .before .before .before .before in items.pair-room (s .args .input .now) (s .args .work .now) (s .args .pairs .now) (s .args .atoms .now) (s .args .bytes .now) (s .args .r) (omega arith) (s .pre)
+pair-item-requires c κs =
+    let s = c .before .before .before .before .before .before .before .before .before in
+    let t = told (s .args .input .now) (s .args .r .position) (c .before .before .before .head-at .result) head.Pair (c .before .before .before .head-at .ensures) (c .before .enum-told2 .given .1) in
+    items.pair-room (s .args .input .now) (s .args .work .now) (s .args .pairs .now) (s .args .atoms .now) (s .args .bytes .now) (s .args .r) (t .0) (s .pre)
+
+enum-known-found : tie.Need-enum-known-found
+enum-known-found c = search needs
+
+path-item-requires : tie.Need-path-item-requires
+path-item-requires c κs =
+    let s = c .before .before .before .before .before .before .before .before .before .before .before in
+    let g = c .before .before .before .found .given in
+    let t = told (s .args .input .now) (s .args .r .position) (c .before .before .before .before .before .head-at .result) (head.Path (g .0 .0)) (c .before .before .before .before .before .head-at .ensures) (g .1) in
+    (items.before-path (s .args .input .now) (s .args .work .now) (s .args .pairs .now) (s .args .atoms .now) (s .args .bytes .now) (s .args .r) (t .0) (s .pre), t .2)
+
+enum-known-found-2 : tie.Need-enum-known-found-2
+enum-known-found-2 c = search needs
+
+atom-item-requires : tie.Need-atom-item-requires
+atom-item-requires c κs =
+    let s = c .before .before .before .before .before .before .before .before .before .before .before .before .before in
+    let g = c .before .before .before .before .before .found2 .given in
+    let t = told (s .args .input .now) (s .args .r .position) (c .before .before .before .before .before .before .before .head-at .result) (head.Atom (g .0 .0)) (c .before .before .before .before .before .before .before .head-at .ensures) (g .1) in
+    (s .pre, t .3)
+
+returns : tie.Need-returns
+returns c =
+    let s = c .before .before .before .before .before .before .before .before in
+    let t = told (s .args .input .now) (s .args .r .position) (c .before .before .head-at .result) head.End (c .before .before .head-at .ensures) (c .enum-told .given .1) in
+    record { same = items.step-end (s .args .input .now) (s .args .work .now) (s .args .pairs .now) (s .args .atoms .now) (s .args .bytes .now) (s .args .r) t; stands = tt }
 
 same-length : tie.Need-same-length
 same-length c = search needs
@@ -21,11 +54,9 @@ same-length c = search needs
 returns-2 : tie.Need-returns-2
 returns-2 c =
     let s = c .before .before .before .before .before .before .before .before .before .before .before .before in
+    let t = told (s .args .input .now) (s .args .r .position) (c .before .before .before .before .before .before .head-at .result) head.Pair (c .before .before .before .before .before .before .head-at .ensures) (c .before .before .before .before .enum-told2 .given .1) in
     let q = c .before .before .pair-item in
-    items.pair-stepped (s .args .input .now) (s .args .work .now) (s .args .pairs .now) (s .args .atoms .now) (s .args .bytes .now) (s .args .r) (omega arith) (s .pre) (q .last .0) (q .kept .0) (q .ensures .0) (c .before .before .before .before .if2 .taken) (q .result) (q .ensures .1)
-
-path-item-requires : tie.Need-path-item-requires
-path-item-requires c κs = search needs
+    items.pair-stepped (s .args .input .now) (s .args .work .now) (s .args .pairs .now) (s .args .atoms .now) (s .args .bytes .now) (s .args .r) (t .0) (s .pre) (q .last .0) (q .kept .0) (q .ensures .0) (t .1) (q .result) (q .ensures .1)
 
 same-length-2 : tie.Need-same-length-2
 same-length-2 c = search needs
@@ -36,11 +67,10 @@ same-length-3 c = search needs
 returns-3 : tie.Need-returns-3
 returns-3 c =
     let s = c .before .before .before .before .before .before .before .before .before .before .before .before .before .before .before .before in
+    let g = c .before .before .before .before .before .before .before .before .found .given in
+    let t = told (s .args .input .now) (s .args .r .position) (c .before .before .before .before .before .before .before .before .before .before .head-at .result) (head.Path (g .0 .0)) (c .before .before .before .before .before .before .before .before .before .before .head-at .ensures) (g .1) in
     let q = c .before .before .before .before .path-item in
-    items.path-stepped (s .args .input .now) (s .args .work .now) (s .args .pairs .now) (s .args .atoms .now) (s .args .bytes .now) (s .args .r) (omega arith) (s .pre) (q .last .1 .0) (q .last .1 .1 .0) (q .result) (c .before .before .before .before .before .before .before .before .if2 .left) (c .before .before .before .before .before .before .before .if3 .taken) (q .ensures)
-
-atom-item-requires : tie.Need-atom-item-requires
-atom-item-requires c κs = search needs
+    items.path-stepped (s .args .input .now) (s .args .work .now) (s .args .pairs .now) (s .args .atoms .now) (s .args .bytes .now) (s .args .r) (t .0) (s .pre) (q .last .1 .0) (q .last .1 .1 .0) (q .result) (t .1) (q .ensures)
 
 same-length-4 : tie.Need-same-length-4
 same-length-4 c = search needs
@@ -57,23 +87,29 @@ same-length-7 c = search needs
 returns-4 : tie.Need-returns-4
 returns-4 c =
     let s = c .before .before .before .before .before .before .before .before .before .before .before .before .before .before .before .before .before .before .before .before .before .before in
+    let g = c .before .before .before .before .before .before .before .before .before .before .before .before .before .before .found2 .given in
+    let t = told (s .args .input .now) (s .args .r .position) (c .before .before .before .before .before .before .before .before .before .before .before .before .before .before .before .before .head-at .result) (head.Atom (g .0 .0)) (c .before .before .before .before .before .before .before .before .before .before .before .before .before .before .before .before .head-at .ensures) (g .1) in
     let q = c .before .before .before .before .before .before .before .before .atom-item in
-    items.atom-stepped (s .args .input .now) (s .args .work .now) (s .args .pairs .now) (s .args .atoms .now) (s .args .bytes .now) (s .args .r) (c .before .before .before .before .before .before .before .before .before .before .before .before .before .before .before .before .if1 .left) (s .pre) (q .last .1 .0) (q .last .1 .1 .0) (q .last .1 .1 .1 .0) (q .last .1 .1 .1 .1 .0) (q .result) (c .before .before .before .before .before .before .before .before .before .before .before .before .before .before .if2 .left) (c .before .before .before .before .before .before .before .before .before .before .before .before .before .if3 .left) (q .ensures)
+    items.atom-stepped (s .args .input .now) (s .args .work .now) (s .args .pairs .now) (s .args .atoms .now) (s .args .bytes .now) (s .args .r) (t .0) (s .pre) (q .last .1 .0) (q .last .1 .1 .0) (q .last .1 .1 .1 .0) (q .last .1 .1 .1 .1 .0) (q .result) (t .1) (t .2) (q .ensures)
 
 pub next-item-spec : {M : Type 1} → statement M
 next-item-spec =
     tie.close
     (tie.spec
-    returns
-    shared-slice-read-b
+    head-at-requires
+    enum-told
+    enum-told-2
     pair-item-requires
+    enum-known-found
+    path-item-requires
+    enum-known-found-2
+    atom-item-requires
+    returns
     same-length
     returns-2
-    path-item-requires
     same-length-2
     same-length-3
     returns-3
-    atom-item-requires
     same-length-4
     same-length-5
     same-length-6

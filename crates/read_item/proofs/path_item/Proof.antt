@@ -8,19 +8,14 @@ use borrow.Author.Needs.{needs}
 use Rattle.read_item.proofs.path_item.Statement.{statement}
 use Rattle.read_item.proofs.path_item.Tie as tie
 
-add-position : tie.Need-add-position
-add-position c = search needs
-
-parse-atom-requires : tie.Need-parse-atom-requires
-parse-atom-requires c κs = search needs
-
 enum-known-found : tie.Need-enum-known-found
 enum-known-found c = search needs
 
 push-path-requires : tie.Need-push-path-requires
 push-path-requires c κs =
+    let s = c .before .before .before .before .before .before .before .before in
     let g = c .before .before .before .found .given in
-    (c .before .before .before .before .before .before .before .before .before .before .pre, record { start = g .0 .0; there = sym (ap parseOf (g .1)) ∙ c .before .before .before .before .before .parse-atom .ensures; found = refl })
+    (s .pre .0, record { start = g .0 .0; there = sym (ap parseOf (g .1)) ∙ s .pre .1; found = refl })
 
 enum-told : tie.Need-enum-told
 enum-told c = search needs
@@ -38,21 +33,15 @@ returns : tie.Need-returns
 returns c = search needs
 
 returns-2 : tie.Need-returns-2
-returns-2 c =
-    let a = c .before .before .before .before .before .before .before .args in
-    path-refused 14 refl (paths.path-turned-down (a .input .now) (a .work .now) (a .pairs .now) (a .r) 14 (sym (ap parseOf (c .enum-told .given .1)) ∙ c .before .before .parse-atom .ensures))
+returns-2 c = let s = c .before .before .before .before .before in path-refused 14 refl (paths.path-turned-down (s .args .input .now) (s .args .work .now) (s .args .pairs .now) (s .args .r) 14 (sym (ap parseOf (c .enum-told .given .1)) ∙ s .pre .1))
 
 returns-3 : tie.Need-returns-3
-returns-3 c =
-    let a = c .before .before .before .before .before .before .before .args in
-    path-refused 15 refl (paths.path-turned-down (a .input .now) (a .work .now) (a .pairs .now) (a .r) 15 (sym (ap parseOf (c .enum-told2 .given .1)) ∙ c .before .before .parse-atom .ensures))
+returns-3 c = let s = c .before .before .before .before .before in path-refused 15 refl (paths.path-turned-down (s .args .input .now) (s .args .work .now) (s .args .pairs .now) (s .args .r) 15 (sym (ap parseOf (c .enum-told2 .given .1)) ∙ s .pre .1))
 
 pub path-item-spec : {M : Type 1} → statement M
 path-item-spec =
     tie.close
     (tie.spec
-    add-position
-    parse-atom-requires
     enum-known-found
     push-path-requires
     enum-told
