@@ -222,7 +222,7 @@ pub extern "C" fn nikvoldra_session(
     if !long_enough(work, words, checkpoints, output) {
         return refusal(1);
     }
-    let checked = session_file::check(file);
+    let checked = check_file::check(file);
     if checked.number != 0 {
         return refusal(checked.number);
     }

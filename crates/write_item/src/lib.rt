@@ -68,10 +68,10 @@ pub fn write_small(output: &mut [u8], size: usize, value: u32) -> Put
     requires { ⌜ value < 2 ^ 26 ⌝ }
     ensures { λ r. ⌜ written r (now (output .exit)) ≡ put (now (output .entry)) size (some («item-bytes» («atom-item» («small-bytes» value)))) ⌝ }
 {
-    let small = allocator::small_atom_bytes(value);
+    let small = small_atom::small_atom_bytes(value);
     let bytes = small.bytes;
     let len = small.len;
-    write_listed(output, size, allocator::as_ref(&bytes, len))
+    write_listed(output, size, small_atom::as_ref(&bytes, len))
 }
 
 // How many bits the path at a slot has.
