@@ -1,4 +1,4 @@
--- The chains of the table of entries: what `prev` gives, what they rest on, and that a search needs to look at one chain alone.
+-- The chains of the table of entries: what they rest on, and that a search needs to look at one chain alone.
 -- Assumes nothing.
 use Prim.Native.Nat.{ℕ, zero, suc, _+_, _-_, _≤_, _<_}
 use mathlib.Core.Path.{_≡_, refl, sym, ap, _∙_}
@@ -6,59 +6,13 @@ use mathlib.Core.Bool.{Bool, true, false, cond}
 use mathlib.Core.List.{List}
 use mathlib.Core.Option.{none, some}
 use native.Mathlib.Omega.{arith}
-use native.Mathlib.Nat.{not-suc-le-zero}
 use native.Mathlib.Decide.{ℕ-discrete, decLt}
-use lib.Dec.{eqb}
-use borrow.Author.Tests.{eqb-true, eqb-false}
 use Rattle.words.specs.Words.{at}
 use Rattle.layout.specs.Layout.{USED, LEFT, RIGHT, NEXT, HEADS, PARENTS, ENTRIES}
 use Rattle.layout.specs.Rows.{row-of, rows-of, slot-of, slot-at, prev, Chained, Distinct, Sound}
+use Rattle.layout.specs.Prev.{prev-le, prev-prev, prev-slot, prev-same, prev-above}
 use Rattle.cache_entries.specs.Contracts.{find-row}
 use Rattle.cache_entries.proofs.Rows.{find-none, find-some}
-
-pub prev-le : (f : ℕ → ℕ) (s n : ℕ) → prev f s n ≤ n
-unfolding prev
-prev-le f s zero = omega arith
-prev-le f s (suc n) = go (eqb (f n) s) (prev-le f s n)
-  where
-    go : (t : Bool) → prev f s n ≤ n → cond t (suc n) (prev f s n) ≤ suc n
-    go true h = omega arith
-    go false h = omega arith
-
--- What `prev` gives is in the chain.
-pub prev-prev : (f : ℕ → ℕ) (s n : ℕ) → prev f s (prev f s n) ≡ prev f s n
-unfolding prev
-prev-prev f s zero = refl
-prev-prev f s (suc n) = go (eqb (f n) s) refl (prev-prev f s n)
-  where
-    go : (t : Bool) → eqb (f n) s ≡ t → prev f s (prev f s n) ≡ prev f s n → prev f s (cond t (suc n) (prev f s n)) ≡ cond t (suc n) (prev f s n)
-    go true q h = rw q
-    go false q h = h
-
--- An entry of the chain has its slot.
-pub prev-slot : (f : ℕ → ℕ) (s e : ℕ) → prev f s (suc e) ≡ suc e → f e ≡ s
-unfolding prev
-prev-slot f s e h = go (eqb (f e) s) refl h
-  where
-    go : (t : Bool) → eqb (f e) s ≡ t → cond t (suc e) (prev f s e) ≡ suc e → f e ≡ s
-    go true q k = eqb-true _ _ q
-    go false q k = absurd (let l = prev-le f s e in omega arith)
-
--- None between has the slot.
-pub prev-none : (f : ℕ → ℕ) (s n k : ℕ) → prev f s n ≤ k → k < n → f k ≡ s → ⊥
-unfolding prev
-prev-none f s zero k h l q = not-suc-le-zero l
-prev-none f s (suc n) k h l q = go (eqb (f n) s) refl h (ℕ-discrete k n) (λ a b. prev-none f s n k a b q)
-  where
-    go : (t : Bool) → eqb (f n) s ≡ t → cond t (suc n) (prev f s n) ≤ k → Dec (k ≡ n) → (prev f s n ≤ k → k < n → ⊥) → ⊥
-    go true p m d g = omega arith
-    go false p m (yes e) g = eqb-false (f n) s p (sym (ap f e) ∙ q)
-    go false p m (no d) g = g m (omega arith)
-
-pub prev-same : (f g : ℕ → ℕ) (s n : ℕ) → ((k : ℕ) → k < n → f k ≡ g k) → prev f s n ≡ prev g s n
-unfolding prev
-prev-same f g s zero h = refl
-prev-same f g s (suc n) h = rw (h n (omega arith), prev-same f g s n (λ k l. h k (omega arith)))
 
 -- The chains, and that keys are distinct, rest on the words from LEFT to PARENTS, and on USED.
 module _ (w w′ : List ℕ) (same : (k : ℕ) → LEFT ≤ k → k < PARENTS → at w′ k ≡ at w k) (u : at w′ USED ≡ at w USED) (few : at w USED ≤ ENTRIES) where
@@ -98,7 +52,7 @@ pub record Seek (w : List ℕ) (l r s h : ℕ) : Type 0 where
 module _ (w : List ℕ) (so : Sound w) (l r s : ℕ) where
   -- From n to the next one of the chain none has the key.
   between : (n : ℕ) → s ≡ slot-of l r → (k : ℕ) → prev (slot-at w) s n ≤ k → k < n → at w (LEFT + k) ≡ l → at w (RIGHT + k) ≡ r → ⊥
-  between n q k h m a b = prev-none (slot-at w) s n k h m (rw (a, b) (sym q))
+  between n q k h m a b = prev-above (slot-at w) s n k h m (rw (a, b) (sym q))
 
   pub seek-start : s ≡ slot-of l r → Seek w l r s (at w (HEADS + s))
   seek-start q =

@@ -15,7 +15,7 @@ use Rattle.layout.specs.Layout.{USED, COUNTS, LEFT, RIGHT, LOW, HIGH, NEXT, HEA
 use Rattle.layout.specs.Rows.{Row, parents-of, row-of, rows-of, new-row, length-of, slot-of, slot-at, prev, Chained, Distinct, Sound}
 use Rattle.cache_entries.specs.Contracts.{find-row, Inserted, Interned}
 use Rattle.cache_entries.proofs.Rows.{length-rows, counts-same, none-missing, find-low, find-has}
-use Rattle.cache_entries.proofs.Chain.{prev-same}
+use Rattle.layout.specs.Prev.{prev-same}
 
 module _ (w : List ℕ) (l r len n s : ℕ) (so : Sound w) (room : at w USED < ENTRIES) (new : find-row l r (rows-of w) ≡ none) (hn : n ≡ at w USED) (hs : s ≡ slot-of l r) where
   abbrev ss : List Store

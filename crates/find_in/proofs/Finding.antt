@@ -17,8 +17,9 @@ use Rattle.layout.specs.Layout.{ENTRIES}
 use Rattle.layout.specs.Rows.{stack-of, Sound}
 use Rattle.find_path.specs.declared.Path.{Path}
 use Rattle.find_path.specs.declared.Path.the-variants.{At, NoPath}
-use Rattle.find_path.specs.State.{parents-of-all, path-at}
-use Rattle.find_path.specs.Answers.{Kept, used, path-of, FoundPath}
+use Rattle.search_list.specs.State.{parents-of-all, path-at}
+use Rattle.search_list.specs.Steps.{Kept}
+use Rattle.find_path.specs.Answers.{used, path-of, FoundPath}
 use Rattle.find_path.specs.Answers as found
 use Rattle.stack.specs.Contracts.{marked-at}
 use Rattle.find_in.specs.Contracts.{LengthOf, steps-of, Ready, FindsIn}

@@ -21,7 +21,7 @@ use Rattle.layout.specs.Rows.{row-of, rows-of, parents-of, length-of, Sound}
 use Rattle.cache_entries.specs.declared.Found.{Found}
 use Rattle.cache_entries.specs.Contracts.{find-row, option-of}
 use Rattle.cache_entries.proofs.Rows.{find-low}
-use Rattle.find_path.specs.State.{parents-of-all}
+use Rattle.search_list.specs.State.{parents-of-all}
 use Rattle.tree_cache.specs.Meaning.{ATOM-KEY, bytes-named, entry-of, entry-or-none, Tables, Whole, Holds}
 use Rattle.tree_cache.specs.Contracts.{Stands}
 use Rattle.tree_cache.proofs.Lift.{length-map, length-rows, length-of-rows, parents-of-rows}

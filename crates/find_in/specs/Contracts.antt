@@ -16,8 +16,8 @@ use Rattle.layout.specs.Layout.{ENTRIES}
 use Rattle.layout.specs.Rows.{stack-of}
 use Rattle.find_path.specs.declared.Path.{Path}
 use Rattle.find_path.specs.declared.Path.the-variants.{At, NoPath}
-use Rattle.find_path.specs.State.{path-at, Readable}
-use Rattle.find_path.specs.Answers.{Kept}
+use Rattle.search_list.specs.State.{path-at, Readable}
+use Rattle.search_list.specs.Steps.{Kept}
 use Rattle.stack.specs.Contracts.{marked-at}
 use Rattle.tree_cache.specs.Meaning.{bytes-named, Tables, Holds}
 

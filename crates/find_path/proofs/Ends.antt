@@ -1,4 +1,4 @@
--- The first bit of a path that the search gives is set; so what is counted follows from the number of its bits.
+-- The first bit of a path that the search gives is set; so what is counted follows from the number of its bits. And what find_path answers.
 -- Assumes nothing.
 use native.Mathlib.Nat.{pow-suc}
 use mathlib.Core.Path.{_≡_, refl, sym, ap, subst, _∙_}
@@ -12,63 +12,16 @@ use lib.ListN.{length, getD, length-append}
 use lib.Seq.{take-all}
 use lib.Dec.{ltb, leb, eqb}
 use borrow.Author.Tests.{le-leb, eq-eqb, ne-eqb, lt-ltb, le-ltb, eqb-true}
-use Rattle.search.specs.Search.{Trail, atEntry, onStack, Parents, dropped, capped, member, distance, upward, sideward, moves, visit, step, search, most-visits}
 use Rattle.words.specs.Choice.{by-cond, cond-true, cond-false}
-use Rattle.words.specs.Lists.{All, all-append}
-use Rattle.search.specs.Induction.{StepOK, search-ok}
+use Rattle.search.specs.PathBits.{Ends, search-ends}
 use Rattle.path.specs.Bytes.{value, octets, path-bytes}
 use Rattle.path.specs.BytesLaws.{length-path-bytes}
 use Rattle.path.specs.Measure.{counted, counted-bytes}
 use Rattle.find_path.specs.declared.Way.the-variants.{By, Nothing}
 use Rattle.find_path.specs.declared.Path.the-variants.{At, NoPath}
-use Rattle.find_path.specs.State.{parents-of-all, path-at}
-use Rattle.find_path.specs.Answers.{Finds, used, FoundPath}
+use Rattle.search_list.specs.State.{parents-of-all, path-at}
+use Rattle.find_path.specs.Answers.{Finds, used, counted-of, FoundPath}
 use Rattle.layout.specs.Rows.{stack-of}
-use Rattle.find_path.specs.Bits.{counted-of}
-
-pub record Ends (bits : List Bool) : Type 0 where
-  pub steps : List Bool
-  pub ends : bits ≡ steps ++ true ∷ []
-
-ends-more : (b : Bool) (bits : List Bool) → Ends bits → Ends (b ∷ bits)
-ends-more b bits h = record { steps = b ∷ h .steps; ends = ap (λ (x : List Bool). b ∷ x) (h .ends) }
-
-abbrev Set : List ℕ → Trail → Type 0
-Set seen (atEntry bits x pos) = Ends (pos ∷ bits)
-Set seen (onStack bits d) = Ends bits
-
-set-upward : (seen seen′ : List ℕ) (bits : List Bool) → Ends bits → (qs : List (ℕ × Bool)) → All (Set seen′) (upward seen bits qs)
-set-upward seen seen′ bits h [] = tt
-set-upward seen seen′ bits h (q ∷ qs) =
-    by-cond (All (Set seen′)) (member (q .0) seen) (upward seen bits qs) (atEntry bits (q .0) (q .1) ∷ upward seen bits qs)
-    (λ c. set-upward seen seen′ bits h qs) (λ c. (ends-more (q .1) bits h, set-upward seen seen′ bits h qs))
-
-set-sideward : (seen : List ℕ) (bits : List Bool) → Ends bits → (o : Option ℕ) → All (Set seen) (sideward bits o)
-set-sideward seen bits h none = tt
-set-sideward seen bits h (some d) = (ends-more false bits h, tt)
-
-later : (seen seen′ : List ℕ) (q : Trail) → Set seen q → Set seen′ q
-later seen seen′ (atEntry bits x pos) h = h
-later seen seen′ (onStack bits d) h = h
-
-set-moves : (seen seen′ : List ℕ) (ps qs : List Trail) → All (Set seen′) ps → All (Set seen′) qs → StepOK Set Ends seen (moves ps qs seen′)
-set-moves seen seen′ [] qs h k = (k, later seen seen′)
-set-moves seen seen′ (p ∷ ps) qs h k = (h .0, all-append (Set seen′) ps qs (h .1) k, later seen seen′)
-
-module _ (parents : Parents) (stack : List ℕ) where
-  set-step : (seen : List ℕ) (p : Trail) → Set seen p → StepOK Set Ends seen (step parents stack seen p)
-  set-step seen (onStack bits zero) h = h
-  set-step seen (onStack bits (suc d)) h = (ends-more true bits h, tt, later seen seen)
-  set-step seen (atEntry bits x pos) h =
-      by-cond (StepOK Set Ends seen) (member x seen) (dropped [] seen) (cond (ltb (length seen) most-visits) (visit parents stack seen bits x pos) capped)
-      (λ c. (tt, later seen seen))
-      (λ c. by-cond (StepOK Set Ends seen) (ltb (length seen) most-visits) (visit parents stack seen bits x pos) capped
-      (λ c′. set-moves seen (x ∷ seen) (upward (x ∷ seen) (pos ∷ bits) (parents x)) (sideward (pos ∷ bits) (distance x stack))
-      (set-upward (x ∷ seen) (x ∷ seen) (pos ∷ bits) h (parents x)) (set-sideward (x ∷ seen) (pos ∷ bits) h (distance x stack)))
-      (λ c′. tt))
-
-  pub search-ends : (len e : ℕ) (bits : List Bool) → search parents stack len e ≡ some bits → Ends bits
-  search-ends len e bits q = search-ok Set Ends parents stack len e bits (λ L l seen p s h. set-step seen p h) (record { steps = []; ends = refl }) q
 
 -- ---- what is counted
 

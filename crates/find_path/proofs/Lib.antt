@@ -1,16 +1,2 @@
-pub mod CursorLaws
-pub mod Marks
-pub mod Nodes
-pub mod Trails
-pub mod Upward
-pub mod Room
-pub mod Least
-pub mod Copies
-pub mod Kept
-pub mod TurnLaws
 pub mod PassLaws
-pub mod BytesLaws
 pub mod Ends
-pub mod Zero
-pub mod Premises
-pub mod Unchanged

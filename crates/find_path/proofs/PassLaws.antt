@@ -17,23 +17,24 @@ use Rattle.words.specs.Lists.{All}
 use Rattle.search.specs.Lists.{AtLeast}
 use Rattle.search.specs.Enough.{passes-step, search-enough}
 use Rattle.words.specs.Words.{at, tabulate}
-use Rattle.find_path.specs.Cursor.{goes, Mid}
-use Rattle.find_path.proofs.CursorLaws.{at-end, all-longer}
-use Rattle.find_path.specs.declared.step.Turned.the-variants.{On, Result, Capped}
+use Rattle.search_list.specs.Cursor.{goes, Mid}
+use Rattle.search_list.proofs.CursorLaws.{at-end, all-longer}
+use Rattle.search_list.specs.declared.Turned.the-variants.{On, Result, Capped}
 use Rattle.find_path.specs.declared.Passing.the-variants.{Ended, Over, Next}
 use Rattle.find_path.specs.declared.Way.{Way}
 use Rattle.find_path.specs.declared.Way.the-variants.{By, Nothing}
 use Rattle.layout.specs.Layout.{SEEN, LENS, COUNTS, ENTRIES}
 use Rattle.path.specs.Bytes.{odd}
-use Rattle.find_path.specs.State.{seen-at, chain, node-bits, trail-of, trails-of, parents-of-all, seen-of, count-at}
-use Rattle.find_path.specs.Steps.{unseen, Links, Working, Stored, Turns, Passes, Started, Limit, Cleared}
-use Rattle.find_path.specs.Answers.{Kept, Finds}
+use Rattle.search_list.specs.State.{seen-at, chain, node-bits, trail-of, trails-of, parents-of-all, seen-of, count-at}
+use Rattle.search_list.specs.Steps.{unseen, Links, Working, Kept, Stored, Turns, Cleared}
+use Rattle.find_path.specs.Passes.{Passes, Started, Limit}
+use Rattle.find_path.specs.Answers.{Finds}
 use Rattle.layout.specs.Rows.{stack-of, Tops}
-use Rattle.find_path.proofs.Trails.{length-trails}
-use Rattle.find_path.proofs.Upward.{low-links, low-parents}
-use Rattle.find_path.proofs.Room.{unseen-same}
-use Rattle.find_path.proofs.Kept.{stack-same, low-tops}
-use Rattle.find_path.proofs.TurnLaws.{kept-none}
+use Rattle.search_list.proofs.Trails.{length-trails}
+use Rattle.search_list.proofs.Upward.{low-links, low-parents}
+use Rattle.search_list.proofs.Room.{unseen-same}
+use Rattle.search_list.proofs.Kept.{stack-same, low-tops}
+use Rattle.search_list.proofs.TurnLaws.{kept-none}
 
 pub kept-more : (w x y : List ℕ) → Kept w x → Kept x y → Kept w y
 kept-more w x y a b = record { low = λ k l. b .low k l ∙ a .low k l; high = λ k l. b .high k l ∙ a .high k l }

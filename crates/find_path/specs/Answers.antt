@@ -1,28 +1,20 @@
--- What the crate's functions answer: the search, the path that is used, and the path's bytes.
+-- What the crate's functions answer: the search, and the path that is used.
 -- Assumes nothing.
 use mathlib.Core.Path.{_≡_}
 use mathlib.Core.Bool.{Bool, cond}
 use mathlib.Core.List.{List}
 use mathlib.Core.Option.{Option, none, some}
-use Prim.Native.Nat.{ℕ, _+_, _/_, _≤_, _<_}
-use lib.Dec.{ltb}
-use lib.ListN.{length, take, drop}
-use Rattle.words.specs.Words.{at}
-use Rattle.path.specs.Bytes.{path-bytes}
-use Rattle.path.specs.Measure.{counted}
+use Prim.Native.Nat.{ℕ, _+_, _/_, _%_}
+use lib.Dec.{ltb, eqb}
+use Rattle.path.specs.Measure.{counted, counted-bytes}
 use Rattle.search.specs.Search.{search}
-use Rattle.layout.specs.Layout.{SEEN, COPIES}
 use Rattle.layout.specs.Rows.{stack-of}
 use Rattle.find_path.specs.declared.Way.{Way}
 use Rattle.find_path.specs.declared.Way.the-variants.{By, Nothing}
 use Rattle.find_path.specs.declared.Path.{Path}
 use Rattle.find_path.specs.declared.Path.the-variants.{At, NoPath}
-use Rattle.find_path.specs.State.{parents-of-all, path-at, Readable}
-
--- Nothing but the search's own words was touched.
-pub record Kept (w w′ : List ℕ) : Type 0 where
-  pub low : (k : ℕ) → k < SEEN → at w′ k ≡ at w k
-  pub high : (k : ℕ) → COPIES ≤ k → at w′ k ≡ at w k
+use Rattle.search_list.specs.State.{parents-of-all, path-at, Readable}
+use Rattle.search_list.specs.Steps.{Kept}
 
 -- ---- the search
 
@@ -48,6 +40,10 @@ abbrev pub used : (measure : List Bool → ℕ) → (len : ℕ) → Option (List
 used measure len none = none
 used measure len (some bits) = cond (ltb (measure bits) len) (some bits) none
 
+-- What `serialized_length` counts for a path of n bits, the first of which is set.
+abbrev pub counted-of : ℕ → ℕ
+counted-of n = counted-bytes (eqb (n % 8) 0) ((n + 7) / 8)
+
 abbrev pub path-of : List ℕ → Path → Option (List Bool)
 path-of w (At i) = some (path-at w i)
 path-of w NoPath = none
@@ -61,14 +57,3 @@ pub record FoundPath (w w′ : List ℕ) (d len e : ℕ) (r : Path) : Type 0 whe
   pub answer : used counted len (search (parents-of-all w) (stack-of w d) len e) ≡ path-of w′ r
   pub usable : Ready w′ r
   pub kept : Kept w w′
-
--- ---- its bytes
-
--- How many bytes path i has.
-abbrev pub bytes-at : List ℕ → ℕ → ℕ
-bytes-at w i = (length (path-at w i) + 7) / 8
-
--- The bytes of path i stand at the front of the output; the rest of it is as it was.
-pub record Written (w : List ℕ) (i : ℕ) (out out′ : List ℕ) : Type 0 where
-  pub bytes : take (bytes-at w i) out′ ≡ path-bytes (path-at w i)
-  pub rest : drop (bytes-at w i) out′ ≡ drop (bytes-at w i) out

@@ -1,5 +1,2 @@
-pub mod State
 pub mod Answers
-pub mod Cursor
-pub mod Steps
-pub mod Bits
+pub mod Passes

@@ -1,23 +1,19 @@
-// find_path of tree_cache.rs, over work: the search for a path to a subtree, and the bytes of the path.
-mod bits;
-pub mod list;
-mod step;
-
+// find_path of tree_cache.rs, over work: the search for a path to a subtree, and whether the path is used.
 use layout::EntryIndex;
 use layout::PREVS;
 use layout::SEEN;
-use step::Turned;
+use search_list::Turned;
 ghost use mathlib.Core.Path.{_≡_};
 ghost use mathlib.Core.List.{[]};
 ghost use Prim.Native.Nat.{_≤_, _<_};
 ghost use lib.ListN.{length};
 ghost use Rattle.layout.specs.Layout.{ENTRIES};
 ghost use Rattle.layout.specs.Rows.{Tops, Sound, all-counts};
-ghost use Rattle.find_path.specs.Cursor.{Mid};
-ghost use Rattle.find_path.specs.State.{trails-of, count-at, Readable};
-ghost use Rattle.find_path.specs.Steps.{Links, Working, Passes, Started, Limit, Cleared, unseen};
-ghost use Rattle.find_path.specs.Answers.{bytes-at, Finds, Written, FoundPath};
-ghost use Rattle.find_path.specs.Bits.{counted-of};
+ghost use Rattle.search_list.specs.Cursor.{Mid};
+ghost use Rattle.search_list.specs.State.{trails-of, count-at};
+ghost use Rattle.search_list.specs.Steps.{Links, Working, Cleared, unseen};
+ghost use Rattle.find_path.specs.Passes.{Passes, Started, Limit};
+ghost use Rattle.find_path.specs.Answers.{Finds, counted-of, FoundPath};
 
 // After a pass: the slot of the path that is the result; visit 1,025; how many paths and nodes there are for the next pass.
 pub enum Passing {
@@ -35,7 +31,7 @@ fn pass(work: &mut [u32], l: usize, count: usize, nodes: usize, d: usize) -> Pas
     let mut n = count;
     let mut m = nodes;
     while c < n {
-        match step::turn(work, l, c, n, m, d) {
+        match search_step::turn(work, l, c, n, m, d) {
             Turned::On(c2, n2, m2) => {
                 c = c2;
                 n = n2;
@@ -67,7 +63,7 @@ fn start(work: &mut [u32], e: u32)
 {
     clear_seen(work);
     work[layout::LENS] = 0;
-    list::put_path(work, 0, 0, e * 2 + 1, 0);
+    search_list::put_path(work, 0, 0, e * 2 + 1, 0);
 }
 
 // The last pass: 8 × (len - 1), or a number that no path's bits come to.
@@ -172,37 +168,11 @@ pub fn find_path(work: &mut [u32], e: EntryIndex, len: u64, depth: usize) -> Pat
 {
     match search(work, e, len, depth) {
         Way::By(i) => {
-            if wide_len(counted(list::size_of(work, i))) < len {
+            if wide_len(counted(search_list::size_of(work, i))) < len {
                 return Path::At(i);
             }
             Path::NoPath
         }
         Way::Nothing => Path::NoPath,
-    }
-}
-
-// The number of bytes of the path at a slot.
-pub fn path_length(work: &[u32], slot: usize) -> usize
-    requires { ⌜ (524288 ≤ length (now work)) × (Readable (now work) slot) ⌝ }
-    ensures { λ r. ⌜ (r ≡ bytes-at (now (work .entry)) slot) × (r ≤ 641) ⌝ }
-{
-    (list::size_of(work, slot) + 7) / 8
-}
-
-// The path at a slot, right-aligned in bytes, at the front of `out`.
-pub fn path_bytes(work: &[u32], slot: usize, out: &mut [u8])
-    requires { ⌜ (524288 ≤ length (now work)) × (Readable (now work) slot) × (bytes-at (now work) slot ≤ length (now out)) ⌝ }
-    ensures { λ _. ⌜ Written (now (work .entry)) slot (now (out .entry)) (now (out .exit)) ⌝ }
-{
-    let k = path_length(work, slot);
-    let mut x = list::wide(list::extra_of(work, slot));
-    let mut a = list::wide(list::node_of(work, slot));
-    let mut j = k;
-    while j > 0 {
-        let b = bits::next_byte(work, x, a);
-        out[j - 1] = b.v as u8;
-        x = b.x;
-        a = b.a;
-        j -= 1;
     }
 }

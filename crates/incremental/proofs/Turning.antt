@@ -20,7 +20,7 @@ use Rattle.serializer.specs.Loop.{turn-hole}
 use Rattle.layout.specs.Layout.{PAIR-COUNT, SENTINEL, STACK, WRITTEN}
 use Rattle.layout.specs.Rows.{stack-of}
 use Rattle.find_path.specs.declared.Path.{Path}
-use Rattle.find_path.specs.Answers.{Kept}
+use Rattle.search_list.specs.Steps.{Kept}
 use Rattle.stack.proofs.Stacks.{stacked-same, stack-same}
 use Rattle.stack.proofs.Marks.{marked-same}
 use Rattle.tree_cache.specs.Meaning.{Tables, Names, Whole, Holds}

@@ -29,7 +29,7 @@ use Rattle.serializer.specs.Loop.{turn-atom, turn-atom-ref, turn-pair-ref}
 use Rattle.layout.specs.Layout.{PAIR-COUNT, ENTRIES, DEPTH}
 use Rattle.find_path.specs.declared.Path.{Path}
 use Rattle.find_path.specs.declared.Path.the-variants.{At, NoPath}
-use Rattle.find_path.specs.State.{path-at}
+use Rattle.search_list.specs.State.{path-at}
 use Rattle.stack.specs.Contracts.{PushedMarked, marked-at}
 use Rattle.write_item.specs.declared.Put.{Put}
 use Rattle.write_item.specs.declared.Put.the-variants as item

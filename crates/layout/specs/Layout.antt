@@ -132,10 +132,6 @@ PATHS = 357678
 abbrev pub COPIES : ℕ
 COPIES = 367677
 
--- The end of the last region.
-abbrev pub END : ℕ
-END = 500301
-
 -- The most entries, and the slots of their table.
 abbrev pub ENTRIES : ℕ
 ENTRIES = 3072

@@ -100,12 +100,8 @@ pub const COPIES: usize = 367677;
 // An entry of the tree cache, by its number. A handle (NodePtr) and an entry number never stand for each other.
 pub struct EntryIndex(pub u32);
 
-// The most entries, the parents kept of each, and the slots of the table of entries.
+// The most entries.
 pub const ENTRIES: usize = 3072;
-
-pub const ROW: usize = 100;
-
-pub const SLOTS: usize = 4096;
 
 // The words of one undo copy.
 pub const COPY: usize = 8289;

@@ -15,8 +15,8 @@ use Rattle.atom.specs.WriteLaws.{put-none, put-full, put-room}
 use Rattle.write_atom.specs.Answers.{written}
 use Rattle.write_atom.specs.declared.write_atom.WriteAtom.{WriteAtom}
 use Rattle.write_atom.specs.declared.write_atom.WriteAtom.the-variants.{Next}
-use Rattle.path.specs.Builder.{Finished}
-use Rattle.path.specs.declared.path_builder.PathBuilder.{PathBuilder}
+use Rattle.path_builder.specs.Builder.{Finished}
+use Rattle.path_builder.specs.declared.PathBuilder.{PathBuilder}
 
 -- What `&s[..n]` asks of the part's length.
 pub counted : (n : ℕ) (l : List ℕ) → n ≤ length l → n ≡ length (take n l)

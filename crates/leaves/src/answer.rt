@@ -82,7 +82,7 @@ fn first_non_zero(payload: &[u8]) -> bool {
 
 // `s`: the value of the small atom, if it is one.
 fn small_value(payload: &[u8]) -> bool {
-    match allocator::fits_in_small_atom(payload) {
+    match small_atom::fits_in_small_atom(payload) {
         FitsInSmallAtom::Small(value) => print::decimal(value as u64),
         FitsInSmallAtom::Listed => print::none(),
     }
@@ -94,12 +94,12 @@ fn small_atom(value: u32) -> bool {
     if 1 << 26 <= value {
         return false;
     }
-    print::decimal(allocator::len_for_value(value) as u64);
+    print::decimal(small_atom::len_for_value(value) as u64);
     print::space();
-    let atom = allocator::small_atom_bytes(value);
+    let atom = small_atom::small_atom_bytes(value);
     let bytes = atom.bytes;
     let len = atom.len;
-    print::hex(allocator::as_ref(&bytes, len));
+    print::hex(small_atom::as_ref(&bytes, len));
     true
 }
 

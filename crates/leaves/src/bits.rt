@@ -1,10 +1,10 @@
 // The ops whose payload is a run of bits, or of operations on a set of bits.
 use crate::print;
-use path::path_builder::ChildPos;
-use path::path_builder::PathBuilder;
+use path_builder::ChildPos;
+use path_builder::PathBuilder;
 ghost use Prim.Native.Nat.{_*_, _≤_, _<_};
 ghost use lib.ListN.{length};
-ghost use Rattle.path.specs.Builder.{Sound};
+ghost use Rattle.path_builder.specs.Builder.{Sound};
 
 // The most bits of a path, and the bytes that hold as many.
 const MAX_BITS: usize = 5120;

@@ -12,7 +12,7 @@ use Rattle.words.specs.Lists.{same, same-refl, same-eq}
 use Rattle.words.specs.Words.{at}
 use Rattle.layout.specs.Layout.{ATOM-HEADS, ATOM-NEXT}
 use Rattle.layout.specs.Rows.{prev}
-use Rattle.stack.proofs.Prev.{prev-le, prev-prev, prev-slot, prev-above}
+use Rattle.layout.specs.Prev.{prev-le, prev-prev, prev-slot, prev-above}
 use Rattle.load.specs.Chains.{slot-of, first-of, chain-of, Loading}
 use Rattle.load.proofs.First.{not-true, first-of-le, first-of-bytes, first-of-equal, first-of-first}
 use Rattle.load.proofs.Slots.{slot-low, chain-first, chain-is-first}

@@ -11,7 +11,7 @@ use Rattle.words.proofs.Words.{Store, stores, Misses, miss, hits, length-stores
 use Rattle.atom.specs.Write.{serialized-length}
 use Rattle.layout.specs.Layout.{ATOMS, FIRST, ATOM-LENGTHS, ATOM-HEADS, ATOM-NEXT}
 use Rattle.layout.specs.Rows.{prev}
-use Rattle.stack.proofs.Prev.{prev-same, prev-here, prev-past}
+use Rattle.layout.specs.Prev.{prev-same, prev-here, prev-past}
 use Rattle.load.specs.Load.{atom-bytes, Inside, Ready, Kept, Loaded}
 use Rattle.load.specs.Chains.{slot-of, first-of, chain-of, Loading}
 use Rattle.load.proofs.First.{first-among, first-of-same}

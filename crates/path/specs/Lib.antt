@@ -5,5 +5,3 @@ pub mod BytesLaws
 pub mod Measure
 pub mod Traverse
 pub mod TraverseLaws
-pub mod Builder
-pub mod BuilderLaws

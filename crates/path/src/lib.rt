@@ -1,3 +1,2 @@
 pub mod bitset;
-pub mod path_builder;
 pub mod traverse_path;

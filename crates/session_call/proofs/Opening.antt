@@ -11,13 +11,11 @@ use Rattle.words.specs.Words.{at, part}
 use Rattle.words.specs.Lists.{all-at}
 use Rattle.words.proofs.Words.{part-length, put-length, put-at, put-other, Store, miss, hits}
 use Rattle.session_file.specs.File.{File}
-use Rattle.session_file.specs.Answers as file-answers
 use Rattle.session_file.specs.Places.{ListedAtom}
 use Rattle.session_file.specs.Checked.{Passed}
 use Rattle.session_file.specs.Loaded.{AtomPlace, AtomsLoaded, PairsLoaded}
 use Rattle.session_file.specs.declared.Checked.{Checked}
 use Rattle.layout.specs.Layout.{ATOMS, PAIRS, FIRST, ATOM-LENGTHS, ATOM-HEADS, ATOM-COUNT, PAIR-COUNT, SENTINEL, OPEN, PARENTS}
-use Rattle.tree_cache.specs.Meaning.{sentinel-word}
 use Rattle.load.specs.Load.{atom-bytes, Ready, Loaded}
 use Rattle.load.proofs.Tables.{table-firsts, table-lengths}
 use Rattle.session_call.specs.Opened.{TablesClear, Placed, Opened}
@@ -138,7 +136,7 @@ module _ (input : List ℕ) (f : File) (c : Checked) (p : Passed input f c) (w :
               record {
                 atom-count = count;
                 pair-count = hits put 1 w₁ (omega arith) (omega (arith, long₁)) (omega arith) ∙ p .pairs-are;
-                sentinel = hits put 2 w₁ (omega arith) (omega (arith, long₁)) tt ∙ p .sentinel-is ∙ word (f .sentinel);
+                sentinel = hits put 2 w₁ (omega arith) (omega (arith, long₁)) tt ∙ p .sentinel-is;
                 lefts = λ i l. low (PAIRS + 2 * i) (omega arith) ∙ pl .lefts i l;
                 rights = λ i l. low (PAIRS + 2 * i + 1) (omega arith) ∙ pl .rights i l;
                 firsts = λ i l. other (FIRST + i) (omega arith) ∙ table-firsts input w w₁ (f .atoms) bytes-are loaded i l;
@@ -157,7 +155,3 @@ module _ (input : List ℕ) (f : File) (c : Checked) (p : Passed input f c) (w :
           atoms-there = record { bytes = λ i l. rw (low (ATOMS + 2 * i) (omega arith), low (ATOMS + 2 * i + 1) (omega arith)) (pl .atoms i l .is) };
           zeros = λ k l b. later k l ∙ ld .kept .high k (omega arith) ∙ pl .zeros k (omega arith) b;
         }
-      where
-        word : (o : Option ℕ) → file-answers.sentinel-word o ≡ sentinel-word o
-        word none = refl
-        word (some h) = refl

@@ -125,7 +125,7 @@ fn begin(file: &[u8], work: &mut [u32], words: usize, records: usize) -> Begun
     if !long_enough(work.len(), words, records) {
         return refused(1);
     }
-    let checked = session_file::check(file);
+    let checked = check_file::check(file);
     if checked.number != 0 {
         return refused(checked.number);
     }

@@ -21,7 +21,7 @@ use Rattle.allocator.specs.declared.ObjectType.{ObjectType}
 use Rattle.allocator.specs.declared.ObjectType.the-variants.{Pair, Bytes, SmallAtom, Unknown}
 use Rattle.allocator.specs.declared.FitsInSmallAtom.{FitsInSmallAtom}
 use Rattle.allocator.specs.declared.FitsInSmallAtom.the-variants.{Small, Listed}
-use Rattle.session_file.specs.declared.fields.Part.{Part}
+use Rattle.session_file.specs.declared.Part.{Part}
 use Rattle.session_file.specs.File as format
 use Rattle.session_file.specs.File.{Got, got, refused, and-then, asked, bytes-of, field, count, version-1, listed, named, handle, one-pair, operand, one-step, add, restore}
 use Rattle.session_file.specs.Answers.{Answers, itself, sized, pair-word, sentinel-word, operand-word, atom-of}

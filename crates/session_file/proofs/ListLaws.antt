@@ -6,7 +6,7 @@ use mathlib.Core.List.{List, [], _∷_, _++_}
 use native.Mathlib.Omega.{arith}
 use lib.ListN.{length, drop, length-drop, length-append, drop-of-length-le}
 use lib.Seq.{drop-cons}
-use Rattle.session_file.specs.declared.fields.Part.{Part}
+use Rattle.session_file.specs.declared.Part.{Part}
 use Rattle.session_file.specs.File.{Got, got, and-then, version-1, atom, atoms, Pair, one-pair, pairs, Step, add, restore, one-step, steps}
 use Rattle.session_file.specs.Answers.{Answers, sized, pair-word, operand-word, counted}
 use Rattle.session_file.specs.Places.{step-size}

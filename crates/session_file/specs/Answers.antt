@@ -6,7 +6,7 @@ use mathlib.Core.Option.{Option, none, some}
 use lib.Dec.{leb}
 use lib.ListN.{length, drop}
 use Rattle.allocator.specs.SmallAtom.{fits-in-small-atom}
-use Rattle.session_file.specs.declared.fields.Part.{Part}
+use Rattle.session_file.specs.declared.Part.{Part}
 use Rattle.session_file.specs.File.{Got, got, refused, and-then, asked, bytes-of, listed, Pair, Step, add, restore}
 
 -- A value that was read, as the word v, with the bytes after it.

@@ -1,4 +1,3 @@
-pub mod Prev
 pub mod Stacks
 pub mod Marks
 pub mod Copied

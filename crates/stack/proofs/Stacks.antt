@@ -13,7 +13,7 @@ use Rattle.words.proofs.Words.{Store, stores, miss, hits}
 use Rattle.layout.specs.Layout.{STACK, BELOW, TOPS, WRITTEN, ENTRIES, DEPTH}
 use Rattle.layout.specs.Rows.{prev, stack-of, Tops}
 use Rattle.stack.specs.Contracts.{Stacked, StackOnly, Pushed, Popped, PoppedTwo, PushedAll}
-use Rattle.stack.proofs.Prev.{prev-le, prev-same, prev-here, prev-past, prev-holds, prev-above}
+use Rattle.layout.specs.Prev.{prev-le, prev-same, prev-here, prev-past, prev-holds, prev-above}
 
 -- What the search asks of TOPS.
 pub stacked-tops : (w : List ℕ) (d : ℕ) → Stacked w d → Tops w d

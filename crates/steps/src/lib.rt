@@ -166,13 +166,13 @@ fn add(file: &[u8], work: &mut [u32], output: &mut [u8], p: Progress, node: Node
     ensures { λ q. ⌜ Added (now (file .entry)) (now (work .entry)) (now (output .entry)) (now (work .exit)) (now (output .exit)) p node q ⌝ }
 {
     stack::save(work, p.adds, p.opens, p.depth);
-    tree_cache::update(work, node);
+    cache_update::update(work, node);
     let place = Place {
         opens: p.opens,
         depth: p.depth,
         size: p.size,
     };
-    let o = incremental::resume(work, file, output, place, node);
+    let o = resume::resume(work, file, output, place, node);
     after_outcome(p, o)
 }
 

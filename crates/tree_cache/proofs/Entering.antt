@@ -17,7 +17,8 @@ use Rattle.session_file.specs.Unfold.{Unfolded, hole, leaf, node, is-sentinel, 
 use Rattle.session_file.specs.UnfoldLaws.{unfolded-sentinel, unfolded-listed, unfolded-small, unfolded-pair}
 use Rattle.serializer.specs.Cache.{Cache, lookup, atom-key, find-or-add, meet-sentinel, join-pair, known-or, enter}
 use Rattle.layout.specs.Layout.{PAIRS, ATOM-COUNT, PAIR-COUNT, SENTINEL, MAPS, USED, ENTRIES}
-use Rattle.tree_cache.specs.Meaning.{bytes-named, sentinel-word, no-pair, Tables, Names, entry-or-none, unmapped, Whole, Holds}
+use Rattle.session_file.specs.Answers.{sentinel-word}
+use Rattle.tree_cache.specs.Meaning.{bytes-named, no-pair, Tables, Names, entry-or-none, unmapped, Whole, Holds}
 use Rattle.tree_cache.specs.Contracts.{Action, sentinel-action, atom-action, join-action, enter-action, Acts, Made, Joined, span, Bounded, Entered, Room}
 use Rattle.tree_cache.proofs.Frames.{tables-kept, unmapped-same, unmapped-above, unmapped-more, unmapped-none, unmapped-grows}
 

@@ -8,12 +8,8 @@ use lib.ListN.{length}
 use Rattle.words.specs.Words.{at}
 use Rattle.words.proofs.Words.{part-same, tabulate-same}
 use Rattle.layout.specs.Layout.{USED, COUNTS, LEFT, RIGHT, LOW, HIGH, NEXT, HEADS, PARENTS, SEEN, ENTRIES}
+use Rattle.layout.specs.Prev.{prev-same}
 use Rattle.layout.specs.Rows.{parents-of, row-of, rows-of, slot-at, prev, Chained, Distinct, Sound, all-counts}
-
-prev-same : (f g : ℕ → ℕ) (s n : ℕ) → ((k : ℕ) → k < n → f k ≡ g k) → prev f s n ≡ prev g s n
-unfolding prev
-prev-same f g s zero h = refl
-prev-same f g s (suc n) h = rw (h n (omega arith), prev-same f g s n (λ k q. h k (omega arith)))
 
 module _ (w w′ : List ℕ) (len : length w′ ≡ length w) (same : (k : ℕ) → USED ≤ k → k < SEEN → at w′ k ≡ at w k) (so : Sound w) where
   pub used-kept : at w′ USED ≡ at w USED

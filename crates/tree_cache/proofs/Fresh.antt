@@ -16,7 +16,8 @@ use Rattle.session_file.specs.File.{File, named}
 use Rattle.serializer.specs.Cache.{fresh}
 use Rattle.layout.specs.Layout.{FIRST, PAIR-COUNT, SENTINEL, MAPS, SENTINEL-ENTRY, USED, COUNTS, HEADS, PARENTS, ENTRIES}
 use Rattle.layout.specs.Rows.{rows-of, prev, Chained, Sound, all-counts}
-use Rattle.tree_cache.specs.Meaning.{first-same, sentinel-word, no-pair, Tables, Handles, Names, unmapped, Whole, Holds}
+use Rattle.session_file.specs.Answers.{sentinel-word}
+use Rattle.tree_cache.specs.Meaning.{first-same, no-pair, Tables, Handles, Names, unmapped, Whole, Holds}
 use Rattle.tree_cache.proofs.Atoms.{first-found}
 
 -- ---- the tables of a file are sound handles

@@ -13,6 +13,7 @@ use Rattle.atom.specs.Write.{serialized-length}
 use Rattle.allocator.specs.Handle.{Node, pair, listed-atom, small-atom, unknown, node-of}
 use Rattle.allocator.specs.SmallAtom.{small-bytes, fits-in-small-atom}
 use Rattle.session_file.specs.File.{File, Pair, named}
+use Rattle.session_file.specs.Answers.{sentinel-word}
 use Rattle.serializer.specs.Cache.{Key, sentinel-key, atom-key, pair-key, Entry, Cache, lookup}
 use Rattle.layout.specs.Layout.{PAIRS, FIRST, ATOM-LENGTHS, ATOM-COUNT, PAIR-COUNT, SENTINEL, MAPS, SENTINEL-ENTRY, USED, LEFT, RIGHT, ENTRIES}
 use Rattle.layout.specs.Rows.{Row, rows-of, Sound}
@@ -47,10 +48,6 @@ entry-of f x = record { key = key-of f (x .left) (x .right); parents = x .parent
 abbrev pub first-same : List ℕ → List (List ℕ) → ℕ
 first-same bytes [] = 0
 first-same bytes (a ∷ atoms) = cond (same a bytes) 0 (suc (first-same bytes atoms))
-
-abbrev pub sentinel-word : Option ℕ → ℕ
-sentinel-word none = 0xffffffff
-sentinel-word (some h) = h
 
 abbrev pub no-pair : Pair
 no-pair = record { left = 0; right = 0 }

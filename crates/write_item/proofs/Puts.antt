@@ -20,8 +20,8 @@ use Rattle.atom.specs.Write.{next, full, too-long, Written, put}
 use Rattle.atom.specs.WriteLaws.{encode-some, length-encoded, put-full, put-room, paste-paste}
 use Rattle.path.specs.Bytes.{path-bytes}
 use Rattle.path.specs.BytesLaws.{length-path-bytes}
-use Rattle.find_path.specs.State.{path-at}
-use Rattle.find_path.specs.Answers as path-read
+use Rattle.search_list.specs.State.{path-at}
+use Rattle.path_bytes.specs.Bits as path-read
 use Rattle.serializer.specs.Items.{bytes-or-none, reference-item, item-bytes}
 
 -- One byte stored is one byte pasted.

@@ -14,7 +14,7 @@ ghost use Rattle.atom.specs.Write.{put};
 ghost use Rattle.path.specs.Bytes.{«path-bytes»};
 ghost use Rattle.allocator.specs.SmallAtom.{«small-bytes»};
 ghost use Rattle.search.specs.PathBits.{Ends};
-ghost use Rattle.find_path.specs.State.{Readable, «path-at»};
+ghost use Rattle.search_list.specs.State.{Readable, «path-at»};
 ghost use Rattle.serializer.specs.Items.{«cons-item», «atom-item», «reference-item», «item-bytes»};
 ghost use Rattle.write_item.specs.Answers.{written};
 
@@ -68,10 +68,10 @@ pub fn write_small(output: &mut [u8], size: usize, value: u32) -> Put
     requires { ⌜ value < 2 ^ 26 ⌝ }
     ensures { λ r. ⌜ written r (now (output .exit)) ≡ put (now (output .entry)) size (some («item-bytes» («atom-item» («small-bytes» value)))) ⌝ }
 {
-    let small = allocator::small_atom_bytes(value);
+    let small = small_atom::small_atom_bytes(value);
     let bytes = small.bytes;
     let len = small.len;
-    write_listed(output, size, allocator::as_ref(&bytes, len))
+    write_listed(output, size, small_atom::as_ref(&bytes, len))
 }
 
 // How many bits the path at a slot has.
@@ -79,7 +79,7 @@ fn path_bits(work: &[u32], slot: usize) -> usize
     requires { ⌜ (524288 ≤ length (now work)) × (Readable (now work) slot) ⌝ }
     ensures { λ r. ⌜ (r ≡ length («path-at» (now (work .entry)) slot)) × (r ≤ 8192) ⌝ }
 {
-    find_path::list::size_of(work, slot)
+    search_list::size_of(work, slot)
 }
 
 // The width of the prefix of a path of so many bits, the first of which is set: below 8 of them it is one byte that stands for itself.
@@ -99,7 +99,7 @@ fn put_path(work: &[u32], slot: usize, output: &mut [u8], start: usize, count: u
     ensures { λ _. ⌜ now (output .exit) ≡ paste (now (output .entry)) start («path-bytes» («path-at» (now (work .entry)) slot)) count ⌝ }
 {
     let end = start + count;
-    find_path::path_bytes(work, slot, &mut output[start..end]);
+    path_bytes::path_bytes(work, slot, &mut output[start..end]);
 }
 
 // A reference to the path at a slot, for which there is room: its mark, the prefix, and the path's bytes.

@@ -1,10 +1,8 @@
 -- `find_path::clear_seen` meets its contract: the words of the bit set come back zero.
 -- Assumes nothing.
-use lib.ListN.{replicate}
-use Prim.Native.Nat.{ℕ}
-use mathlib.Core.Path.{_∙_, ap}
+use mathlib.Core.Path.{_∙_}
 use Rattle.words.specs.Words.{part}
-use Rattle.find_path.proofs.Marks.{seen-length, cleared}
+use Rattle.search_list.proofs.Marks.{seen-length, cleared}
 use borrow.Author.Needs.{needs}
 use Rattle.find_path.proofs.clear_seen.Statement.{statement}
 use Rattle.find_path.proofs.clear_seen.Tie as tie
@@ -30,7 +28,7 @@ returns c =
     let s = c .before .before .before .before .before in
     let r = c .before .before .clear in
     let long = seen-length (s .args .work .now) (s .pre) in
-    cleared (s .args .work .now) (r .last .0) (s .pre) (r .kept .0 ∙ long) (r .ensures ∙ ap (λ (k : ℕ). replicate k 0) long)
+    cleared (s .args .work .now) (r .last .0) (s .pre) (r .kept .0 ∙ long) _ long (r .ensures)
 
 pub clear-seen-spec : {M : Type 1} → statement M
 clear-seen-spec =

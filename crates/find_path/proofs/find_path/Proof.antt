@@ -2,7 +2,7 @@
 -- Assumes nothing.
 use native.Mathlib.Omega.{arith}
 use mathlib.Core.Path.{_∙_}
-use Rattle.find_path.proofs.BytesLaws.{readable-size}
+use Rattle.search_list.proofs.Trails.{readable-size}
 use Rattle.find_path.proofs.Ends.{path-none, path-long, path-used}
 use borrow.Author.Needs.{needs}
 use Rattle.find_path.proofs.find_path.Statement.{statement}

@@ -2,8 +2,8 @@
 -- Assumes nothing.
 use borrow.Author.Needs.{needs}
 use Rattle.find_path.proofs.PassLaws.{Walking, walking-start, walking-more, walking-result, walking-capped, walking-end}
-use Rattle.find_path.specs.Cursor.{ahead}
-use Rattle.find_path.specs.State.{trails-of}
+use Rattle.search_list.specs.Cursor.{ahead}
+use Rattle.search_list.specs.State.{trails-of}
 use mathlib.Core.Path.{_∙_}
 use Rattle.find_path.proofs.pass.Statement.{statement}
 use Rattle.find_path.proofs.pass.Tie as tie

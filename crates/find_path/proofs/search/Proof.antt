@@ -2,7 +2,7 @@
 -- Assumes nothing.
 use native.Mathlib.Omega.{arith}
 use Rattle.layout.specs.Layout.{ENTRIES}
-use Rattle.find_path.proofs.Premises.{sound-links, unseen-all}
+use Rattle.search_list.proofs.Premises.{sound-links, unseen-all}
 use borrow.Author.Needs.{needs}
 use Rattle.find_path.proofs.search.Statement.{statement}
 use Rattle.find_path.proofs.search.Tie as tie

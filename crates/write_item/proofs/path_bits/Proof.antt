@@ -2,7 +2,7 @@
 -- Assumes nothing.
 use mathlib.Core.Path.{_∙_}
 use native.Mathlib.Omega.{arith}
-use Rattle.find_path.proofs.BytesLaws.{readable-size}
+use Rattle.search_list.proofs.Trails.{readable-size}
 use Rattle.write_item.proofs.path_bits.Statement.{statement}
 use Rattle.write_item.proofs.path_bits.Tie as tie
 

@@ -8,7 +8,7 @@ use lib.Seq.{paste}
 use lib.ListN.{length-set}
 use borrow.Author.Needs.{needs}
 use Rattle.path.specs.Bytes.{path-bytes}
-use Rattle.find_path.specs.State.{path-at}
+use Rattle.search_list.specs.State.{path-at}
 use Rattle.write_item.proofs.put_reference.Statement.{statement}
 use Rattle.write_item.proofs.put_reference.Tie as tie
 

@@ -5,7 +5,7 @@ use mathlib.Core.Path.{ap}
 use native.Mathlib.Omega.{arith}
 use lib.ListN.{length}
 use borrow.Author.Needs.{needs}
-use Rattle.find_path.specs.State.{path-at}
+use Rattle.search_list.specs.State.{path-at}
 use Rattle.write_item.proofs.Puts.{no-room, has-room, reference-full, reference-next}
 use Rattle.write_item.proofs.write_reference.Statement.{statement}
 use Rattle.write_item.proofs.write_reference.Tie as tie

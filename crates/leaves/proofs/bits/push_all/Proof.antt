@@ -5,7 +5,7 @@ use mathlib.Core.Path.{_≡_, ap, _∙_}
 use lib.ListN.{length}
 use native.Mathlib.Omega.{arith}
 use borrow.Author.Needs.{needs}
-use Rattle.path.specs.Builder.{Sound, built}
+use Rattle.path_builder.specs.Builder.{Sound, built}
 use Rattle.leaves.proofs.bits.push_all.Statement.{statement}
 use Rattle.leaves.proofs.bits.push_all.Tie as tie
 

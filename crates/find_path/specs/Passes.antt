@@ -1,0 +1,47 @@
+-- What a pass and the start of a search leave, and the last pass.
+-- Assumes nothing.
+use mathlib.Core.Path.{_≡_}
+use mathlib.Core.Bool.{true}
+use mathlib.Core.List.{List, [], _∷_}
+use Prim.Native.Nat.{ℕ, _+_, _*_, _-_, _≤_, _<_}
+use Rattle.search.specs.Search.{atEntry, Passed, found, gone, left}
+use Rattle.layout.specs.Rows.{stack-of}
+use Rattle.search_list.specs.State.{parents-of-all, seen-of, path-at, trails-of, Readable}
+use Rattle.search_list.specs.Cursor.{goes, Mid}
+use Rattle.search_list.specs.Steps.{Kept, Nodes, PathsOK, Working}
+use Rattle.find_path.specs.declared.Passing.{Passing}
+use Rattle.find_path.specs.declared.Passing.the-variants.{Ended, Over, Next}
+
+-- ---- a pass
+
+-- How a pass ended.
+abbrev pub ended : List ℕ → Passing → Passed
+ended w (Ended i) = found (path-at w i)
+ended w Over = gone
+ended w (Next n m) = left (trails-of w n) (seen-of w m)
+
+-- The words are sound for the next pass, L.
+abbrev pub After : List ℕ → ℕ → ℕ → Passing → Type 0
+After w d L (Ended i) = Readable w i
+After w d L Over = Unit {0}
+After w d L (Next n m) = Working w d n m × Mid L (trails-of w n) 0
+
+pub record Passes (w w′ : List ℕ) (d L n m : ℕ) (r : Passing) : Type 0 where
+  pub same : goes (parents-of-all w) (stack-of w d) L (trails-of w n) 0 (seen-of w m) ≡ ended w′ r
+  pub fine : After w′ d (L + 1) r
+  pub kept : Kept w w′
+
+-- ---- the start
+
+-- The start of a search for entry e.
+pub record Started (w w′ : List ℕ) (e : ℕ) : Type 0 where
+  pub nodes : Nodes w′ 0
+  pub paths : PathsOK w′ 0 1
+  pub trails : trails-of w′ 1 ≡ atEntry [] e true ∷ []
+  pub kept : Kept w w′
+
+-- The last pass: no path has more than 8,192 bits.
+pub record Limit (len r : ℕ) : Type 0 where
+  pub most : r ≤ 8192
+  pub exact : 8 * (len - 1) ≤ 8192 → r ≡ 8 * (len - 1)
+  pub beyond : 8192 < 8 * (len - 1) → r ≡ 8192

@@ -1,0 +1,3 @@
+pub mod Aligning
+pub mod Building
+pub mod Counting

@@ -1,0 +1,164 @@
+// Builds a path backwards, from the target. The bytes are big-endian, the left-most at index 0, and the path is built from left to right, since
+// it is followed from right to left. The store is lent, one byte in each word.
+ghost use mathlib.Core.Path.{_≡_};
+ghost use mathlib.Core.List.{List};
+ghost use Prim.Native.Nat.{ℕ, _+_, _%_, _≤_, _<_};
+ghost use lib.Dec.{eqb};
+ghost use lib.ListN.{length, take, drop};
+ghost use Rattle.words.specs.Lists.{Bytes};
+ghost use Rattle.path.specs.Bytes.{bit, value, octets, all-bits};
+ghost use Rattle.path.specs.Measure.{counted};
+ghost use Rattle.path_builder.specs.Builder.{right, built, Counts, Sound, Fresh, Room, Pushed, Aligned, Finished};
+
+pub enum ChildPos {
+    Left,
+    Right,
+}
+
+pub struct PathBuilder {
+    pub in_use: u32,
+    // the place that the next bit goes to (counts down)
+    pub bit_pos: u8,
+}
+
+fn wide(x: u32) -> usize
+    ensures { λ r. ⌜ r ≡ x ⌝ }
+{
+    x as usize
+}
+
+// The bit of a step.
+fn bit_of(dir: ChildPos) -> u32
+    ensures { λ r. ⌜ r ≡ bit (right dir) ⌝ }
+{
+    match dir {
+        ChildPos::Left => 0,
+        ChildPos::Right => 1,
+    }
+}
+
+// The place below; after place 0 it is place 7 of the next byte.
+fn next_place(place: u8) -> u8
+    requires { ⌜ place < 8 ⌝ }
+    ensures { λ r. ⌜ r ≡ (place + 7) % 8 ⌝ }
+{
+    if place == 0 { 7 } else { place - 1 }
+}
+
+// Byte i, with all bits up to it shifted to the right by r places.
+fn shifted(store: &[u32], i: usize, r: u32) -> u32
+    requires { ⌜ (i < length (now store)) × (r ≤ 8) × (Bytes (take (i + 1) (now store))) ⌝ }
+    ensures { λ v. ⌜ v ≡ value (take 8 (drop r (all-bits (take (i + 1) (now (store .entry)))))) ⌝ }
+{
+    let x = store[i];
+    if i == 0 {
+        return x >> r;
+    }
+    let y = store[i - 1];
+    (x >> r) + ((y % (1 << r)) << (8 - r))
+}
+
+// Shifts the first n bytes to the right by r places, from the last byte down.
+fn right_align(store: &mut [u32], n: usize, r: u32)
+    requires { ⌜ (n ≤ length (now store)) × (r ≤ 8) × (Bytes (take n (now store))) ⌝ }
+    ensures { λ _. ⌜ Aligned (now (store .entry)) n r (now (store .exit)) ⌝ }
+{
+    let mut j = n;
+    while 0 < j {
+        j -= 1;
+        let b = shifted(store, j, r);
+        store[j] = b;
+    }
+}
+
+impl PathBuilder {
+    // No bits.
+    pub fn new() -> PathBuilder
+        ensures { λ r. ⌜ Fresh r ⌝ }
+    {
+        PathBuilder {
+            in_use: 0,
+            bit_pos: 7,
+        }
+    }
+
+    // One bit more. A new byte is stored, not added to: nothing is assumed of the words after the bytes in use.
+    pub fn push(self, store: &mut [u32], dir: ChildPos) -> PathBuilder
+        requires { ⌜ (Sound (now store) self) × (Room (now store) self) ⌝ }
+        ensures { λ r. ⌜ Pushed (now (store .entry)) self (right dir) (now (store .exit)) r ⌝ }
+    {
+        let bit = bit_of(dir);
+        let n = wide(self.in_use);
+        let place = self.bit_pos;
+        if place == 7 {
+            store[n] = bit << 7;
+            return PathBuilder {
+                in_use: self.in_use + 1,
+                bit_pos: 6,
+            };
+        }
+        let x = store[n - 1];
+        store[n - 1] = x + (bit << (place as u32));
+        PathBuilder {
+            in_use: self.in_use,
+            bit_pos: next_place(place),
+        }
+    }
+
+    // Right-aligns the path in place: its bytes are the first words of the store, as many as are returned.
+    pub fn done(self, store: &mut [u32]) -> usize
+        requires { ⌜ Sound (now store) self ⌝ }
+        ensures { λ r. ⌜ Finished (now (store .entry)) self (now (store .exit)) r ⌝ }
+    {
+        let n = wide(self.in_use);
+        let place = self.bit_pos;
+        if place == 7 {
+            return n;
+        }
+        right_align(store, n, place as u32 + 1);
+        n
+    }
+
+    // Whether there are no bits.
+    pub fn is_empty(self) -> bool
+        requires { ⌜ Counts self ⌝ }
+        ensures { λ r. ⌜ ((store : List ℕ) → Sound store self → r ≡ eqb (length (built store self)) 0) ⌝ }
+    {
+        self.len() == 0
+    }
+
+    // The number of bits.
+    pub fn len(self) -> u32
+        requires { ⌜ Counts self ⌝ }
+        ensures { λ r. ⌜ ((store : List ℕ) → Sound store self → r ≡ length (built store self)) ⌝ }
+    {
+        if self.bit_pos == 7 {
+            self.in_use * 8
+        } else {
+            self.in_use * 8 - self.bit_pos as u32 - 1
+        }
+    }
+
+    // The number of bytes that the path's atom is counted at. The ranges are the Rust's, and its 80 is decimal.
+    pub fn serialized_length(self, store: &[u32]) -> u32
+        requires { ⌜ Sound (now store) self ⌝ }
+        ensures { λ r. ⌜ r ≡ counted (built (now (store .entry)) self) ⌝ }
+    {
+        let len = self.in_use;
+        match len {
+            0 => 1,
+            1 => {
+                if self.bit_pos == 7 && store[0] >= 80 {
+                    2
+                } else {
+                    1
+                }
+            }
+            2..=0x3f => 1 + len,
+            0x40..=0x1ff => 2 + len,
+            0x200..=0xfffff => 3 + len,
+            0x1000000..=0x7ffffff => 4 + len,
+            _ => 5 + len,
+        }
+    }
+}

@@ -1,0 +1,160 @@
+-- What rests on the words below the search's own.
+-- Assumes nothing.
+use mathlib.Core.Path.{_≡_, refl, sym, ap, ap₂, subst, _∙_}
+use mathlib.Core.Bool.{Bool}
+use mathlib.Core.List.{List, _∷_, _++_, append-assoc}
+use mathlib.Core.Option.{Option, none, some}
+use Prim.Native.Nat.{ℕ, zero, suc, _+_, _*_, _-_, _≤_, _<_}
+use native.Mathlib.Omega.{arith}
+use lib.ListN.{length, getD, set, drop, length-append, List·getD-append, length-set, length-drop}
+use Rattle.search.specs.Search.{Trail, upward, sideward, distance}
+use Rattle.search.specs.Flat.{swap-remove}
+use Rattle.words.specs.Words.{at}
+use Rattle.layout.specs.Layout.{PARENTS, COUNTS, STACK, SEEN, PATHS, DEPTH, ENTRIES, TOPS}
+use Rattle.search_list.specs.State.{seen-of, node-bits, trail, trail-of, trails-of, count-at}
+use Rattle.search_list.specs.Steps.{Links, Nodes, PathsOK, Stored, Relisted}
+use Rattle.layout.specs.Rows.{parents-of, stack-of, Tops}
+use Rattle.search_list.proofs.Nodes.{low-bits, low-seen, low-nodes}
+use Rattle.search_list.proofs.Trails.{store-at, length-trails, at-trails}
+use Rattle.search_list.proofs.Upward.{length-upward, low-links, low-links-of, length-links}
+
+pub stack-same : (w w′ : List ℕ) (d : ℕ) → ((k : ℕ) → k < SEEN → at w′ k ≡ at w k) → d ≤ DEPTH → stack-of w′ d ≡ stack-of w d
+unfolding stack-of
+stack-same w w′ zero low h = refl
+stack-same w w′ (suc d) low h = ap₂ {C = List ℕ} (λ v r. v ∷ r) (low (STACK + d) (omega arith)) (stack-same w w′ d low (omega arith))
+
+pub low-tops : (w w′ : List ℕ) (d : ℕ) → ((k : ℕ) → k < SEEN → at w′ k ≡ at w k) → Tops w d → Tops w′ d
+low-tops w w′ d low t = record {
+  deep = t .deep;
+  tops = λ x h. rw (low (TOPS + x) (omega arith)) (t .tops x h);
+  holds = λ x h q.
+      let e : at w′ (TOPS + x) ≡ at w (TOPS + x) = low (TOPS + x) (omega arith) in
+      let b : at w (TOPS + x) ≤ d = t .tops x h in
+      let b′ : d ≤ DEPTH = t .deep in
+      rw e (low (STACK + (at w (TOPS + x) - 1)) (omega arith) ∙ t .holds x h (omega arith));
+  above = λ x j h q l g.
+      let e : at w′ (TOPS + x) ≡ at w (TOPS + x) = low (TOPS + x) (omega arith) in
+      let b′ : d ≤ DEPTH = t .deep in
+      t .above x j h (omega arith) l (sym (low (STACK + j) (omega arith)) ∙ g);
+}
+
+-- The list alone was changed.
+module _ (w w′ : List ℕ) (m : ℕ) (low : (k : ℕ) → k < PATHS → at w′ k ≡ at w k) (len : length w′ ≡ length w) where
+  pub re-low : (k : ℕ) → k < SEEN → at w′ k ≡ at w k
+  re-low k l = low k (omega arith)
+
+  pub re-links : Links w → Links w′
+  re-links ok = low-links w w′ ok (λ k l. low k (omega arith)) len
+
+  pub re-tops : (d : ℕ) → Tops w d → Tops w′ d
+  re-tops d t = low-tops w w′ d re-low t
+
+  pub re-nodes : Nodes w m → Nodes w′ m
+  re-nodes ok = low-nodes w w′ m ok low
+
+-- ---- a path goes up
+
+module _ (w x y z : List ℕ) (c n m e k d v n₂ n₃ : ℕ) (links : Links w) (tops : Tops w d) (nodes : Nodes w m) (paths : PathsOK w m n)
+    (hc : c < n) (he : e < ENTRIES) (hk : k < count-at w e) (room : n + (count-at w e - k) ≤ 3333) (ev : v ≡ at w (PARENTS + e * 100 + k))
+    (s : Stored w x c m v 0) (lx : length x ≡ length w) where
+  few : n ≤ 3333
+  few = omega arith
+
+  hv : v < 2 * ENTRIES
+  hv = subst (λ (q : ℕ). q < 2 * ENTRIES) (sym ev) (links .links e k he hk)
+
+  first : Relisted w x m n (set (trails-of w n) c (trail 0 (node-bits w m) v))
+  first = store-at w x m c m v 0 nodes s (omega arith) (λ q. hv) (λ q. absurd (omega arith)) n hc few paths
+
+  count-x : count-at x e ≡ count-at w e
+  count-x = first .low (COUNTS + e) (omega arith)
+
+  pub up-asks : (Links x × Nodes x m × PathsOK x m n) × (e < ENTRIES × k + 1 ≤ count-at x e × n + (count-at x e - (k + 1)) ≤ 3333)
+  up-asks = let q = count-x in ((re-links w x m (first .low) lx links, re-nodes w x m (first .low) lx nodes, first .paths), (he, omega arith, omega arith))
+
+  module _ (r : Relisted x y m n₂ (trails-of x n ++ upward (seen-of x m) (node-bits x m) (drop (k + 1) (parents-of x e)))) (ly : length y ≡ length x) where
+    S : List ℕ
+    S = seen-of w m
+
+    B : List Bool
+    B = node-bits w m
+
+    up : List Trail
+    up = upward S B (drop (k + 1) (parents-of w e))
+
+    second : trails-of y n₂ ≡ set (trails-of w n) c (trail 0 (node-bits w m) v) ++ up
+    unfolding S B up
+    second =
+        r .trails
+        ∙ ap (λ (t : List Trail). t ++ upward (seen-of x m) (node-bits x m) (drop (k + 1) (parents-of x e))) (first .trails)
+        ∙ rw (low-seen w x m nodes (first .low), low-bits w x m nodes (first .low) m (omega arith), low-links-of w x links (λ j l. first .low j (omega arith)) lx e he)
+
+    low-y : (j : ℕ) → j < PATHS → at y j ≡ at w j
+    low-y j l = r .low j l ∙ first .low j l
+
+    length-drop-links : length up ≤ count-at w e - (k + 1)
+    unfolding S B up
+    length-drop-links =
+        omega (arith, length-upward (seen-of w m) (node-bits w m) (drop (k + 1) (parents-of w e)), length-drop (k + 1) (parents-of w e), length-links w e links he)
+
+    pub up-count : n₂ ≤ n + (count-at w e - (k + 1))
+    up-count =
+        omega (arith, ap length second, length-trails y n₂, length-append (set (trails-of w n) c (trail 0 (node-bits w m) v)) up, length-set (trails-of w n) c (trail 0 (node-bits w m) v), length-trails w n, length-drop-links)
+
+    pub up-asks-2 : (Links y × Tops y d × Nodes y m × PathsOK y m n₂) × (e < ENTRIES × n₂ < 3333)
+    up-asks-2 = let q = up-count in
+        ((re-links w y m low-y (ly ∙ lx) links, re-tops w y m low-y (ly ∙ lx) d tops, re-nodes w y m low-y (ly ∙ lx) nodes, r .paths), (he, omega arith))
+
+    pub up-done : Relisted y z m n₃ (trails-of y n₂ ++ sideward (node-bits y m) (distance e (stack-of y d)))
+        → Relisted w z m n₃ (set (trails-of w n) c (trail 0 (node-bits w m) (at w (PARENTS + e * 100 + k))) ++ (upward (seen-of w m) (node-bits w m) (drop (k + 1) (parents-of w e)) ++ sideward (node-bits w m) (distance e (stack-of w d))))
+    unfolding S B up
+    up-done t = record {
+      trails =
+          t .trails
+          ∙ ap (λ (l : List Trail). l ++ sideward (node-bits y m) (distance e (stack-of y d))) second
+          ∙ rw (low-bits w y m nodes low-y m (omega arith), stack-same w y d (λ j l. low-y j (omega arith)) (tops .deep))
+          (append-assoc (set (trails-of w n) c (trail 0 (node-bits w m) v)) (upward (seen-of w m) (node-bits w m) (drop (k + 1) (parents-of w e))) (sideward (node-bits w m) (distance e (stack-of w d))))
+          ∙ ap (λ (q : ℕ). set (trails-of w n) c (trail 0 (node-bits w m) q) ++ (upward (seen-of w m) (node-bits w m) (drop (k + 1) (parents-of w e)) ++ sideward (node-bits w m) (distance e (stack-of w d)))) ev;
+      paths = t .paths;
+      low = λ j l. t .low j l ∙ low-y j l;
+      high = λ j l. t .high j l ∙ r .high j l ∙ first .high j l;
+    }
+
+-- ---- a path is dropped
+
+length-sideward : (bits : List Bool) (o : Option ℕ) → length (sideward bits o) ≤ 1
+length-sideward bits none = omega arith
+length-sideward bits (some q) = omega arith
+
+module _ (w x y : List ℕ) (c n m e d n₂ : ℕ) (links : Links w) (tops : Tops w d) (nodes : Nodes w m) (paths : PathsOK w m n)
+    (hc : c < n) (hn : n < 3333) (lx : length x ≡ length w) (r : Relisted w x m n₂ (trails-of w n ++ sideward (node-bits w m) (distance e (stack-of w d))))
+  where
+    pub off-count : (n ≤ n₂) × (n₂ ≤ n + 1)
+    off-count =
+        let a = length-sideward (node-bits w m) (distance e (stack-of w d)) in
+        omega (arith, ap length (r .trails), length-trails x n₂, length-trails w n, length-append (trails-of w n) (sideward (node-bits w m) (distance e (stack-of w d))))
+
+    pub off-one : n₂ - 1 + 1 ≡ n₂
+    off-one = omega (arith, off-count .0)
+
+    pub off-asks : (524288 ≤ length x) × Nodes x m × PathsOK x m (n₂ - 1 + 1) × (c < n₂ - 1 + 1) × (n₂ - 1 < 3333)
+    off-asks = let a = off-count in
+        (omega (arith, links .long), re-nodes w x m (r .low) lx nodes, rw off-one (r .paths), omega arith, omega arith)
+
+    here : trail-of x c ≡ trail-of w c
+    here =
+        let a = off-count in
+        sym (at-trails x n₂ c (trail-of w c) (omega arith))
+        ∙ ap (λ (l : List Trail). getD l c (trail-of w c)) (r .trails)
+        ∙ List·getD-append (trails-of w n) (sideward (node-bits w m) (distance e (stack-of w d))) (trail-of w c) c (rw length-trails hc)
+        ∙ at-trails w n c (trail-of w c) hc
+
+    pub off-done : Relisted x y m (n₂ - 1) (swap-remove (trails-of x (n₂ - 1 + 1)) c (trail-of x c))
+        → Relisted w y m (n₂ - 1) (swap-remove (trails-of w n ++ sideward (node-bits w m) (distance e (stack-of w d))) c (trail-of w c))
+    off-done t = record {
+      trails =
+          t .trails ∙ ap (λ (k : ℕ). swap-remove (trails-of x k) c (trail-of x c)) off-one ∙ ap₂ {C = List Trail} (λ l p. swap-remove l c p) (r .trails) here;
+      paths = t .paths;
+      low = λ j l. t .low j l ∙ r .low j l;
+      high = λ j l. t .high j l ∙ r .high j l;
+    }

@@ -1,0 +1,12 @@
+pub mod CursorLaws
+pub mod Marks
+pub mod Nodes
+pub mod Trails
+pub mod Upward
+pub mod Room
+pub mod Least
+pub mod Copies
+pub mod Kept
+pub mod TurnLaws
+pub mod Zero
+pub mod Premises

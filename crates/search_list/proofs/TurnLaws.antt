@@ -1,0 +1,374 @@
+-- A turn of a pass: what the step of the path at the cursor leaves.
+-- Assumes nothing.
+use mathlib.Core.Path.{_≡_, refl, sym, ap, ap₂, subst, _∙_}
+use mathlib.Core.Bool.{Bool, true, false, cond}
+use mathlib.Core.List.{List, [], _∷_, _++_, append-nil}
+use mathlib.Core.Option.{Option, none, some}
+use Prim.Native.Nat.{ℕ, zero, suc, _+_, _*_, _-_, _/_, _≤_, _<_}
+use native.Mathlib.Omega.{arith}
+use lib.ListN.{length, getD, set, drop, length-append, length-set, length-drop}
+use lib.Dec.{ltb}
+use borrow.Author.Tests.{lt-ltb, le-ltb}
+use Rattle.search.specs.Search.{Trail, bitsOf, Parents, result, stays, dropped, capped, most-visits, member, upward, sideward, moves, visit, distance, step}
+use Rattle.words.specs.Choice.{cond-true, cond-false}
+use Rattle.search.specs.Lists.{size}
+use Rattle.search.specs.Flat.{swap-remove, init, last}
+use Rattle.words.specs.Words.{at}
+use Rattle.search_list.specs.Cursor.{goes, Mid, ahead}
+use Rattle.search_list.proofs.CursorLaws.{over, over-mid, over-less, is-result, is-capped, stays-goes, stays-mid, stays-less, dropped-goes, dropped-mid, dropped-less}
+use Rattle.search_list.specs.declared.Turned.the-variants.{On, Result, Capped}
+use Rattle.layout.specs.Layout.{PARENTS, COUNTS, PATHS, DEPTH, ENTRIES}
+use Rattle.layout.specs.Rows.{parents-of, stack-of, Tops}
+use Rattle.search_list.specs.State.{parents-of-all, seen-of, node-bits, trail, trail-of, trails-of, node-at, place-at, extra-at, seen-at, count-at, Readable}
+use Rattle.search_list.specs.Steps.{unseen, Links, Nodes, PathOK, PathsOK, Working, Kept, Stored, Relisted, Visited, FirstUnseen, Turns, Steps}
+use Rattle.path.specs.Bytes.{odd}
+use Rattle.words.proofs.Words.{tabulate-same}
+use Rattle.search_list.proofs.Nodes.{low-seen, length-seen}
+use Rattle.search_list.proofs.Trails.{length-trails, at-trails, store-at}
+use Rattle.search_list.proofs.Upward.{up-skip, up-new, up-end, length-upward, low-links, low-links-of, low-parents, length-links, parents-are}
+use Rattle.search_list.proofs.Room.{unseen-visit, unseen-same}
+use Rattle.search_list.proofs.Kept.{stack-same, low-tops, re-links, re-tops, re-nodes}
+
+-- ---- the meaning of what is left
+
+goes-same : (P P′ : Parents) (S S′ : List ℕ) (L : ℕ) (l l′ : List Trail) (c : ℕ) (s s′ : List ℕ) → P′ ≡ P → S′ ≡ S → l′ ≡ l → s′ ≡ s
+    → goes P S L l c s ≡ goes P′ S′ L l′ c s′
+goes-same P P′ S S′ L l l′ c s s′ a b e f = rw (a, b, e, f)
+
+pub kept-none : (w : List ℕ) → Kept w w
+kept-none w = record { low = λ k l. refl; high = λ k l. refl }
+
+module _ (w : List ℕ) (d c n m : ℕ) (ok : Working w d n m) (hc : c < n) where
+  pub few : n ≤ 3073
+  few = omega (arith, ok .room, ok .nodes .few)
+
+  in-list : c < length (trails-of w n)
+  in-list = rw length-trails hc
+
+  here : getD (trails-of w n) c (trail-of w c) ≡ trail-of w c
+  here = at-trails w n c (trail-of w c) hc
+
+  pub turned-over : (L : ℕ) → Mid L (trails-of w n) c → L < size (trail-of w c) → Turns w w d L c n m (On (c + 1) n m)
+  turned-over L mid l = record {
+    same = over (parents-of-all w) (stack-of w d) L (trails-of w n) c (seen-of w m) (trail-of w c) in-list here mid l;
+    fine =
+        (ok, over-mid (parents-of-all w) (stack-of w d) L (trails-of w n) c (seen-of w m) (trail-of w c) in-list here mid l, over-less (parents-of-all w) (stack-of w d) L (trails-of w n) c (seen-of w m) (trail-of w c) in-list here mid l);
+    kept = kept-none w;
+  }
+
+  readable : Readable w c
+  readable =
+      let p : PathOK w m c = ok .paths c hc in
+      let f : m ≤ 1024 = ok .nodes .few in
+      let q : node-at w c ≤ m = p .node in
+      record {
+        slot = omega (arith, few);
+        chain = record { few = omega arith; prev = λ k l. ok .nodes .prev k (omega arith) };
+        len = ok .nodes .lens (node-at w c) q;
+        short = omega (arith, ok .nodes .short (node-at w c) q);
+        extra = go (extra-at w c) (p .stack);
+      }
+    where
+      go : (x : ℕ) → (0 < x → x + place-at w c ≤ DEPTH) → x ≤ DEPTH
+      go zero h = omega arith
+      go (suc x) h = omega (arith, h (omega arith))
+
+  pub turned-result : step (parents-of-all w) (stack-of w d) (seen-of w m) (trail-of w c) ≡ result (bitsOf (trail-of w c)) → Steps w w d c n m (Result c)
+  turned-result s L mid l = record {
+    same = is-result (parents-of-all w) (stack-of w d) L (trails-of w n) c (seen-of w m) (trail-of w c) in-list here mid (bitsOf (trail-of w c)) l s;
+    fine = readable;
+    kept = kept-none w;
+  }
+
+  pub turned-capped : step (parents-of-all w) (stack-of w d) (seen-of w m) (trail-of w c) ≡ capped → Steps w w d c n m Capped
+  turned-capped s L mid l = record {
+    same = is-capped (parents-of-all w) (stack-of w d) L (trails-of w n) c (seen-of w m) (trail-of w c) in-list here mid l s;
+    fine = tt;
+    kept = kept-none w;
+  }
+
+  module _ (y : List ℕ) (n′ m′ : ℕ) (ok′ : Working y d n′ m′) (kept : Kept w y) (len : length y ≡ length w) where
+    few′ : n′ ≤ 3073
+    few′ = omega (arith, ok′ .room, ok′ .nodes .few)
+
+    same-parents : parents-of-all y ≡ parents-of-all w
+    same-parents = low-parents w y (ok .links) (λ k l. kept .low k l) len
+
+    same-stack : stack-of y d ≡ stack-of w d
+    same-stack = stack-same w y d (kept .low) (ok .tops .deep)
+
+    pub turned-stays : (q : Trail) (copies : List Trail) (seen′ : List ℕ)
+        → step (parents-of-all w) (stack-of w d) (seen-of w m) (trail-of w c) ≡ stays q copies seen′
+        → trails-of y n′ ≡ set (trails-of w n) c q ++ copies → seen-of y m′ ≡ seen′ → Steps w y d c n m (On (c + 1) n′ m′)
+    turned-stays q copies seen′ s t e L mid l =
+        let b : length (set (trails-of w n) c q ++ copies) < 4096 = omega (arith, few′, length-trails y n′, ap length t) in
+        record {
+          same = stays-goes (parents-of-all w) (stack-of w d) L (trails-of w n) c (seen-of w m) (trail-of w c) in-list here mid l q copies seen′ s
+              ∙ goes-same (parents-of-all w) (parents-of-all y) (stack-of w d) (stack-of y d) L (set (trails-of w n) c q ++ copies) (trails-of y n′) (c + 1)
+              seen′ (seen-of y m′) same-parents same-stack t e;
+          fine = (
+            ok′,
+            subst (λ (x : List Trail). Mid L x (c + 1)) (sym t)
+                (stays-mid (parents-of-all w) (stack-of w d) L (trails-of w n) c (seen-of w m) (trail-of w c) in-list here mid l q copies seen′ s),
+            subst (λ (x : List Trail). ahead L x (c + 1) < ahead L (trails-of w n) c) (sym t)
+                (stays-less (parents-of-all w) (stack-of w d) L (trails-of w n) c (seen-of w m) (trail-of w c) in-list here mid l q copies seen′ s b),
+          );
+          kept = kept;
+        }
+
+    pub turned-dropped : (copies : List Trail) (seen′ : List ℕ) → step (parents-of-all w) (stack-of w d) (seen-of w m) (trail-of w c) ≡ dropped copies seen′
+        → trails-of y n′ ≡ swap-remove (trails-of w n ++ copies) c (trail-of w c) → seen-of y m′ ≡ seen′ → Steps w y d c n m (On c n′ m′)
+    turned-dropped copies seen′ s t e L mid l =
+        let b : length (swap-remove (trails-of w n ++ copies) c (trail-of w c)) < 4096 = omega (arith, few′, length-trails y n′, ap length t) in
+        record {
+          same = dropped-goes (parents-of-all w) (stack-of w d) L (trails-of w n) c (seen-of w m) (trail-of w c) in-list here mid l copies seen′ s
+              ∙ goes-same (parents-of-all w) (parents-of-all y) (stack-of w d) (stack-of y d) L (swap-remove (trails-of w n ++ copies) c (trail-of w c))
+              (trails-of y n′) c seen′ (seen-of y m′) same-parents same-stack t e;
+          fine = (
+            ok′,
+            subst (λ (x : List Trail). Mid L x c) (sym t)
+                (dropped-mid (parents-of-all w) (stack-of w d) L (trails-of w n) c (seen-of w m) (trail-of w c) in-list here mid l copies seen′ s),
+            subst (λ (x : List Trail). ahead L x c < ahead L (trails-of w n) c) (sym t)
+                (dropped-less (parents-of-all w) (stack-of w d) L (trails-of w n) c (seen-of w m) (trail-of w c) in-list here mid l copies seen′ s b),
+          );
+          kept = kept;
+        }
+
+-- ---- only the list was changed
+
+module _ (w y : List ℕ) (d n n′ m : ℕ) (list : List Trail) (ok : Working w d n m) (r : Relisted w y m n′ list) (len : length y ≡ length w) where
+  pub relisted-kept : Kept w y
+  relisted-kept = record { low = λ k l. r .low k (omega arith); high = r .high }
+
+  pub relisted-seen : seen-of y m ≡ seen-of w m
+  relisted-seen = low-seen w y m (ok .nodes) (r .low)
+
+  pub relisted-sound : n′ + unseen (count-at w) (seen-of w m) ENTRIES ≤ 2049 + m → Working y d n′ m
+  relisted-sound h = record {
+    links = re-links w y m (r .low) len (ok .links);
+    tops = re-tops w y m (r .low) len d (ok .tops);
+    nodes = re-nodes w y m (r .low) len (ok .nodes);
+    paths = r .paths;
+    room = rw (relisted-seen, unseen-same (count-at w) (count-at y) (seen-of w m) ENTRIES (λ k l. r .low (COUNTS + k) (omega arith))) h;
+  }
+
+-- ---- on the stack
+
+module _ (P : Parents) (S seen : List ℕ) (B : List Bool) where
+  at-top : (x v : ℕ) → 0 < x → v ≡ 0 → step P S seen (trail x B v) ≡ result (bitsOf (trail x B v))
+  at-top zero v h z = absurd (omega arith)
+  at-top (suc x) zero h z = refl
+  at-top (suc x) (suc v) h z = absurd (omega arith)
+
+  one-nearer : (x v : ℕ) → 0 < x → (v ≡ 0 → ⊥) → step P S seen (trail x B v) ≡ stays (trail (x + 1) B (v - 1)) [] seen
+  one-nearer zero v h z = absurd (omega arith)
+  one-nearer (suc x) zero h z = absurd (z refl)
+  one-nearer (suc x) (suc v) h z =
+      let e : suc v - 1 ≡ v = omega arith in
+      let f : suc x + 1 ≡ suc (suc x) = omega arith in
+      rw (e, f)
+
+module _ (w : List ℕ) (d c n m : ℕ) (ok : Working w d n m) (hc : c < n) (hx : 0 < extra-at w c) where
+  pub stack-result : place-at w c ≡ 0 → Steps w w d c n m (Result c)
+  unfolding trail-of
+  stack-result z =
+      turned-result w d c n m ok hc (at-top (parents-of-all w) (stack-of w d) (seen-of w m) (node-bits w (node-at w c)) (extra-at w c) (place-at w c) hx z)
+
+  pub stack-nearer : (y : List ℕ) → (place-at w c ≡ 0 → ⊥) → length y ≡ length w → Stored w y c (node-at w c) (place-at w c - 1) (extra-at w c + 1)
+      → Steps w y d c n m (On (c + 1) n m)
+  unfolding trail-of
+  stack-nearer y z len s =
+      let q : PathOK w m c = ok .paths c hc in
+      let p : extra-at w c + place-at w c ≤ DEPTH = q .stack hx in
+      let r : Relisted w y m n (set (trails-of w n) c (trail (extra-at w c + 1) (node-bits w (node-at w c)) (place-at w c - 1))) =
+      store-at w y m c (node-at w c) (place-at w c - 1) (extra-at w c + 1) (ok .nodes) s (q .node) (λ e. absurd (omega arith)) (λ e. omega arith) n hc
+      (omega (arith, few w d c n m ok hc)) (ok .paths) in
+      turned-stays w d c n m ok hc y n m (relisted-sound w y d n n m _ ok r len (ok .room)) (relisted-kept w y d n n m _ ok r len) len
+      (trail (extra-at w c + 1) (node-bits w (node-at w c)) (place-at w c - 1)) [] (seen-of w m)
+      (one-nearer (parents-of-all w) (stack-of w d) (seen-of w m) (node-bits w (node-at w c)) (extra-at w c) (place-at w c) hx z)
+      (r .trails ∙ sym (append-nil _)) (relisted-seen w y d n n m _ ok r len)
+
+-- ---- at an entry
+
+init-length : (l : List Trail) → length (init l) ≤ length l
+init-length [] = omega arith
+init-length (p ∷ []) = omega arith
+init-length (p ∷ q ∷ qs) = omega (arith, init-length (q ∷ qs))
+
+swapped-length : (l : List Trail) (c : ℕ) (p : Trail) → length (swap-remove l c p) ≤ length l
+swapped-length l c p = omega (arith, init-length (set l c (last p l)), length-set l c (last p l))
+
+module _ (w : List ℕ) (d c n m : ℕ) (ok : Working w d n m) (hc : c < n) (hx : extra-at w c ≡ 0) where
+  P : Parents
+  P = parents-of-all w
+
+  S : List ℕ
+  S = stack-of w d
+
+  seen : List ℕ
+  seen = seen-of w m
+
+  B : List Bool
+  B = node-bits w (node-at w c)
+
+  e : ℕ
+  e = place-at w c / 2
+
+  pub entry-low : place-at w c / 2 < ENTRIES
+  entry-low = omega (arith, ok .paths c hc .entry hx)
+
+  is-trail : trail-of w c ≡ trail 0 B (place-at w c)
+  unfolding trail-of B
+  is-trail = ap (λ (x : ℕ). trail x (node-bits w (node-at w c)) (place-at w c)) hx
+
+  is-member : seen-at w e ≡ member e seen
+  unfolding e seen
+  is-member = ok .nodes .marks (place-at w c / 2) entry-low
+
+  step-at : step P S seen (trail-of w c) ≡ cond (member e seen) (dropped [] seen) (cond (ltb (length seen) most-visits) (visit P S seen B e (odd (place-at w c))) capped)
+  unfolding e
+  step-at = ap (step P S seen) is-trail
+
+  pub entry-seen : (y : List ℕ) → true ≡ seen-at w (place-at w c / 2) → length y ≡ length w
+      → Relisted w y m (n - 1) (swap-remove (trails-of w (n - 1 + 1)) c (trail-of w c)) → Steps w y d c n m (On c (n - 1) m)
+  unfolding e P S seen
+  entry-seen y t len r =
+      let k : n - 1 + 1 ≡ n = omega arith in
+      turned-dropped w d c n m ok hc y (n - 1) m (relisted-sound w y d n (n - 1) m _ ok r len (omega (arith, ok .room)))
+      (relisted-kept w y d n (n - 1) m _ ok r len) len
+      [] (seen-of w m) (step-at ∙ cond-true _ _ _ (sym is-member ∙ sym t))
+      (r .trails ∙ ap (λ (j : ℕ). swap-remove (trails-of w j) c (trail-of w c)) k ∙ ap (λ (x : List Trail). swap-remove x c (trail-of w c)) (sym (append-nil (trails-of w n))))
+      (relisted-seen w y d n (n - 1) m _ ok r len)
+
+  module _ (un : false ≡ seen-at w (place-at w c / 2)) where
+    not-member : member e seen ≡ false
+    unfolding e
+    not-member = sym is-member ∙ sym un
+
+    pub entry-capped : m ≡ 1024 → Steps w w d c n m Capped
+    unfolding e P S seen
+    entry-capped h =
+        turned-capped w d c n m ok hc
+        (step-at ∙ cond-false _ _ _ not-member ∙ cond-false _ _ _ (le-ltb (length (seen-of w m)) most-visits (omega (arith, length-seen w m))))
+
+    module _ (hm : m < 1024) (x : List ℕ) (lx : length x ≡ length w) (v : Visited w x c m) where
+      S′ : List ℕ
+      S′ = seen-of x (m + 1)
+
+      B′ : List Bool
+      B′ = node-bits x (m + 1)
+
+      links-x : Links x
+      links-x = low-links w x (ok .links) (v .low) lx
+
+      tops-x : Tops x d
+      tops-x = low-tops w x d (v .low) (ok .tops)
+
+      paths-x : PathsOK x (m + 1) n
+      paths-x i l =
+          let f = few w d c n m ok hc in
+          let p : PathOK w m i = ok .paths i l in
+          let a : node-at x i ≡ node-at w i = v .high (PATHS + 3 * i) (omega arith) in
+          let b : place-at x i ≡ place-at w i = v .high (PATHS + 3 * i + 1) (omega arith) in
+          let q : extra-at x i ≡ extra-at w i = v .high (PATHS + 3 * i + 2) (omega arith) in
+          record { node = omega (arith, p .node); entry = rw (b, q) (p .entry); stack = rw (b, q) (p .stack) }
+
+      trails-x : trails-of x n ≡ trails-of w n
+      unfolding trails-of trail-of
+      trails-x = tabulate-same n (trail-of w) (trail-of x) (λ i l.
+          rw (v .high (PATHS + 3 * i) (omega arith), v .high (PATHS + 3 * i + 1) (omega arith), v .high (PATHS + 3 * i + 2) (omega arith))
+          (ap (λ (b : List Bool). trail (extra-at w i) b (place-at w i)) (v .older (node-at w i) (ok .paths i l .node))))
+
+      count-x : count-at x e ≡ count-at w e
+      unfolding e
+      count-x = v .low (COUNTS + place-at w c / 2) (omega (arith, entry-low))
+
+      -- Room for the parents of the entry.
+      spare : n + count-at w e + unseen (count-at w) (e ∷ seen) ENTRIES ≤ 2049 + m
+      unfolding e seen
+      spare = omega (arith, ok .room, unseen-visit (count-at w) (seen-of w m) (place-at w c / 2) ENTRIES entry-low not-member)
+
+      step-visit : step P S seen (trail-of w c) ≡ moves (upward S′ B′ (parents-of x e)) (sideward B′ (distance e (stack-of x d))) S′
+      unfolding e P S seen B S′ B′
+      step-visit =
+          step-at ∙ cond-false _ _ _ not-member ∙ cond-true _ _ _ (lt-ltb (length (seen-of w m)) most-visits (omega (arith, length-seen w m)))
+          ∙ rw (v .seen, v .bits, stack-same w x d (v .low) (ok .tops .deep), low-links-of w x (ok .links) (v .low) lx (place-at w c / 2) entry-low, parents-are w (place-at w c / 2) (ok .links) entry-low)
+
+      pub visit-asks : (k : ℕ) → k < count-at x (place-at w c / 2)
+          → (Links x × Tops x d × Nodes x (m + 1) × PathsOK x (m + 1) n) × (c < n × place-at w c / 2 < ENTRIES × k < count-at x (place-at w c / 2) × n + (count-at x (place-at w c / 2) - k) ≤ 3333)
+      unfolding e
+      visit-asks k h = ((links-x, tops-x, v .nodes, paths-x), (hc, entry-low, h, omega (arith, spare, count-x)))
+
+      pub visit-asks-2 : (Links x × Tops x d × Nodes x (m + 1) × PathsOK x (m + 1) n) × (c < n × place-at w c / 2 < ENTRIES × n < 3333)
+      visit-asks-2 = ((links-x, tops-x, v .nodes, paths-x), (hc, entry-low, omega (arith, few w d c n m ok hc)))
+
+      module _ (k : ℕ) (f : FirstUnseen x (place-at w c / 2) k) (y : List ℕ) (ly : length y ≡ length x) (n′ : ℕ) where
+        e-low : e < ENTRIES
+        unfolding e
+        e-low = entry-low
+
+        link-low : (j : ℕ) → j < count-at x e → at x (PARENTS + e * 100 + j) / 2 < ENTRIES
+        link-low j l = omega (arith, links-x .links e j e-low l)
+
+        skipped : upward S′ B′ (parents-of x e) ≡ upward S′ B′ (drop k (parents-of x e))
+        unfolding e S′
+        skipped =
+            let b = f .within in up-skip x (place-at w c / 2) links-x e-low S′ B′ k b
+            (λ j l. sym (v .nodes .marks _ (link-low j (omega arith))) ∙ f .passed j l)
+
+        -- The words are sound again, after the list was changed.
+        sound-y : (list : List Trail) → Relisted x y (m + 1) n′ list → n′ ≤ n + count-at w e + 1 → Working y d n′ (m + 1)
+        unfolding e seen
+        sound-y list r b = record {
+          links = re-links x y (m + 1) (r .low) ly links-x;
+          tops = re-tops x y (m + 1) (r .low) ly d tops-x;
+          nodes = re-nodes x y (m + 1) (r .low) ly (v .nodes);
+          paths = r .paths;
+          room =
+              rw (low-seen x y (m + 1) (v .nodes) (r .low), v .seen, unseen-same (count-at w) (count-at y) (place-at w c / 2 ∷ seen-of w m) ENTRIES (λ j l. r .low (COUNTS + j) (omega arith) ∙ v .low (COUNTS + j) (omega arith))) (omega (arith, spare));
+        }
+
+        kept-y : (list : List Trail) → Relisted x y (m + 1) n′ list → Kept w y
+        kept-y list r = record { low = λ j l. r .low j (omega arith) ∙ v .low j l; high = λ j l. r .high j l ∙ v .high j (omega arith) }
+
+        length-side : (o : Option ℕ) → length (sideward B′ o) ≤ 1
+        length-side none = omega arith
+        length-side (some q) = omega arith
+
+        pub visit-up : k < count-at x (place-at w c / 2)
+            → Relisted x y (m + 1) n′
+            (set (trails-of x n) c (trail 0 (node-bits x (m + 1)) (at x (PARENTS + place-at w c / 2 * 100 + k))) ++ (upward (seen-of x (m + 1)) (node-bits x (m + 1)) (drop (k + 1) (parents-of x (place-at w c / 2))) ++ sideward (node-bits x (m + 1)) (distance (place-at w c / 2) (stack-of x d))))
+            → Steps w y d c n m (On (c + 1) n′ (m + 1))
+        unfolding e P S seen S′ B′
+        visit-up h r =
+            let q : Trail = trail 0 (node-bits x (m + 1)) (at x (PARENTS + place-at w c / 2 * 100 + k)) in
+            let up : List Trail = upward (seen-of x (m + 1)) (node-bits x (m + 1)) (drop (k + 1) (parents-of x (place-at w c / 2))) in
+            let side : List Trail = sideward (node-bits x (m + 1)) (distance (place-at w c / 2) (stack-of x d)) in
+            let s : step P S seen (trail-of w c) ≡ stays q (up ++ side) (seen-of x (m + 1)) =
+            step-visit ∙ ap (λ (l : List Trail). moves l side (seen-of x (m + 1)))
+            (skipped ∙ up-new x (place-at w c / 2) links-x e-low S′ B′ k h (sym (v .nodes .marks _ (link-low k h)) ∙ f .stands h)) in
+            let few-up : length up ≤ count-at w (place-at w c / 2) - (k + 1) =
+            omega (arith, length-upward S′ B′ (drop (k + 1) (parents-of x (place-at w c / 2))), length-drop (k + 1) (parents-of x (place-at w c / 2)), length-links x (place-at w c / 2) links-x e-low, count-x) in
+            let b : n′ ≤ n + count-at w (place-at w c / 2) + 1 =
+            omega (arith, length-trails y n′, ap length (r .trails), length-append (set (trails-of x n) c q) (up ++ side), length-append up side, length-set (trails-of x n) c q, length-trails x n, length-side (distance (place-at w c / 2) (stack-of x d))) in
+            turned-stays w d c n m ok hc y n′ (m + 1) (sound-y _ r b) (kept-y _ r) (ly ∙ lx) q (up ++ side) (seen-of x (m + 1)) s
+            (r .trails ∙ ap (λ (l : List Trail). set l c q ++ (up ++ side)) trails-x)
+            (low-seen x y (m + 1) (v .nodes) (r .low))
+
+        pub visit-off : count-at x (place-at w c / 2) ≤ k
+            → Relisted x y (m + 1) n′
+            (swap-remove (trails-of x n ++ sideward (node-bits x (m + 1)) (distance (place-at w c / 2) (stack-of x d))) c (trail-of x c))
+            → Steps w y d c n m (On c n′ (m + 1))
+        unfolding e P S seen S′ B′
+        visit-off h r =
+            let side : List Trail = sideward (node-bits x (m + 1)) (distance (place-at w c / 2) (stack-of x d)) in
+            let s : step P S seen (trail-of w c) ≡ dropped side (seen-of x (m + 1)) =
+            step-visit ∙ ap (λ (l : List Trail). moves l side (seen-of x (m + 1))) (skipped ∙ up-end x (place-at w c / 2) links-x e-low S′ B′ k h) in
+            let hx : trail-of x c ≡ trail-of w c =
+            sym (at-trails x n c (trail-of w c) hc) ∙ ap (λ (l : List Trail). getD l c (trail-of w c)) trails-x ∙ at-trails w n c (trail-of w c) hc in
+            let t : trails-of y n′ ≡ swap-remove (trails-of w n ++ side) c (trail-of w c) =
+            r .trails ∙ ap₂ {C = List Trail} (λ l p. swap-remove (l ++ side) c p) trails-x hx in
+            let b : n′ ≤ n + count-at w (place-at w c / 2) + 1 =
+            omega (arith, length-trails y n′, ap length t, length-trails w n, length-side (distance (place-at w c / 2) (stack-of x d)), swapped-length (trails-of w n ++ side) c (trail-of w c), length-append (trails-of w n) side) in
+            turned-dropped w d c n m ok hc y n′ (m + 1) (sound-y _ r b) (kept-y _ r) (ly ∙ lx) side (seen-of x (m + 1)) s t
+            (low-seen x y (m + 1) (v .nodes) (r .low))

@@ -1,0 +1,118 @@
+// The words of a search: the paths under way, the nodes that hold their bits, the entries seen. Each visit makes one node: the node before it, the
+// entry visited with the position bit, and how many bits that makes. A path is three words: its node, its place, and its bits after the node's.
+use layout::PREVS;
+use layout::SEEN;
+ghost use mathlib.Core.Path.{_≡_};
+ghost use Prim.Native.Nat.{_+_, _*_, _≤_, _<_};
+ghost use lib.ListN.{length};
+ghost use Rattle.words.specs.Words.{at};
+ghost use Rattle.layout.specs.Layout.{ENTRIES, COUNTS, TOPS, PARENTS, LENS};
+ghost use Rattle.search_list.specs.State.{node-at, place-at, extra-at, seen-at};
+ghost use Rattle.search_list.specs.Steps.{Stored, Marked};
+
+// After a turn: the slot of the next path, how many paths there are, and how many nodes; the slot of the path that is the result; visit 1,025.
+pub enum Turned {
+    On(usize, usize, usize),
+    Result(usize),
+    Capped,
+}
+
+// A word as a number.
+pub fn wide(x: u32) -> usize
+    ensures { λ r. ⌜ r ≡ x ⌝ }
+{
+    x as usize
+}
+
+// How many parents entry e has.
+pub fn count_of(work: &[u32], e: usize) -> usize
+    requires { ⌜ (524288 ≤ length (now work)) × (e < ENTRIES) ⌝ }
+    ensures { λ r. ⌜ r ≡ at (now (work .entry)) (COUNTS + e) ⌝ }
+{
+    wide(work[layout::COUNTS + e])
+}
+
+// Parent i of entry e, doubled, and its position.
+pub fn parent_at(work: &[u32], e: usize, i: usize) -> u32
+    requires { ⌜ (524288 ≤ length (now work)) × (e < ENTRIES) × (i < 100) ⌝ }
+    ensures { λ r. ⌜ r ≡ at (now (work .entry)) (PARENTS + e * 100 + i) ⌝ }
+{
+    work[layout::PARENTS + e * 100 + i]
+}
+
+// One more than the highest place of entry e on the stack, or 0.
+pub fn top_of(work: &[u32], e: usize) -> usize
+    requires { ⌜ (524288 ≤ length (now work)) × (e < ENTRIES) ⌝ }
+    ensures { λ r. ⌜ r ≡ at (now (work .entry)) (TOPS + e) ⌝ }
+{
+    wide(work[layout::TOPS + e])
+}
+
+// The node whose bits path i has.
+pub fn node_of(work: &[u32], i: usize) -> u32
+    requires { ⌜ (524288 ≤ length (now work)) × (i < 3333) ⌝ }
+    ensures { λ r. ⌜ r ≡ node-at (now (work .entry)) i ⌝ }
+{
+    work[layout::PATHS + 3 * i]
+}
+
+// Where path i is: at an entry, doubled, and the position bit that it takes there; on the stack, the distance from the top.
+pub fn place_of(work: &[u32], i: usize) -> u32
+    requires { ⌜ (524288 ≤ length (now work)) × (i < 3333) ⌝ }
+    ensures { λ r. ⌜ r ≡ place-at (now (work .entry)) i ⌝ }
+{
+    work[layout::PATHS + 3 * i + 1]
+}
+
+// 0 where path i is at an entry; on the stack, how many bits it has after its node's: a 0, and then each a 1.
+pub fn extra_of(work: &[u32], i: usize) -> u32
+    requires { ⌜ (524288 ≤ length (now work)) × (i < 3333) ⌝ }
+    ensures { λ r. ⌜ r ≡ extra-at (now (work .entry)) i ⌝ }
+{
+    work[layout::PATHS + 3 * i + 2]
+}
+
+// How many bits node k has.
+pub fn len_of(work: &[u32], k: usize) -> usize
+    requires { ⌜ (524288 ≤ length (now work)) × (k ≤ 1024) ⌝ }
+    ensures { λ r. ⌜ r ≡ at (now (work .entry)) (LENS + k) ⌝ }
+{
+    wide(work[layout::LENS + k])
+}
+
+// How many bits path i has.
+pub fn size_of(work: &[u32], i: usize) -> usize
+    requires { ⌜ (524288 ≤ length (now work)) × (i < 3333) × (node-at (now work) i ≤ 1024) ⌝ }
+    ensures { λ r. ⌜ r ≡ at (now (work .entry)) (LENS + node-at (now (work .entry)) i) + extra-at (now (work .entry)) i ⌝ }
+{
+    let a = wide(node_of(work, i));
+    let b = wide(work[layout::LENS + a]);
+    let x = wide(extra_of(work, i));
+    b + x
+}
+
+// Whether entry e is seen.
+pub fn is_seen(work: &[u32], e: usize) -> bool
+    requires { ⌜ (524288 ≤ length (now work)) × (e < ENTRIES) ⌝ }
+    ensures { λ b. ⌜ b ≡ seen-at (now (work .entry)) e ⌝ }
+{
+    path::bitset::is_visited(&work[SEEN..PREVS], e)
+}
+
+// Entry e is seen.
+pub fn mark(work: &mut [u32], e: usize)
+    requires { ⌜ (524288 ≤ length (now work)) × (e < ENTRIES) ⌝ }
+    ensures { λ _. ⌜ Marked (now (work .entry)) (now (work .exit)) e ⌝ }
+{
+    path::bitset::visit(&mut work[SEEN..PREVS], e);
+}
+
+// Path i has the bits of node a, is at place v, and has x bits after the node's.
+pub fn put_path(work: &mut [u32], i: usize, a: u32, v: u32, x: u32)
+    requires { ⌜ (524288 ≤ length (now work)) × (i < 3333) ⌝ }
+    ensures { λ _. ⌜ Stored (now (work .entry)) (now (work .exit)) i a v x ⌝ }
+{
+    work[layout::PATHS + 3 * i] = a;
+    work[layout::PATHS + 3 * i + 1] = v;
+    work[layout::PATHS + 3 * i + 2] = x;
+}
