@@ -42,7 +42,8 @@ usage: differential read COUNT SEED [MOST]     COUNT generated inputs, and at mo
        differential read-three FIRST LAST      all inputs of 3 bytes whose first byte lies there
        differential session COUNT SEED [MOST]  COUNT generated session files, and at most MOST of each other set
        differential benchmark                  the reading call, a table in Markdown
-       differential session-benchmark          the session call, a table in Markdown";
+       differential session-benchmark          the session call, a table in Markdown
+       differential session-files FOLDER       the session files of that table, as 1.session and so on";
 
 /// The session call, where there is one.
 fn session_call() -> Result<NikvoldraSession, String> {
@@ -92,6 +93,7 @@ fn run(args: &[&str]) -> Result<(), String> {
             one_atom::run(call);
         }
         ["session-benchmark"] => session_benchmark::run(session_call()?),
+        ["session-files", folder] => session_benchmark::write(folder).map_err(|e| e.to_string())?,
         _ => return Err(USAGE.to_string()),
     }
     Ok(())

@@ -215,6 +215,15 @@ fn one_add_cases() -> Vec<Case> {
     all
 }
 
+/// The files of `cases`, numbered from 1, in a folder.
+pub fn write(folder: &str) -> std::io::Result<()> {
+    std::fs::create_dir_all(folder)?;
+    for (i, c) in cases().iter().enumerate() {
+        std::fs::write(format!("{folder}/{}.session", i + 1), &c.file)?;
+    }
+    Ok(())
+}
+
 /// The steps by the unchanged `Serializer`; the size at the end.
 fn steps(s: &SessionFile, a: &Allocator) -> u64 {
     let mut serializer = Serializer::new(s.sentinel.map(from_word));
