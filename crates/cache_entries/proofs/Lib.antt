@@ -4,4 +4,3 @@ pub mod NewEntry
 pub mod Single
 pub mod Parents
 pub mod Move
-pub mod Fresh

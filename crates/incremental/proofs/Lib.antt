@@ -7,4 +7,3 @@ pub mod Values
 pub mod Opening
 pub mod Closing
 pub mod Looping
-pub mod Adding

@@ -8,5 +8,4 @@ pub mod Least
 pub mod Copies
 pub mod Kept
 pub mod TurnLaws
-pub mod Zero
 pub mod Premises

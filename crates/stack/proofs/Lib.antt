@@ -1,4 +1,3 @@
 pub mod Stacks
 pub mod Marks
 pub mod Copied
-pub mod Undone
