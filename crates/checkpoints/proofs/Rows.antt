@@ -37,9 +37,6 @@ module _ {M : Type 1} (𝓤 : URA M) (H : Heap 𝓤) (A : Atoms 𝓤) where
   pub the-makes : Makes 𝓤 H A T.the-row (Is T.the-row)
   the-makes = LL.makes T.the-type T′.the-plain 𝓤 H A
 
-  pub the-copies : Given 𝓤 H A → Copy 𝓤 H A T.the-row
-  the-copies W = LL.copy T.the-type T′.the-copy 𝓤 H A W
-
   -- a record's machine value has the struct's MIR type
   pub the-typed : Given 𝓤 H A → (c : Checkpoint) → Is T.the-row c (the-vals c) → Holds (hasTy T′.mir (LL.val T.the-type T′.the-laws c)) × WT (LL.val T.the-type T′.the-laws c)
   the-typed W c g = LL.lawful T.the-type T′.the-laws 𝓤 H A W .typed c _ g .0

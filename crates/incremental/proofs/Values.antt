@@ -45,10 +45,6 @@ use Rattle.incremental.specs.Contracts.{Runs, goes-on, Turns, Falls, Fou
 use Rattle.incremental.proofs.Frames.{only-same, holds-stay, Beside, beside-only, todo-stays, standing-stays}
 use Rattle.incremental.proofs.Items.{size-more, output-more, PutNext, put-next, put-none, taken-all, taken-before, length-stays, atom-bytes, WholeItem, whole-fits, whole-lacks}
 
--- There is room on the stack for a value.
-pub room-for-value : (w out : List ℕ) (p : Place) → Runs w out p 0 → p .depth < DEPTH
-room-for-value w out p run = omega (arith, run .stands .balance, run .stands .few-opens)
-
 -- ---- an entry goes on the stack
 
 pub push-beside : (w w′ : List ℕ) (d e : ℕ) → length w′ ≡ length w → Stacks w w′ d e → Beside w w′

@@ -27,9 +27,3 @@ module _ (file w w′ : List ℕ) (xs : List (List ℕ)) (are : (i : ℕ) → i 
 
     pub table-lengths : (i : ℕ) → i < length xs → at w′ (ATOM-LENGTHS + i) ≡ serialized-length (getD xs i [])
     table-lengths i l = L .lengths i l ∙ ap serialized-length (are i l)
-
-    pub table-firsts-low : (i : ℕ) → i < length xs → at w′ (FIRST + i) ≤ i
-    table-firsts-low = firsts-low xs w′ table-firsts
-
-    pub table-firsts-first : (i : ℕ) → i < length xs → at w′ (FIRST + at w′ (FIRST + i)) ≡ at w′ (FIRST + i)
-    table-firsts-first = firsts-first xs w′ table-firsts

@@ -71,11 +71,3 @@ bits-of-injective (w ∷ ws) (v ∷ vs) h k e = ap₂ {C = List ℕ} (λ a b. a 
 
     rest : bits-of ws ≡ bits-of vs
     rest = sym (drop-at (low-bits 32 w) (bits-of ws) 32 (length-low-bits 32 w)) ∙ ap (drop 32) e ∙ drop-at (low-bits 32 v) (bits-of vs) 32 (length-low-bits 32 v)
-
-pub cleared-at : (n i : ℕ) → getD (bits-of (replicate n 0)) i false ≡ false
-cleared-at n i = ap (λ (l : List Bool). getD l i false) (bits-of-cleared n) ∙ go (32 * n) i
-  where
-    go : (k i : ℕ) → getD (replicate k false) i false ≡ false
-    go zero i = refl
-    go (suc k) zero = refl
-    go (suc k) (suc i) = go k i

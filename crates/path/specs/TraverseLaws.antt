@@ -113,8 +113,3 @@ read-from (zero ∷ bs) h =
     one-more : (n : ℕ) → suc (n + 1) ≡ suc n + 1
     one-more n = omega arith
 read-from (suc b ∷ bs) h = refl
-
--- Bit j is read, and the higher ones are left.
-pub low-bits-next : (k n j : ℕ) → j < k → drop j (low-bits k n) ≡ odd (n / 2 ^ j) ∷ drop (j + 1) (low-bits k n)
-low-bits-next k n j h =
-    rw add-one (drop-cons (low-bits k n) j false (omega (arith, length-low-bits k n)) ∙ ap (λ (b : Bool). b ∷ drop (suc j) (low-bits k n)) (low-bits-at k n j h))

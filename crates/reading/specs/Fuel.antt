@@ -79,23 +79,3 @@ module _ {S : Type 0} (keep : Values S) where
   run-enough (suc m) zero a l k = next-none (a .rest) (a .ops) (a .values) (λ b. run keep m b) k
   run-enough (suc m) (suc n) a l k =
       then-enough (length (a .rest)) (λ b. run keep m b) (λ b. run keep n b) (λ b s. run-enough m n b (omega arith) (omega arith)) (step keep a) (step-shorter a)
-
-  -- The three equations by which a loop reads on.
-  onward-then : (a : At S) → onward a ≡ then keep (step keep a) (λ b. onward b)
-  unfolding onward run
-  onward-then a =
-      run-enough (length (a .rest)) (suc (length (a .rest))) a (omega arith) (omega arith)
-      ∙ then-enough (length (a .rest)) (λ b. run keep (length (a .rest)) b) (λ b. onward b) (λ b l. run-enough (length (a .rest)) (length (b .rest)) b (omega arith) (omega arith)) (step keep a) (step-shorter a)
-
-  pub onward-go : (a b : At S) → step keep a ≡ go b → onward a ≡ onward b
-  onward-go a b e = onward-then a ∙ ap (λ (x : Step S). then keep x (λ c. onward c)) e
-
-  pub onward-whole : (a : At S) (s : S) → step keep a ≡ whole s → onward a ≡ accepted s
-  onward-whole a s e = onward-then a ∙ ap (λ (x : Step S). then keep x (λ c. onward c)) e
-
-  pub onward-stop : (a : At S) (n : ℕ) → step keep a ≡ stop n → onward a ≡ turned-down n
-  onward-stop a n e = onward-then a ∙ ap (λ (x : Step S). then keep x (λ c. onward c)) e
-
-  pub read-onward : (input : List ℕ) (s : S) → read keep input s ≡ onward (record { rest = input; ops = []; values = s })
-  unfolding onward read
-  read-onward input s = refl

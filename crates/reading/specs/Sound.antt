@@ -119,17 +119,6 @@ fits-two ops (suc (suc k)) h = omega arith
 pub sound-two : (used : ℕ) (ops : List ParseOp) (s : Stored) → Sound used (Cons ∷ ops) s → 2 ≤ length (s .values)
 sound-two used ops s h = fits-two ops (length (s .values)) (h .fits)
 
--- A known handle is one of the three kinds, so it fits a word.
-pub known-below : (p a h : ℕ) → KnownHandle p a h → h < 3 * 2 ^ 26
-unfolding node-of
-known-below p a h known = kind (h / 2 ^ 26) refl known
-  where
-    kind : (k : ℕ) → h / 2 ^ 26 ≡ k → Known p a (node-of-kind k (h % 2 ^ 26)) → h < 3 * 2 ^ 26
-    kind zero e m = omega arith
-    kind (suc zero) e m = omega arith
-    kind (suc (suc zero)) e m = omega arith
-    kind (suc (suc (suc k))) e m = absurd m
-
 -- ---- handles stay known in a store with more
 
 pub known-more : (p a p′ a′ : ℕ) → p ≤ p′ → a ≤ a′ → (n : Node) → Known p a n → Known p′ a′ n

@@ -79,14 +79,5 @@ module _ (parents : Parents) (stack : List ℕ) where
     pub search-bits-most : length stack ≤ 4096 → length bits ≤ 5120
     search-bits-most h = omega (arith, search-bits)
 
-    pub search-bytes-most : length stack ≤ 4096 → length (path-bytes bits) ≤ 640
-    search-bytes-most h = omega (arith, search-bits, length-path-bytes bits)
-
-    -- There is a byte, and the first is not 0.
-    pub search-bytes-some : 1 ≤ length (path-bytes bits)
-    search-bytes-some =
-        let l : length bits ≡ length (search-ends .steps ++ true ∷ []) = ap length (search-ends .ends) in
-        omega (arith, l, length-append (search-ends .steps) (true ∷ []), length-path-bytes bits)
-
     pub search-first-byte : 0 < getD (path-bytes bits) 0 0
     search-first-byte = subst (λ (x : List Bool). 0 < getD (path-bytes x) 0 0) (sym (search-ends .ends)) (path-bytes-first (search-ends .steps))

@@ -400,15 +400,6 @@ free-under (suc t) h ms l a =
     (λ k. omega (arith, free-under t h ms k a))
     (λ k. let alike : t ≡ h = omega arith in rw (alike, lookup-absent h ms a) (omega arith))
 
-module _ (t n : ℕ) (c : Cache) (r : Cache × ℕ) (g : Grown t n c r) where
-  -- Entries, and two for each handle below t that is free: one more at most.
-  pub entries-room : length (r .0 .entries) + 2 * free t (r .0 .mapped) ≤ length (c .entries) + 2 * free t (c .mapped) + 1
-  entries-room = omega (arith, g .entries-most, g .free-fall t (omega arith))
-
-  -- Parents, and two for each handle below t that is free: no more.
-  pub parents-room : all-parents (r .0 .entries) + 2 * free t (r .0 .mapped) ≤ all-parents (c .entries) + 2 * free t (c .mapped)
-  parents-room = omega (arith, g .parents-most, g .free-fall t (omega arith))
-
 -- ---- an add
 
 -- The sentinel's parents, and all parents without them.
@@ -574,17 +565,6 @@ module _ (n k : ℕ) (c : Cache) (h : Held n k c) where
 
   pub held-parents : all-parents (c .entries) ≤ 2 * n
   held-parents = omega (arith, h .parents-held, held-mapped)
-
-  -- With what the handles that are free may still add.
-  pub held-entries-room : length (c .entries) + 2 * free n (c .mapped) ≤ k + 2 * n
-  held-entries-room = omega (arith, h .entries-held, mapped-and-free n (c .mapped) (h .bounded .mapped-in))
-
-  pub held-parents-room : all-parents (c .entries) + 2 * free n (c .mapped) ≤ 2 * n
-  held-parents-room = omega (arith, h .parents-held, mapped-and-free n (c .mapped) (h .bounded .mapped-in))
-
-  -- An entry has at most 100 parents, which are entries.
-  pub held-parents-at : (e : ℕ) → ParentsOK (length (c .entries)) (parents-at e (c .entries))
-  held-parents-at e = parents-at-ok (length (c .entries)) e (c .entries) (h .bounded .parents-ok)
 
 -- The state before an add has no sentinel's entry beyond the entries of c.
 abbrev pub UndoBelow : ℕ → UndoState → Type 0

@@ -176,23 +176,3 @@ module _ (input : List ℕ) (na : ℕ) (xs : List (List ℕ)) (np : ℕ) (ps : L
 
   pub contents-of : ContentsRead input (record { atoms = xs; pairs = ps; sentinel = z; steps = ss })
   contents-of = record { atoms-there = subst (AtomsAt input 7) (sym (atoms-of .is)) (atoms-of .there); contents = contents }
-
-pub contents-read : (input : List ℕ) (f : File) (r : List ℕ) → after-mark version-1 (drop 5 input) ≡ got f r → ContentsRead input f
-contents-read input f r m =
-    let a = then-of (count 2 1024 (drop 5 input)) after-atom-count f r m in
-    let b = then-of (atoms version-1 (a .first) 0 [] (a .rest)) after-atoms f r (a .then-is) in
-    let c = then-of (count 2 1024 (b .rest)) (after-pair-count (b .first)) f r (b .then-is) in
-    let d = then-of (pairs (length (b .first)) (c .first) [] (c .rest)) (after-pairs (b .first)) f r (c .then-is) in
-    let s = then-of (sentinel (length (b .first)) (length (d .first)) (d .rest)) (after-sentinel (b .first) (d .first)) f r (d .then-is) in
-    let p = then-of (steps (length (s .rest)) (length (b .first)) (length (d .first)) 1024 [] (s .rest)) (after-steps (b .first) (d .first) (s .first)) f r (s .then-is) in
-    subst (ContentsRead input) (got-value (record { atoms = b .first; pairs = d .first; sentinel = s .first; steps = p .first }) f (p .rest) r (p .then-is))
-    (contents-of input (a .first) (b .first) (c .first) (d .first) (s .first) (p .first) (a .rest) (b .rest) (c .rest) (d .rest) (s .rest) (p .rest)
-    (a .first-is) (b .first-is) (c .first-is) (d .first-is) (s .first-is) (p .first-is))
-
--- The same of the whole file.
-pub file-contents : (input : List ℕ) (f : File) (r : List ℕ) → file version-1 input ≡ got f r → ContentsRead input f
-unfolding file
-file-contents input f r e =
-    let two = asked-of 2 (leb (length input) 65535) (asked 3 (same (take 5 input) (mark version-1)) (after-mark version-1 (drop 5 input))) f r e in
-    let three = asked-of 3 (same (take 5 input) (mark version-1)) (after-mark version-1 (drop 5 input)) f r (two .1) in
-    contents-read input f r (three .1)

@@ -64,13 +64,6 @@ module _ (w r : List ℕ) (e : ℕ) (long : 524288 ≤ length w) (small : e < EN
         high = λ k l. put-other WRITTEN 96 w r mark-fits len k (λ j m q. omega arith);
       }
 
--- The entry itself is marked, and every other one is as it was.
-pub mark-here : (w w′ : List ℕ) (e : ℕ) → e < ENTRIES → Marked w w′ e → marked-at w′ e ≡ true
-mark-here w w′ e l m = m .marks e l ∙ rw (eq-eqb e e refl)
-
-pub mark-past : (w w′ : List ℕ) (e x : ℕ) → x < ENTRIES → (x ≡ e → ⊥) → Marked w w′ e → marked-at w′ x ≡ marked-at w x
-mark-past w w′ e x l q m = m .marks x l ∙ rw (ne-eqb x e q)
-
 -- ---- a push, and a mark where the length is not below 4
 
 module _ (w v : List ℕ) (d e len : ℕ) (p : Pushed w v d e) where

@@ -93,21 +93,7 @@ module _ (a b : List ℕ) (n m : ℕ) (blob a′ b′ : List ℕ) (node n′ m�
         bytes-grow = omega (arith, done .size-is);
       }
 
--- an atom leaves the pairs and the ghost pairs
-pub atom-keeps : (blob : List ℕ) (s : Store) → (new-atom blob s .store .pairs ≡ s .pairs) × (new-atom blob s .store .ghosts ≡ s .ghosts)
-atom-keeps blob s = go (fits-in-small-atom blob)
-  where
-    go : (o : Option ℕ) → (small-or-listed o blob s .store .pairs ≡ s .pairs) × (small-or-listed o blob s .store .ghosts ≡ s .ghosts)
-    go (some v) = (refl, refl)
-    go none = (refl, refl)
-
 -- ---- two values joined
-
--- a join leaves the atoms
-pub join-keeps : (vs : List Value) (s : Store) → (join-values vs s .store .atoms ≡ s .atoms) × (join-values vs s .store .bytes ≡ s .bytes)
-join-keeps [] s = (refl, refl)
-join-keeps (v ∷ []) s = (refl, refl)
-join-keeps (r ∷ l ∷ vs) s = (refl, refl)
 
 -- what `join-values` makes of two values or more
 pub joins : (w : List ℕ) (n : ℕ) → 2 ≤ n → (s : Store)
