@@ -121,12 +121,8 @@ pub fn traverse_path_with_vec(
     };
     let steps = path_walk::stack_steps(path, count, values);
     if steps == values {
-        return walked(
-            path_walk::walk_bits(path, steps, count, pairs, used, NodePtr::NIL),
-            used,
-            ghosts,
-            listed,
-        );
+        let w = path_walk::walk_bits(path, steps, count, pairs, used, NodePtr::NIL);
+        return walked(w, used, ghosts, listed);
     }
     if steps == count {
         return Traversed::Node(build_list(work, pairs, values - steps, listed, used, ghosts));
