@@ -30,7 +30,7 @@ pub record Reads (input w p a b : List ℕ) (r : Reader) (left : ℕ) : Type 0 w
 
 pub reads-start : (input w p a b : List ℕ) → Lent input w p a b start → Reads input w p a b start (length input)
 unfolding read opsOf valuesOf
-reads-start input w p a b l = record { stands = record { lent = l; sound = sound-start }; same = refl }
+reads-start input w p a b l = record { stands = record { lent = l; sound = sound-start; lists = record { all = refl; few = omega arith } }; same = refl }
 
 module _ (input w p a b : List ℕ) (r : Reader) (left : ℕ) (h : Reads input w p a b r left) where
   -- No item is left.

@@ -16,7 +16,7 @@ use Rattle.de_br.specs.declared.ReadAnswer.{ReadAnswer}
 
 -- Nothing is in use yet.
 abbrev pub start : Reader
-start = record { position = 0; ops = 0; values = 0; pairs = 0; atoms = 0; bytes = 0; ghosts = 0 }
+start = record { position = 0; ops = 0; values = 0; listed = 0; pairs = 0; atoms = 0; bytes = 0; ghosts = 0 }
 
 abbrev pub outcomeOf : (w p a b : List ℕ) → Outcome → Read Stored
 outcomeOf w p a b (outcome.Accepted r) = accepted (storedOf w p a b r)

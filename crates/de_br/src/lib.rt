@@ -31,6 +31,7 @@ fn read_all(
         position: 0,
         ops: 0,
         values: 0,
+        listed: 0,
         pairs: 0,
         atoms: 0,
         bytes: 0,

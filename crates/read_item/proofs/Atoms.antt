@@ -13,7 +13,7 @@ use Rattle.atom.specs.ParseLaws.{blob-there}
 use Rattle.allocator.specs.SmallAtom.{fits-in-small-atom}
 use Rattle.reading.specs.Format.{ParseOp, SExp, Cons, Step, go, whole, stop, settle, atom-item}
 use Rattle.reading.specs.Store.{Store, Value, Made, Stored, small-or-listed, new-atom, push-made, store-values}
-use Rattle.reading.specs.Sound.{Sound, sound-atom}
+use Rattle.reading.specs.Sound.{Sound, unlisted, sound-atom}
 use Rattle.reading.specs.Blobs.{Within, blob-within, length-blob}
 use Rattle.store.specs.Layout.{VALUES, opsOf, valuesOf, PushedValue, AtomStored}
 use Rattle.read_item.specs.declared.Reader.{Reader}
@@ -147,6 +147,11 @@ module _ (input w p a b : List ℕ) (r : Reader) (h : Stands input w p a b r) (s
           limit = omega (arith, lent-pushed .inside, h .lent .short);
           pairs-in = lent-pushed .pairs-in;
           sound = sound-pushed;
+          lists =
+              record {
+                all = ap (λ (n : ℕ). unlisted (valuesOf w′ n)) (k .listed) ∙ ap unlisted (k .pushed .below (r .listed) (h .lists .few)) ∙ h .lists .all;
+                few = omega (arith, k .listed, k .values, h .lists .few);
+              };
         }
 
     pub inside-pushed : r′ .position ≤ length input

@@ -12,7 +12,7 @@ use Rattle.words.specs.Choice.{cond-true, cond-false}
 use Rattle.atom.specs.Parse.{parse}
 use Rattle.reading.specs.Format.{ParseOp, SExp, Cons, At, Step, go, whole, stop, settle, atom-item, path-item, next-item, step}
 use Rattle.reading.specs.Store.{Value, Stored, store-values}
-use Rattle.reading.specs.Sound.{Sound, sound-pair}
+use Rattle.reading.specs.Sound.{Sound, unlisted, sound-pair}
 use Rattle.store.specs.Layout.{opsOf, valuesOf, PushedPair}
 use Rattle.read_item.specs.declared.Reader.{Reader}
 use Rattle.read_item.specs.declared.Item.{Item}
@@ -71,6 +71,7 @@ module _ (input w p a b : List ℕ) (r : Reader) where
                 record {
                   lent = lent-after input w p a b r w′ p a b (pair-begun r) (k .lent) lw refl refl refl (omega arith) (k .lent .pairs-in) (omega arith) refl (k .lent .atoms-in) (omega arith) refl (k .lent .bytes-in) (omega arith) refl;
                   sound = subst (λ (o : List ParseOp). Sound (r .position + 1) (SExp ∷ o) (storedOf w′ p a b (pair-begun r))) (sym (q .ops)) (subst (Sound (r .position + 1) (SExp ∷ SExp ∷ Cons ∷ ops)) same-stored (sound-pair (r .position) ops stored (k .sound)));
+                  lists = record { all = ap unlisted (q .values (r .listed)) ∙ k .lists .all; few = k .lists .few };
                 };
           })
         where
@@ -95,6 +96,7 @@ module _ (input w p a b : List ℕ) (r : Reader) where
             inside = h;
             pairs-in = k .lent .pairs-in;
             sound = k .sound;
+            lists = k .lists;
           }
 
       pub path-stepped : (w″ p″ : List ℕ) (i : Item) → getD input (r .position) 0 ≡ 0xfe → SteppedPath input w p r w″ p″ i → Stepped input w p a b r w″ p″ a b i

@@ -11,10 +11,13 @@ use lib.Seq.{length-take-le, drop-drop}
 use Rattle.words.specs.Words.{at}
 use Rattle.reading.specs.Format.{ParseOp, SExp, Cons, Step, settle}
 use Rattle.reading.specs.Store.{Store, Value, Stored, pair-count, join-values, store-values}
-use Rattle.reading.specs.Sound.{Sound, conses, sound-join, sound-two}
-use Rattle.store.specs.Layout.{OPS, VALUES, opOf, opsOf, valuesOf, Joined}
+use Rattle.reading.specs.Sound.{Sound, unlisted, conses, sound-join, sound-two}
+use Rattle.store.specs.Layout.{OPS, VALUES, opOf, opsOf, valueAt, valuesOf, Joined}
 use Rattle.store.proofs.Stacks.{ops-more, values-two}
 use Rattle.store.proofs.Stored.{half}
+use Rattle.traverse_path_with_vec.specs.Leads.{HaveLists}
+use Rattle.traverse_path_with_vec.proofs.Adding.{fewer-listed}
+use Rattle.traverse_path_with_vec.proofs.Leading.{drop-values}
 use Rattle.read_item.specs.declared.Reader.{Reader}
 use Rattle.read_item.specs.State.{storedWith, Ready, Follows, Onward, NoJoin, Settled}
 
@@ -60,9 +63,9 @@ module _ (w p : List ℕ) (r : Reader) (h : Ready w p r) (ops : List ParseOp) (t
   join-room = room w p (h .atoms) (h .bytes) r (Cons ∷ ops) (h .limit) (h .pairs-in) (omega (arith, length-ops w (r .ops), ap length top)) sound
 
 -- A join in the slices is the definition's.
-module _ (w p : List ℕ) (r : Reader) (w′ p′ : List ℕ) (h : Ready w p r) (ops-left : 0 < r .ops) (top : opsOf w (r .ops) ≡ Cons ∷ opsOf w (r .ops - 1)) (j : Joined w p (r .values) (r .pairs) w′ p′) where
+module _ (w p : List ℕ) (r : Reader) (w′ p′ : List ℕ) (h : Ready w p r) (ops-left : 0 < r .ops) (top : opsOf w (r .ops) ≡ Cons ∷ opsOf w (r .ops - 1)) (j : Joined w p (r .values) (r .pairs) w′ p′) (listed : ℕ) (known : listed ≤ r .listed) (below : listed ≤ r .values - 2) where
   abbrev pub joined-reader : Reader
-  joined-reader = record { position = r .position; ops = r .ops - 1; values = r .values - 1; pairs = r .pairs + 1; atoms = r .atoms; bytes = r .bytes; ghosts = r .ghosts + 1 }
+  joined-reader = record { position = r .position; ops = r .ops - 1; values = r .values - 1; listed = listed; pairs = r .pairs + 1; atoms = r .atoms; bytes = r .bytes; ghosts = r .ghosts + 1 }
 
   two : 2 ≤ r .values
   two = join-two w p r h (opsOf w (r .ops - 1)) top
@@ -82,6 +85,26 @@ module _ (w p : List ℕ) (r : Reader) (w′ p′ : List ℕ) (h : Ready w p r) 
       s : Store
       s = storedWith w p a b r .store
 
+  -- The values below the two are as they were, so they have their lists.
+  values-below : valuesOf w′ listed ≡ valuesOf w listed
+  values-below =
+      sym (drop-values w′ (r .values - 1) (r .values - 1 - listed) (omega (arith, two)) ∙ ap (valuesOf w′) back)
+      ∙ ap (drop (r .values - 1 - listed)) (j .values-are s refl ∙ ap (λ (vs : List Value). join-values vs s .values) (values-two w (r .values) two))
+      ∙ ap (λ (n : ℕ). drop n (join-values (valueAt w (r .values - 1) ∷ valueAt w (r .values - 2) ∷ valuesOf w (r .values - 2)) s .values)) past
+      ∙ drop-values w (r .values - 2) (r .values - 2 - listed) (omega arith) ∙ ap (valuesOf w) back-2
+    where
+      s : Store
+      s = storedWith w p [] [] r .store
+
+      back : r .values - 1 - (r .values - 1 - listed) ≡ listed
+      back = omega (arith, two)
+
+      back-2 : r .values - 2 - (r .values - 2 - listed) ≡ listed
+      back-2 = omega arith
+
+      past : r .values - 1 - listed ≡ suc (r .values - 2 - listed)
+      past = omega (arith, two)
+
   pub joined-onward : Onward w p r w′ p′ joined-reader
   joined-onward =
       record {
@@ -96,16 +119,18 @@ module _ (w p : List ℕ) (r : Reader) (w′ p′ : List ℕ) (h : Ready w p r) 
             };
         kept = λ a b s. rw ops-are (subst (Sound (r .position) (opsOf w (r .ops - 1))) (join-is a b) (sound-join (r .position) (opsOf w (r .ops - 1)) (storedWith w p a b r) (h .limit) (rw top at s)));
         same = λ rest a b. rw (top, ops-are) (ap (λ (s : Stored). settle store-values rest (opsOf w (r .ops - 1)) s) (join-is a b));
+        lists = record { all = ap unlisted values-below ∙ fewer-listed w listed (r .listed) known (h .lists .all); few = omega (arith, two) };
       }
 
 -- ---- one join after the other
 
-pub onward-none : (w p : List ℕ) (r : Reader) → 2 * r .pairs ≤ length p → Onward w p r w p r
-onward-none w p r h =
+pub onward-none : (w p : List ℕ) (r : Reader) → 2 * r .pairs ≤ length p → HaveLists w (r .listed) (r .values) → Onward w p r w p r
+onward-none w p r h l =
     record {
       follows = record { pairs-in = h; more = omega arith; pairs-rest = refl; position = refl; atoms = refl; bytes = refl };
       kept = λ a b s. s;
       same = λ rest a b. refl;
+      lists = l;
     }
 
 pub onward-both : (w₀ p₀ : List ℕ) (r₀ : Reader) (w p : List ℕ) (r : Reader) (w′ p′ : List ℕ) (r′ : Reader) → length p ≡ length p₀
@@ -124,6 +149,7 @@ onward-both w₀ p₀ r₀ w p r w′ p′ r′ long h k =
       kept = λ a b s. subst (λ (n : ℕ). Sound n (opsOf w′ (r′ .ops)) (storedWith w′ p′ a b r′)) (h .follows .position)
           (k .kept a b (subst (λ (n : ℕ). Sound n (opsOf w (r .ops)) (storedWith w p a b r)) (sym (h .follows .position)) (h .kept a b s)));
       same = λ rest a b. h .same rest a b ∙ k .same rest a b;
+      lists = k .lists;
     }
   where
     gap : 2 * r .pairs + (2 * r′ .pairs - 2 * r .pairs) ≡ 2 * r′ .pairs
@@ -145,6 +171,7 @@ ready-on w₀ p₀ r₀ w p r h lw lp k =
       limit = omega (arith, h .limit, k .follows .position);
       pairs-in = omega (arith, k .follows .pairs-in);
       sound = subst (λ (n : ℕ). Sound n (opsOf w (r .ops)) (storedWith w p (h .atoms) (h .bytes) r)) (sym (k .follows .position)) (k .kept (h .atoms) (h .bytes) (h .sound));
+      lists = k .lists;
     }
 
 -- The word of the topmost operation says whether it is a join.

@@ -110,6 +110,7 @@ module _ (input w p : List ℕ) (r : Reader) (a b : List ℕ) (w′ p′ : List 
         lent = lent-same s (f .0);
         sound = subst (λ (n : ℕ). Sound n (SExp ∷ opsOf w′ (s .ops)) (storedOf w′ p′ a b s)) (sym (f .0 .position))
             (subst (Sound (r .position) (SExp ∷ opsOf w′ (s .ops))) (stored-same s (f .0)) (f .1 (take (2 * r .atoms) a) (take (r .bytes) b) sound));
+        lists = f .2;
       }
   item-stands (item.Whole s) f =
       record {

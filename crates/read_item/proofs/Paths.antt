@@ -81,7 +81,7 @@ module _ (input w p : List ℕ) (r : Reader) (h : BeforePath input w p r) where
   has : Room w p r (sound-law.conses (SExp ∷ opsOf w (r .ops)))
   has = room w p (h .atoms) (h .bytes) r (SExp ∷ opsOf w (r .ops)) (omega (arith, h .inside, h .short)) (h .pairs-in) (omega (arith, length-ops w (r .ops))) (h .sound)
 
-  pub walkable : leads.Walkable w p (r .values) (r .pairs) (r .ghosts)
+  pub walkable : leads.Walkable w p (r .values) (r .listed) (r .pairs) (r .ghosts)
   walkable =
       record {
         room =
@@ -91,7 +91,9 @@ module _ (input w p : List ℕ) (r : Reader) (h : BeforePath input w p r) where
               few = omega (arith, has .values);
               ghost = h .sound .holds .ghosts-enough;
               room = omega (arith, has .pairs);
+              lists = h .lists .all;
             };
+        listed-few = h .lists .few;
         nodes = λ k l.
             known-within (r .pairs) (length (h .atoms) / 2) (node-of (at w (VALUES + 2 * k)))
             (subst (λ (n : ℕ). KnownHandle n (length (h .atoms) / 2) (at w (VALUES + 2 * k))) count
@@ -192,6 +194,9 @@ module _ (input w p : List ℕ) (r : Reader) (h : BeforePath input w p r) where
           place : r .position + (at-path .size + 1) ≡ end
           place = omega (arith, at-path .end-is)
 
+      lists-led : leads.HaveLists w₁ (b₁ .listed) (r .values)
+      lists-led = l (storedWith w p [] [] r .store) refl refl .lists
+
       pub path-ready : Ready w₂ p₁ (node-pushed r b₁ end)
       path-ready =
           record {
@@ -202,6 +207,7 @@ module _ (input w p : List ℕ) (r : Reader) (h : BeforePath input w p r) where
             limit = omega (arith, end-inside, h .short);
             pairs-in = omega (arith, has .pairs, h .room);
             sound = path-pushed .kept (h .atoms) (h .bytes) (h .sound);
+            lists = record { all = ap sound-law.unlisted (push .below (b₁ .listed) (lists-led .few)) ∙ lists-led .all; few = omega (arith, lists-led .few) };
           }
 
 -- The parser's refusal is the definition's.

@@ -53,7 +53,7 @@ module _ (input w p : List ℕ) (r : Reader) (w′ p′ : List ℕ) (s : Reader)
       }
 
   abbrev pub next-reader : Reader
-  next-reader = record { position = s .position; ops = s .ops - 1; values = s .values; pairs = s .pairs; atoms = s .atoms; bytes = s .bytes; ghosts = s .ghosts }
+  next-reader = record { position = s .position; ops = s .ops - 1; values = s .values; listed = s .listed; pairs = s .pairs; atoms = s .atoms; bytes = s .bytes; ghosts = s .ghosts }
 
   pub settle-go : 0 < s .ops → Next input w p r w′ p′ (item.Go next-reader)
   settle-go more =
@@ -61,7 +61,7 @@ module _ (input w p : List ℕ) (r : Reader) (w′ p′ : List ℕ) (s : Reader)
         same = λ a b.
             h .onward .same rest a b ∙ ap (λ (ops : List ParseOp). settle store-values rest ops (storedWith w′ p′ a b s)) (next-op w′ (s .ops) more (h .no-join))
             ∙ ap (λ (n : ℕ). go (record { rest = drop n input; ops = opsOf w′ (s .ops - 1); values = storedWith w′ p′ a b s })) (sym same-place);
-        follows = (follows-next, λ a b q. subst (λ (ops : List ParseOp). Sound (r .position) ops (storedWith w′ p′ a b s)) (next-op w′ (s .ops) more (h .no-join)) (h .onward .kept a b q));
+        follows = (follows-next, λ a b q. subst (λ (ops : List ParseOp). Sound (r .position) ops (storedWith w′ p′ a b s)) (next-op w′ (s .ops) more (h .no-join)) (h .onward .kept a b q), h .onward .lists);
       }
     where
       f : Follows p r p′ s

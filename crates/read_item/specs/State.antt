@@ -8,6 +8,7 @@ use Rattle.reading.specs.Store.{Store, Value, Stored, store-values}
 use Rattle.reading.specs.Sound.{Sound}
 use Rattle.atom.specs.Parse.{Parse, blob, parse, parse-at}
 use Rattle.traverse_path_with_vec.specs.declared.Built.{Built}
+use Rattle.traverse_path_with_vec.specs.Leads.{HaveLists}
 use Rattle.store.specs.Layout.{opsOf, valuesOf, PushedValue, AtomStored}
 use Rattle.read_item.specs.declared.Reader.{Reader}
 use Rattle.read_item.specs.declared.Item.{Item}
@@ -29,6 +30,7 @@ pub record Ready (w p : List ℕ) (r : Reader) : Type 0 where
   pub limit : r .position ≤ 65535
   pub pairs-in : 2 * r .pairs ≤ length p
   pub sound : Sound (r .position) (opsOf w (r .ops)) (storedWith w p atoms bytes r)
+  pub lists : HaveLists w (r .listed) (r .values)
 
 -- A reader whose counts follow from another's by pairs alone; the rest of the pairs is as it was.
 pub record Follows (p : List ℕ) (r : Reader) (p′ : List ℕ) (r′ : Reader) : Type 0 where
@@ -44,6 +46,7 @@ pub record Onward (w p : List ℕ) (r : Reader) (w′ p′ : List ℕ) (r′ : R
   pub follows : Follows p r p′ r′
   pub kept : (a b : List ℕ) → Sound (r .position) (opsOf w (r .ops)) (storedWith w p a b r) → Sound (r .position) (opsOf w′ (r′ .ops)) (storedWith w′ p′ a b r′)
   pub same : (rest a b : List ℕ) → settle store-values rest (opsOf w (r .ops)) (storedWith w p a b r) ≡ settle store-values rest (opsOf w′ (r′ .ops)) (storedWith w′ p′ a b r′)
+  pub lists : HaveLists w′ (r′ .listed) (r′ .values)
 
 -- The topmost operation is no join.
 abbrev pub NoJoin : List ParseOp → Type 0
@@ -66,6 +69,7 @@ itemWith input w p a b (item.Refused n) = stop n
 abbrev pub FollowsItem : (w p : List ℕ) → Reader → (w′ p′ : List ℕ) → Item → Type 0
 FollowsItem w p r w′ p′ (item.Go r′) =
     Follows p r p′ r′ × ((a b : List ℕ) → Sound (r .position) (opsOf w (r .ops)) (storedWith w p a b r) → Sound (r .position) (SExp ∷ opsOf w′ (r′ .ops)) (storedWith w′ p′ a b r′))
+    × HaveLists w′ (r′ .listed) (r′ .values)
 FollowsItem w p r w′ p′ (item.Whole r′) =
     Follows p r p′ r′ × ((a b : List ℕ) → Sound (r .position) (opsOf w (r .ops)) (storedWith w p a b r) → Sound (r .position) [] (storedWith w′ p′ a b r′))
 FollowsItem w p r w′ p′ (item.Refused n) = Unit {0}
@@ -94,18 +98,19 @@ pub record AtomPushed (w a b : List ℕ) (r : Reader) (blob : List ℕ) (end : �
   pub position : r′ .position ≡ end
   pub ops : r′ .ops ≡ r .ops
   pub values : r′ .values ≡ r .values + 1
+  pub listed : r′ .listed ≡ r .listed
   pub pairs : r′ .pairs ≡ r .pairs
   pub ghosts : r′ .ghosts ≡ r .ghosts + 1
 
 -- A pair's mark is passed.
 abbrev pub pair-begun : Reader → Reader
-pair-begun r = record { position = r .position + 1; ops = r .ops + 2; values = r .values; pairs = r .pairs; atoms = r .atoms; bytes = r .bytes; ghosts = r .ghosts }
+pair-begun r = record { position = r .position + 1; ops = r .ops + 2; values = r .values; listed = r .listed; pairs = r .pairs; atoms = r .atoms; bytes = r .bytes; ghosts = r .ghosts }
 
 -- ---- a reference
 
 -- The node that a path led to is pushed; the path ends at `end`.
 abbrev pub node-pushed : Reader → Built → ℕ → Reader
-node-pushed r b end = record { position = end; ops = r .ops; values = r .values + 1; pairs = b .pairs; atoms = r .atoms; bytes = r .bytes; ghosts = b .ghosts + 1 }
+node-pushed r b end = record { position = end; ops = r .ops; values = r .values + 1; listed = b .listed; pairs = b .pairs; atoms = r .atoms; bytes = r .bytes; ghosts = b .ghosts + 1 }
 
 -- The reader stands before a reference. A path knows the values and the pairs alone.
 pub record BeforePath (input w p : List ℕ) (r : Reader) : Type 0 where
@@ -117,6 +122,7 @@ pub record BeforePath (input w p : List ℕ) (r : Reader) : Type 0 where
   pub inside : r .position < length input
   pub pairs-in : 2 * r .pairs ≤ length p
   pub sound : Sound (r .position) (SExp ∷ opsOf w (r .ops)) (storedWith w p atoms bytes r)
+  pub lists : HaveLists w (r .listed) (r .values)
 
 -- The path's atom was found, and ends at `end`.
 pub record PathFound (input : List ℕ) (r : Reader) (z : Parse) (end : ℕ) : Type 0 where
@@ -177,6 +183,7 @@ pub record Lent (input w p a b : List ℕ) (r : Reader) : Type 0 where
 pub record Stands (input w p a b : List ℕ) (r : Reader) : Type 0 where
   pub lent : Lent input w p a b r
   pub sound : Sound (r .position) (SExp ∷ opsOf w (r .ops)) (storedOf w p a b r)
+  pub lists : HaveLists w (r .listed) (r .values)
 
 -- Everything is read.
 pub record Ends (input w p a b : List ℕ) (r : Reader) : Type 0 where

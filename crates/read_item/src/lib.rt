@@ -14,11 +14,12 @@ ghost use Rattle.read_item.specs.State.{Ready, Onward, Settled, Next, At
 ghost use Rattle.atom.specs.Parse.{blob-of, parse-at};
 ghost use Rattle.parse_atom.specs.Answers.{parseOf};
 
-// Where the reader stands: the next byte, and how much of each stack and of the store is in use.
+// Where the reader stands: the next byte, and how much of each stack and of the store is in use. The lowest `listed` values are known to have a list.
 pub struct Reader {
     pub position: usize,
     pub ops: usize,
     pub values: usize,
+    pub listed: usize,
     pub pairs: usize,
     pub atoms: usize,
     pub bytes: usize,
@@ -32,18 +33,20 @@ pub enum Item {
     Refused(u32),
 }
 
-// The topmost operation, a join, is done.
+// The topmost operation, a join, is done. The lists of the two values go with them, and the pair has none.
 fn join_top(work: &mut [u32], pairs: &mut [u32], r: Reader) -> Reader
     requires { ⌜ (Ready (now work) (now pairs) r) × (0 < r .ops) × (opsOf (now work) (r .ops) ≡ Cons ∷ opsOf (now work) (r .ops - 1)) ⌝ }
     ensures { λ s. ⌜ (Onward (now (work .entry)) (now (pairs .entry)) r (now (work .exit)) (now (pairs .exit)) s) × (s .ops ≡ r .ops - 1) ⌝ }
 {
     let values = r.values;
     let used = r.pairs;
+    let listed = traverse_path_with_vec::listed_among(r.listed, values - 2);
     store::join(work, pairs, values, used);
     Reader {
         position: r.position,
         ops: r.ops - 1,
         values: values - 1,
+        listed,
         pairs: used + 1,
         atoms: r.atoms,
         bytes: r.bytes,
@@ -83,6 +86,7 @@ fn settle(input: &[u8], work: &mut [u32], pairs: &mut [u32], reader: Reader) -> 
         position: r.position,
         ops: r.ops - 1,
         values: r.values,
+        listed: r.listed,
         pairs: r.pairs,
         atoms: r.atoms,
         bytes: r.bytes,
@@ -113,6 +117,7 @@ fn push_atom(
         position: end,
         ops: r.ops,
         values: values + 1,
+        listed: r.listed,
         pairs: r.pairs,
         atoms: a.atoms,
         bytes: a.bytes,
@@ -153,6 +158,7 @@ fn push_node(work: &mut [u32], r: Reader, b: Built, end: usize) -> Reader
         position: end,
         ops: r.ops,
         values: values + 1,
+        listed: b.listed,
         pairs: b.pairs,
         atoms: r.atoms,
         bytes: r.bytes,
@@ -178,6 +184,7 @@ fn push_path(
         work,
         pairs,
         r.values,
+        r.listed,
         r.pairs,
         r.ghosts,
     ) {
@@ -210,6 +217,7 @@ fn pair_item(work: &mut [u32], r: Reader) -> Item
         position: r.position + 1,
         ops: ops + 2,
         values: r.values,
+        listed: r.listed,
         pairs: r.pairs,
         atoms: r.atoms,
         bytes: r.bytes,

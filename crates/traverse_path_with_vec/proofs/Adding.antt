@@ -16,7 +16,7 @@ use Rattle.store.proofs.Stacks.{values-same, values-more}
 use Rattle.store.proofs.Stored.{take-two, drop-two, half}
 use Rattle.traverse_path_with_vec.specs.declared.Built.{Built}
 use Rattle.reading.specs.Sound.{unlisted}
-use Rattle.traverse_path_with_vec.specs.Leads.{unlisted-of, Holds, Adds, Lists}
+use Rattle.traverse_path_with_vec.specs.Leads.{unlisted-of, HaveLists, Holds, Adds, Lists}
 
 -- ---- a list that the value has
 
@@ -28,7 +28,7 @@ list-of-word (suc n) h = ap some less
     less = omega arith
 
 module _ (w p : List ℕ) (i : ℕ) (below b : Built) (listed : at w (VALUES + 2 * i + 1) ≡ 0 → ⊥) (node : b .node .0 ≡ at w (VALUES + 2 * i + 1) - 1)
-    (pairs : b .pairs ≡ below .pairs) (ghosts : b .ghosts ≡ below .ghosts) where
+    (pairs : b .pairs ≡ below .pairs) (ghosts : b .ghosts ≡ below .ghosts) (listed-is : b .listed ≡ i + 1) where
   cached : listOf (at w (VALUES + 2 * i + 1)) ≡ some (b .node .0)
   cached = list-of-word (at w (VALUES + 2 * i + 1)) listed ∙ ap some (sym node)
 
@@ -42,13 +42,14 @@ module _ (w p : List ℕ) (i : ℕ) (below b : Built) (listed : at w (VALUES + 2
         pairs-rest = refl;
         total = omega arith;
         spent = rw cached (omega (arith, ghosts));
+        listed-is = listed-is;
       }
 
 -- ---- a pair that is made
 
 module _ (w p : List ℕ) (i : ℕ) (below : Built) (p′ : List ℕ) (b : Built) (room : VALUES + 2 * i + 1 < length w) (free : 2 * below .pairs + 2 ≤ length p)
     (bare : at w (VALUES + 2 * i + 1) ≡ 0) (some-left : 1 ≤ below .ghosts) (node : b .node .0 ≡ handle-of (pair (below .pairs)))
-    (pairs : b .pairs ≡ below .pairs + 1) (ghosts : b .ghosts ≡ below .ghosts - 1)
+    (pairs : b .pairs ≡ below .pairs + 1) (ghosts : b .ghosts ≡ below .ghosts - 1) (listed-is : b .listed ≡ i + 1)
     (appended : p′ ≡ paste p (2 * below .pairs) (at w (VALUES + 2 * i) ∷ below .node .0 ∷ []) 2) where
   kept : List ℕ
   kept = set w (VALUES + 2 * i + 1) (b .node .0 + 1)
@@ -88,6 +89,7 @@ module _ (w p : List ℕ) (i : ℕ) (below : Built) (p′ : List ℕ) (b : Built
             ∙ (λ j. drop (2 * sym pairs j) p);
         total = omega arith;
         spent = ap (λ (o : Option ℕ). unlisted-of o (b .ghosts)) none-yet ∙ omega arith;
+        listed-is = listed-is;
       }
 
 -- ---- the lowest values, one after the other
@@ -123,19 +125,81 @@ unlisted-up w i (suc k) =
     grows none n = omega arith
     grows (some h) n = omega arith
 
-pub lists-start : (w p : List ℕ) (used ghosts : ℕ) (b : Built) → b .node .0 ≡ handle-of nil → b .pairs ≡ used → b .ghosts ≡ ghosts → Lists w p 0 used ghosts w p b
+-- ---- values that have their lists
+
+-- The list of such values changes neither them nor the store.
+list-there : (vs : List Value) (s : Store) → unlisted vs ≡ 0 → (list-of vs s .values ≡ vs) × (list-of vs s .store ≡ s)
+unfolding list-of
+list-there [] s e = (refl, refl)
+list-there (v ∷ vs) s e = one (v .list) refl e (λ z. list-there vs s z)
+  where
+    one : (o : Option ℕ) → v .list ≡ o → unlisted-of o (unlisted vs) ≡ 0 → (unlisted vs ≡ 0 → (list-of vs s .values ≡ vs) × (list-of vs s .store ≡ s))
+        → (add-to-list (v .list) (v .node) (list-of vs s) .values ≡ v ∷ vs) × (add-to-list (v .list) (v .node) (list-of vs s) .store ≡ s)
+    one none q z f = absurd (omega arith)
+    one (some h) q z f =
+        let below = f (omega arith) in (
+          ap (λ (o : Option ℕ). add-to-list o (v .node) (list-of vs s) .values) q
+              ∙ (λ j. record { node = v .node; list = sym q j } ∷ below .0 j),
+          ap (λ (o : Option ℕ). add-to-list o (v .node) (list-of vs s) .store) q ∙ below .1,
+        )
+
+-- All values have a list where the list of them was made.
+all-listed : (vs : List Value) (s : Store) → unlisted (list-of vs s .values) ≡ 0
+unfolding list-of
+all-listed [] s = refl
+all-listed (v ∷ vs) s = one (v .list) (all-listed vs s)
+  where
+    one : (o : Option ℕ) → unlisted (list-of vs s .values) ≡ 0 → unlisted (add-to-list o (v .node) (list-of vs s) .values) ≡ 0
+    one none e = omega (arith, e)
+    one (some h) e = omega (arith, e)
+
+-- Fewer of the lowest values have theirs too.
+pub fewer-listed : (w : List ℕ) (m n : ℕ) → m ≤ n → unlisted (valuesOf w n) ≡ 0 → unlisted (valuesOf w m) ≡ 0
+fewer-listed w m n h e = omega (arith, unlisted-up w m (n - m), ap (λ (k : ℕ). unlisted (valuesOf w k)) whole)
+  where
+    whole : m + (n - m) ≡ n
+    whole = omega arith
+
+-- The topmost of such values has a list.
+pub top-listed : (w : List ℕ) (n : ℕ) → 0 < n → unlisted (valuesOf w n) ≡ 0 → at w (VALUES + 2 * (n - 1) + 1) ≡ 0 → ⊥
+top-listed w n h e z = absurd (omega (arith, unlisted-more w (n - 1), ap (λ (k : ℕ). unlisted (valuesOf w k)) less, bare))
+  where
+    less : n - 1 + 1 ≡ n
+    less = omega arith
+
+    bare : unlisted-of (valueAt w (n - 1) .list) (unlisted (valuesOf w (n - 1))) ≡ 1 + unlisted (valuesOf w (n - 1))
+    bare = ap (λ (k : ℕ). unlisted-of (listOf k) (unlisted (valuesOf w (n - 1)))) z
+
+-- It is the list of them all.
+pub top-list : (w : List ℕ) (n : ℕ) → 0 < n → unlisted (valuesOf w n) ≡ 0 → (s : Store) → at w (VALUES + 2 * (n - 1) + 1) - 1 ≡ list-of (valuesOf w n) s .node
+top-list w n h e s =
+    sym (ap (λ (k : ℕ). list-of (valuesOf w k) s .node) (sym less) ∙ ap (λ (l : Listed). l .node) (list-more w (n - 1) s)
+    ∙ ap (λ (o : Option ℕ). add-to-list o (valueAt w (n - 1) .node) (list-of (valuesOf w (n - 1)) s) .node)
+    (list-of-word (at w (VALUES + 2 * (n - 1) + 1)) (top-listed w n h e)))
+  where
+    less : n - 1 + 1 ≡ n
+    less = omega arith
+
+pub no-list : (w : List ℕ) (n : ℕ) → n ≡ 0 → (s : Store) → handle-of nil ≡ list-of (valuesOf w n) s .node
 unfolding valuesOf list-of
-lists-start w p used ghosts b n u g =
+no-list w n e s = ap (λ (k : ℕ). list-of (valuesOf w k) s .node) (sym e)
+
+-- The lowest i of the values that have their lists.
+pub lists-start : (w p : List ℕ) (i listed used ghosts : ℕ) (b : Built) → i ≤ listed → unlisted (valuesOf w listed) ≡ 0 → ((s : Store) → b .node .0 ≡ list-of (valuesOf w i) s .node) → b .pairs ≡ used → b .ghosts ≡ ghosts → b .listed ≡ listed
+    → Lists w p i listed used ghosts w p b
+lists-start w p i listed used ghosts b h a n u g m =
     record {
-      node-is = λ s e f. n;
-      values-are = λ s e f. refl;
-      pairs-are = λ s e f. ap (λ (k : ℕ). take (2 * k) p) u ∙ sym e;
-      ghosts-are = λ s e f. g ∙ sym f;
+      node-is = λ s e f. n s;
+      values-are = λ s e f. sym (list-there (valuesOf w i) s (fewer-listed w i listed h a) .0);
+      pairs-are = λ s e f. ap (λ (k : ℕ). take (2 * k) p) u ∙ sym e ∙ ap (λ (t : Store). t .pairs) (sym (list-there (valuesOf w i) s (fewer-listed w i listed h a) .1));
+      ghosts-are = λ s e f. g ∙ sym f ∙ ap (λ (t : Store). t .ghosts) (sym (list-there (valuesOf w i) s (fewer-listed w i listed h a) .1));
       pairs-rest = refl;
       low = λ k l. refl;
       high = λ k l. refl;
       total = omega arith;
       more = omega arith;
+      least = omega arith;
+      lists = λ k l _. record { all = ap (λ (j : ℕ). unlisted (valuesOf w j)) m ∙ a; few = omega arith };
     }
 
 -- What is past n pairs is past more of them.
@@ -146,7 +210,7 @@ drop-more n m p q l e =
     split : 2 * m ≡ 2 * n + 2 * (m - n)
     split = omega arith
 
-module _ (w₀ p₀ : List ℕ) (used ghosts i : ℕ) (w p : List ℕ) (below : Built) (l : Lists w₀ p₀ i used ghosts w p below) (w′ p′ : List ℕ) (b : Built)
+module _ (w₀ p₀ : List ℕ) (listed used ghosts i : ℕ) (w p : List ℕ) (below : Built) (l : Lists w₀ p₀ i listed used ghosts w p below) (w′ p′ : List ℕ) (b : Built)
     (a : Adds w p i below w′ p′ b) where
   same-value : valueAt w i ≡ valueAt w₀ i
   same-value = λ j. record { node = l .high (VALUES + 2 * i) (omega arith) j; list = listOf (l .high (VALUES + 2 * i + 1) (omega arith) j) }
@@ -167,14 +231,22 @@ module _ (w₀ p₀ : List ℕ) (used ghosts i : ℕ) (w p : List ℕ) (below : 
       go none e = omega (arith, a .total)
       go (some h) e = omega (arith, a .total)
 
-  pub lists-more : Lists w₀ p₀ (i + 1) used ghosts w′ p′ b
+  values-next : (s : Store) → s .pairs ≡ take (2 * used) p₀ → s .ghosts ≡ ghosts → valuesOf w′ (i + 1) ≡ list-of (valuesOf w₀ (i + 1)) s .values
+  values-next s e f =
+      values-more w′ i
+      ∙ ap {B = List Value} (λ vs. valueAt w′ i ∷ vs) (values-same w w′ i (λ k m n. a .others k (λ q. omega arith)) ∙ l .values-are s e f)
+      ∙ a .values-are (list-of (valuesOf w₀ i) s) (held s e f) ∙ ap (λ (r : Listed). r .values) (next-list s)
+
+  listed-next : unlisted (valuesOf w′ (b .listed)) ≡ 0
+  listed-next =
+      let s : Store = record { pairs = take (2 * used) p₀; atoms = []; bytes = []; ghosts = ghosts } in
+      ap (λ (n : ℕ). unlisted (valuesOf w′ n)) (a .listed-is) ∙ ap unlisted (values-next s refl refl) ∙ all-listed (valuesOf w₀ (i + 1)) s
+
+  pub lists-more : Lists w₀ p₀ (i + 1) listed used ghosts w′ p′ b
   lists-more =
       record {
         node-is = λ s e f. holds s e f .node-is;
-        values-are = λ s e f.
-            values-more w′ i
-            ∙ ap {B = List Value} (λ vs. valueAt w′ i ∷ vs) (values-same w w′ i (λ k m n. a .others k (λ q. omega arith)) ∙ l .values-are s e f)
-            ∙ a .values-are (list-of (valuesOf w₀ i) s) (held s e f) ∙ ap (λ (r : Listed). r .values) (next-list s);
+        values-are = values-next;
         pairs-are = λ s e f. holds s e f .pairs-are;
         ghosts-are = λ s e f. holds s e f .ghosts-are;
         pairs-rest = a .pairs-rest ∙ drop-more (below .pairs) (b .pairs) p p₀ grown (l .pairs-rest);
@@ -182,6 +254,8 @@ module _ (w₀ p₀ : List ℕ) (used ghosts i : ℕ) (w p : List ℕ) (below : 
         high = λ k m. a .others k (λ q. omega arith) ∙ l .high k (omega arith);
         total = a .total ∙ l .total;
         more = omega (arith, grown, l .more);
+        least = omega (arith, a .listed-is);
+        lists = λ n h k. record { all = listed-next; few = omega (arith, a .listed-is) };
       }
 
   -- A ghost pair is spent for each value without a list.
@@ -192,9 +266,9 @@ module _ (w₀ p₀ : List ℕ) (used ghosts i : ℕ) (w p : List ℕ) (below : 
       ∙ ap (λ (n : ℕ). n + unlisted (valuesOf w₀ i)) (a .spent) ∙ e
 
 -- One is left for the next value, if it has no list.
-pub one-left : (w₀ p₀ : List ℕ) (used ghosts i count : ℕ) (w p : List ℕ) (b : Built) → Lists w₀ p₀ i used ghosts w p b → i < count
+pub one-left : (w₀ p₀ : List ℕ) (listed used ghosts i count : ℕ) (w p : List ℕ) (b : Built) → Lists w₀ p₀ i listed used ghosts w p b → i < count
     → unlisted (valuesOf w₀ count) ≤ ghosts → b .ghosts + unlisted (valuesOf w₀ i) ≡ ghosts → unlisted-of (valueAt w i .list) 0 ≤ b .ghosts
-one-left w₀ p₀ used ghosts i count w p b l h r e =
+one-left w₀ p₀ listed used ghosts i count w p b l h r e =
     subst (λ (v : Value). unlisted-of (v .list) 0 ≤ b .ghosts) (sym same)
     (unlisted-least (valueAt w₀ i .list) (unlisted (valuesOf w₀ i)) (b .ghosts) 0
     (omega (arith, unlisted-more w₀ i, unlisted-up w₀ (i + 1) (count - (i + 1)), ap (λ (n : ℕ). unlisted (valuesOf w₀ n)) whole)))
@@ -215,9 +289,8 @@ pub pair-handle-small : (n : ℕ) → n < 2 ^ 26 → handle-of (pair n) + 1 < 2 
 unfolding handle-of
 pair-handle-small n h = omega arith
 
-pub spent-start : (w : List ℕ) (ghosts : ℕ) → ghosts + unlisted (valuesOf w 0) ≡ ghosts
-unfolding valuesOf
-spent-start w ghosts = omega arith
+pub spent-start : (w : List ℕ) (i listed ghosts : ℕ) → i ≤ listed → unlisted (valuesOf w listed) ≡ 0 → ghosts + unlisted (valuesOf w i) ≡ ghosts
+spent-start w i listed ghosts h e = omega (arith, fewer-listed w i listed h e)
 
-pub lists-end : (w p : List ℕ) (i count used ghosts : ℕ) (w′ p′ : List ℕ) (b : Built) → i ≡ count → Lists w p i used ghosts w′ p′ b → Lists w p count used ghosts w′ p′ b
-lists-end w p i count used ghosts w′ p′ b e l = subst (λ (n : ℕ). Lists w p n used ghosts w′ p′ b) e l
+pub lists-end : (w p : List ℕ) (i count listed used ghosts : ℕ) (w′ p′ : List ℕ) (b : Built) → i ≡ count → Lists w p i listed used ghosts w′ p′ b → Lists w p count listed used ghosts w′ p′ b
+lists-end w p i count listed used ghosts w′ p′ b e l = subst (λ (n : ℕ). Lists w p n listed used ghosts w′ p′ b) e l

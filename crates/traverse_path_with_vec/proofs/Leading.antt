@@ -23,7 +23,7 @@ use Rattle.path_walk.proofs.Bits.{lowest}
 use Rattle.traverse_path_with_vec.specs.declared.Built.{Built}
 use Rattle.traverse_path_with_vec.specs.declared.Traversed.{Traversed}
 use Rattle.reading.specs.Sound.{unlisted}
-use Rattle.traverse_path_with_vec.specs.Leads.{ListRoom, Lists, led, reached, Walkable, Leads, LeadsTo, SameTotal}
+use Rattle.traverse_path_with_vec.specs.Leads.{HaveLists, ListRoom, Lists, led, reached, Walkable, Leads, LeadsTo, SameTotal}
 use Rattle.traverse_path_with_vec.proofs.Adding.{unlisted-up}
 
 -- ---- the bits of the path
@@ -133,9 +133,9 @@ values-split w w′ (suc n) (suc k) h f =
 
 -- ---- what is left where a path leads to a node of the store
 
-leads-to : (w p : List ℕ) (values used ghosts : ℕ) (r : Walked) (n : Option Node) (s : Store) → s .pairs ≡ take (2 * used) p → s .ghosts ≡ ghosts → walkedTo r ≡ n
-    → LeadsTo w p values used (led-to n (valuesOf w values) s) w p (reached r used ghosts)
-leads-to w p values used ghosts (walked.Node h) n s e f q =
+leads-to : (w p : List ℕ) (values listed used ghosts : ℕ) → HaveLists w listed values → (r : Walked) (n : Option Node) (s : Store) → s .pairs ≡ take (2 * used) p → s .ghosts ≡ ghosts → walkedTo r ≡ n
+    → LeadsTo w p values used (led-to n (valuesOf w values) s) w p (reached r used ghosts listed)
+leads-to w p values listed used ghosts a (walked.Node h) n s e f q =
     record {
       node-is = ap node-handle (sym q) ∙ ap some (handle-of-node-of (h .0));
       values-are = refl;
@@ -143,14 +143,15 @@ leads-to w p values used ghosts (walked.Node h) n s e f q =
       ghosts-are = sym f;
       pairs-rest = refl;
       low = λ k l. refl;
+      lists = a;
     }
-leads-to w p values used ghosts walked.IntoAtom n s e f q = ap node-handle (sym q)
+leads-to w p values listed used ghosts a walked.IntoAtom n s e f q = ap node-handle (sym q)
 
-module _ (path w p : List ℕ) (values used ghosts : ℕ) where
+module _ (path w p : List ℕ) (values listed used ghosts : ℕ) (a : HaveLists w listed values) where
   -- A path with no set bit is nil.
-  pub leads-nil : (b : Built) → b .node .0 ≡ 134217728 → b .pairs ≡ used → b .ghosts ≡ ghosts → read-path path ≡ none → (s : Store) → s .pairs ≡ take (2 * used) p → s .ghosts ≡ ghosts
+  pub leads-nil : (b : Built) → b .node .0 ≡ 134217728 → b .pairs ≡ used → b .ghosts ≡ ghosts → b .listed ≡ listed → read-path path ≡ none → (s : Store) → s .pairs ≡ take (2 * used) p → s .ghosts ≡ ghosts
       → Leads w p values used (led (read-path path) (valuesOf w values) s) w p b
-  leads-nil b n u g z s e f =
+  leads-nil b n u g m z s e f =
       subst (λ (o : Option (List Bool)). Leads w p values used (led o (valuesOf w values) s) w p b) (sym z)
       record {
         node-is = ap some (handle-of-nil ∙ sym n);
@@ -159,6 +160,7 @@ module _ (path w p : List ℕ) (values used ghosts : ℕ) where
         ghosts-are = g ∙ sym f;
         pairs-rest = refl;
         low = λ k l. refl;
+        lists = subst (λ (k : ℕ). HaveLists w k values) (sym m) a;
       }
 
   module _ (count : ℕ) (q : Counted path count) (steps : ℕ) (d : steps ≡ down (q .bits) values) where
@@ -171,12 +173,12 @@ module _ (path w p : List ℕ) (values used ghosts : ℕ) where
     pub steps-within : (steps ≤ count) × (steps ≤ values)
     steps-within = omega (arith, d, q .long, down-within (q .bits) values)
 
-    module _ (r : Walked) (t : Traversed) (is : t ≡ reached r used ghosts) where
+    module _ (r : Walked) (t : Traversed) (is : t ≡ reached r used ghosts listed) where
       reaches : (n : Option Node) (s : Store) → lead (q .bits) (valuesOf w values) s ≡ led-to n (valuesOf w values) s → s .pairs ≡ take (2 * used) p → s .ghosts ≡ ghosts
           → walkedTo r ≡ n → LeadsTo w p values used (led (read-path path) (valuesOf w values) s) w p t
       reaches n s l e f g =
           subst (λ (x : Traversed). LeadsTo w p values used (led (read-path path) (valuesOf w values) s) w p x) (sym is)
-          (subst (λ (y : Led). LeadsTo w p values used y w p (reached r used ghosts)) (sym (led-some s ∙ l)) (leads-to w p values used ghosts r n s e f g))
+          (subst (λ (y : Led). LeadsTo w p values used y w p (reached r used ghosts listed)) (sym (led-some s ∙ l)) (leads-to w p values listed used ghosts a r n s e f g))
 
       -- Below the lowest value is nil.
       pub leads-below : steps ≡ values → Walks p used (drop steps (q .bits)) 134217728 r → (s : Store) → s .pairs ≡ take (2 * used) p → s .ghosts ≡ ghosts
@@ -197,7 +199,7 @@ module _ (path w p : List ℕ) (values used ghosts : ℕ) where
           e f (g s e ∙ ap (λ (k : ℕ). walk s (drop k (q .bits)) (node-of (at w (VALUES + 2 * (values - 1 - steps))))) (add-one steps))
 
     -- The list from the value that the path ends on.
-    module _ (w′ p′ : List ℕ) (b : Built) (m : steps < values) (z : steps ≡ count) (l : Lists w p (values - steps) used ghosts w′ p′ b) where
+    module _ (w′ p′ : List ℕ) (b : Built) (m : steps < values) (z : steps ≡ count) (l : Lists w p (values - steps) listed used ghosts w′ p′ b) where
       led-listed : (s : Store) → led (read-path path) (valuesOf w values) s ≡ values-above (take steps (valuesOf w values)) (list-of (valuesOf w (values - steps)) s)
       led-listed s =
           led-some s
@@ -217,35 +219,41 @@ module _ (path w p : List ℕ) (values used ghosts : ℕ) where
             ghosts-are = l .ghosts-are s e f;
             pairs-rest = l .pairs-rest;
             low = l .low;
+            lists = l .lists values (a .few) (omega arith);
           }
 
 -- ---- what the walk and the list ask for
 
-pub nil-reachable : (w p : List ℕ) (values used ghosts : ℕ) → Walkable w p values used ghosts → Reachable p used 134217728
-nil-reachable w p values used ghosts k =
+pub nil-reachable : (w p : List ℕ) (values listed used ghosts : ℕ) → Walkable w p values listed used ghosts → Reachable p used 134217728
+nil-reachable w p values listed used ghosts k =
     record { room = omega (arith, k .room .pairs, k .room .room); here = subst (Within used) (sym node-of-nil) tt; there = k .there }
 
-pub value-reachable : (w p : List ℕ) (values used ghosts : ℕ) → Walkable w p values used ghosts → (k : ℕ) → k < values → Reachable p used (at w (VALUES + 2 * k))
-value-reachable w p values used ghosts r k l =
+pub value-reachable : (w p : List ℕ) (values listed used ghosts : ℕ) → Walkable w p values listed used ghosts → (k : ℕ) → k < values → Reachable p used (at w (VALUES + 2 * k))
+value-reachable w p values listed used ghosts r k l =
     record { room = omega (arith, r .room .pairs, r .room .room); here = r .nodes k l; there = r .there }
 
-pub fewer-room : (w p : List ℕ) (values steps used ghosts : ℕ) → ListRoom w p values used ghosts → steps ≤ values → ListRoom w p (values - steps) used ghosts
-fewer-room w p values steps used ghosts r l =
+pub fewer-room : (w p : List ℕ) (values steps listed used ghosts : ℕ) → ListRoom w p values listed used ghosts → steps ≤ values → ListRoom w p (values - steps) listed used ghosts
+fewer-room w p values steps listed used ghosts r l =
     record {
       work = r .work;
       pairs = r .pairs;
       few = omega (arith, r .few);
       ghost = omega (arith, r .ghost, unlisted-up w (values - steps) steps, ap (λ (n : ℕ). unlisted (valuesOf w n)) whole);
       room = r .room;
+      lists = r .lists;
     }
   where
     whole : values - steps + steps ≡ values
     whole = omega arith
 
+-- The lists that the stack has.
+pub lists-of : {w p : List ℕ} {values listed used ghosts : ℕ} → Walkable w p values listed used ghosts → HaveLists w listed values
+lists-of k = record { all = k .room .lists; few = k .listed-few }
+
 -- A node that was reached changes no count.
-pub total-reached : (w : Walked) (used ghosts : ℕ) (r : Traversed) → r ≡ reached w used ghosts → SameTotal used ghosts r
-total-reached w used ghosts r e = subst (SameTotal used ghosts) (sym e) (total w)
+pub total-reached : (w : Walked) (used ghosts listed : ℕ) (r : Traversed) → r ≡ reached w used ghosts listed → SameTotal used ghosts r
+total-reached w used ghosts listed r e = subst (SameTotal used ghosts) (sym e) (total w)
   where
-    total : (w : Walked) → SameTotal used ghosts (reached w used ghosts)
+    total : (w : Walked) → SameTotal used ghosts (reached w used ghosts listed)
     total (walked.Node h) = (omega arith, refl)
     total walked.IntoAtom = tt

@@ -17,7 +17,7 @@ abbrev μ-loop : tie.MeasureT-loop
 μ-loop work₀ pairs₀ r₀ work pairs r = r .ops
 
 loop-holds : tie.Need-loop-holds Inv-loop μ-loop
-loop-holds c = (refl, refl, joins.onward-none (c .before .before .args .work .now) (c .before .before .args .pairs .now) (c .before .before .args .reader) (c .before .before .pre .pairs-in))
+loop-holds c = (refl, refl, joins.onward-none (c .before .before .args .work .now) (c .before .before .args .pairs .now) (c .before .before .args .reader) (c .before .before .pre .pairs-in) (c .before .before .pre .lists))
 
 sub-top : tie.Need-sub-top Inv-loop μ-loop
 sub-top c = omega arith

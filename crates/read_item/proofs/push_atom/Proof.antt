@@ -45,6 +45,7 @@ returns c =
       position = refl;
       ops = refl;
       values = refl;
+      listed = refl;
       pairs = refl;
       ghosts = refl;
     }

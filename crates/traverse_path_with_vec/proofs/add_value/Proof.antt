@@ -25,10 +25,13 @@ slice-read-list c = search needs
 sub-t15 : tie.Need-sub-t15
 sub-t15 c = search needs
 
+add-t17 : tie.Need-add-t17
+add-t17 c = search needs
+
 returns : tie.Need-returns
 returns c =
     let o = c .before .before .before .before in
-    adds-cached (o .args .work .now) (o .args .pairs .now) (o .args .i) (o .args .below) _ (c .if1 .taken) refl refl refl
+    adds-cached (o .args .work .now) (o .args .pairs .now) (o .args .i) (o .args .below) _ (c .if1 .taken) refl refl refl refl
 
 mul-work : tie.Need-mul-work
 mul-work c = search needs
@@ -77,6 +80,9 @@ sub-t8 c =
     let o = c .before .before .before .before .before .before .before .before .before .before .before .before in
     omega (arith, bare-ghost (o .args .work .now) (o .args .i) (o .args .below .ghosts) (c .before .before .before .before .before .before .before .before .if1 .left) (o .pre .ghost))
 
+add-t9 : tie.Need-add-t9
+add-t9 c = search needs
+
 same-length : tie.Need-same-length
 same-length c = search needs
 
@@ -88,7 +94,7 @@ returns-2 c =
     let o = c .before .before .before .before .before .before .before .before .before .before .before .before in
     let g = bare-ghost (o .args .work .now) (o .args .i) (o .args .below .ghosts) (c .before .before .before .before .before .before .before .before .if1 .left) (o .pre .ghost) in
     adds-made (o .args .work .now) (o .args .pairs .now) (o .args .i) (o .args .below) (c .before .before .before .before .before .new-pair .last .0) _ (omega (arith, o .pre .work, o .pre .few))
-    (omega (arith, g, o .pre .room, o .pre .pairs)) (c .before .before .before .before .before .before .before .before .if1 .left) g (c .before .before .before .before .before .new-pair .ensures .0) refl refl (c .before .before .before .before .before .new-pair .ensures .1)
+    (omega (arith, g, o .pre .room, o .pre .pairs)) (c .before .before .before .before .before .before .before .before .if1 .left) g (c .before .before .before .before .before .new-pair .ensures .0) refl refl refl (c .before .before .before .before .before .new-pair .ensures .1)
 
 pub add-value-spec : {M : Type 1} → statement M
 add-value-spec =
@@ -100,6 +106,7 @@ add-value-spec =
     mul-list-2
     slice-read-list
     sub-t15
+    add-t17
     returns
     mul-work
     add-work
@@ -114,6 +121,7 @@ add-value-spec =
     slice-write-work
     add-t11
     sub-t8
+    add-t9
     same-length
     same-length-2
     returns-2)

@@ -6,7 +6,7 @@ use native.Mathlib.Omega.{arith}
 use borrow.Author.Needs.{needs}
 use lib.ListN.{length}
 use Rattle.words.specs.Lists.{all-of}
-use Rattle.traverse_path_with_vec.proofs.Leading.{Counted, counted-some, counted-none, count-within, leads-nil, steps-within, leads-below, leads-value, leads-list, nil-reachable, value-reachable, fewer-room, total-reached}
+use Rattle.traverse_path_with_vec.proofs.Leading.{Counted, counted-some, counted-none, count-within, leads-nil, steps-within, leads-below, leads-value, leads-list, nil-reachable, value-reachable, fewer-room, lists-of, total-reached}
 use Rattle.traverse_path_with_vec.proofs.traverse_path_with_vec.Statement.{statement}
 use Rattle.traverse_path_with_vec.proofs.traverse_path_with_vec.Tie as tie
 
@@ -23,9 +23,10 @@ count-short c =
 -- The steps down the stack are within the bits and the values.
 steps-short : (c : tie.After-stack-steps) → (c .stack-steps .result ≤ c .before .before .count .given .0 .0) × (c .stack-steps .result ≤ c .before .before .before .before .before .before .before .before .args .values)
 steps-short c =
-    let a = c .before .before .before .before .before .before .before .before .args in
+    let o = c .before .before .before .before .before .before .before .before in
+    let a = o .args in
     let q = counts (c .before) in
-    steps-within (a .path .now) (a .work .now) (a .pairs .now) (a .values) (a .used) (a .ghosts) (c .before .before .count .given .0 .0) q (c .stack-steps .result)
+    steps-within (a .path .now) (a .work .now) (a .pairs .now) (a .values) (a .listed) (a .used) (a .ghosts) (lists-of (o .pre .1)) (c .before .before .count .given .0 .0) q (c .stack-steps .result)
     (c .stack-steps .ensures (q .bits) (q .is) (q .long))
 
 -- ---- the needs
@@ -41,8 +42,9 @@ enum-told c = search needs
 
 returns : tie.Need-returns
 returns c =
-    let a = c .before .before .before .before .before .before .args in (
-      leads-nil (a .path .now) (a .work .now) (a .pairs .now) (a .values) (a .used) (a .ghosts) _ refl refl refl
+    let o = c .before .before .before .before .before .before in
+    let a = o .args in (
+      leads-nil (a .path .now) (a .work .now) (a .pairs .now) (a .values) (a .listed) (a .used) (a .ghosts) (lists-of (o .pre .1)) _ refl refl refl refl
           (counted-none _ (sym (c .enum-told .given .1) ∙ c .before .before .path-bits .ensures)),
       (omega arith, refl),
     )
@@ -56,7 +58,7 @@ walk-bits-requires c κs =
     let a = o .args in (
       steps-short (c .before .before) .0,
       count-short (c .before .before .before),
-      nil-reachable (a .work .now) (a .pairs .now) (a .values) (a .used) (a .ghosts) (o .pre .1),
+      nil-reachable (a .work .now) (a .pairs .now) (a .values) (a .listed) (a .used) (a .ghosts) (o .pre .1),
     )
 
 walked-requires : tie.Need-walked-requires
@@ -67,11 +69,12 @@ same-length c = search needs
 
 returns-2 : tie.Need-returns-2
 returns-2 c =
-    let a = c .before .before .before .before .before .before .before .before .before .before .before .before .args in
+    let o = c .before .before .before .before .before .before .before .before .before .before .before .before in
+    let a = o .args in
     let q = counts (c .before .before .before .before .before) in (
-      leads-below (a .path .now) (a .work .now) (a .pairs .now) (a .values) (a .used) (a .ghosts) (c .before .before .before .before .before .before .count .given .0 .0) q (c .before .before .before .before .stack-steps .result) (c .before .before .before .before .stack-steps .ensures (q .bits) (q .is) (q .long))
+      leads-below (a .path .now) (a .work .now) (a .pairs .now) (a .values) (a .listed) (a .used) (a .ghosts) (lists-of (o .pre .1)) (c .before .before .before .before .before .before .count .given .0 .0) q (c .before .before .before .before .stack-steps .result) (c .before .before .before .before .stack-steps .ensures (q .bits) (q .is) (q .long))
           (c .before .walk-bits .result) (c .walked .result) (c .walked .ensures) (c .before .before .before .if1 .taken) (c .before .walk-bits .ensures (q .bits) (q .is) (q .long)),
-      total-reached (c .before .walk-bits .result) (a .used) (a .ghosts) (c .walked .result) (c .walked .ensures),
+      total-reached (c .before .walk-bits .result) (a .used) (a .ghosts) (a .listed) (c .walked .result) (c .walked .ensures),
     )
 
 sub-build-list : tie.Need-sub-build-list
@@ -81,7 +84,7 @@ build-list-requires : tie.Need-build-list-requires
 build-list-requires c κs =
     let o = c .before .before .before .before .before .before .before .before .before .before .before .before in
     let a = o .args in
-    fewer-room (a .work .now) (a .pairs .now) (a .values) (c .before .before .before .before .stack-steps .result) (a .used) (a .ghosts) (o .pre .1 .room) (steps-short (c .before .before .before .before) .1)
+    fewer-room (a .work .now) (a .pairs .now) (a .values) (c .before .before .before .before .stack-steps .result) (a .listed) (a .used) (a .ghosts) (o .pre .1 .room) (steps-short (c .before .before .before .before) .1)
 
 same-length-2 : tie.Need-same-length-2
 same-length-2 c = search needs
@@ -91,31 +94,32 @@ same-length-3 c = search needs
 
 returns-3 : tie.Need-returns-3
 returns-3 c =
-    let a = c .before .before .before .before .before .before .before .before .before .before .before .before .before .before .before .before .before .args in
+    let o = c .before .before .before .before .before .before .before .before .before .before .before .before .before .before .before .before .before in
+    let a = o .args in
     let q = counts (c .before .before .before .before .before .before .before .before .before .before) in
     let r = c .before .before .before .before .build-list in (
-      leads-list (a .path .now) (a .work .now) (a .pairs .now) (a .values) (a .used) (a .ghosts) (c .before .before .before .before .before .before .before .before .before .before .before .count .given .0 .0) q (c .before .before .before .before .before .before .before .before .before .stack-steps .result) (c .before .before .before .before .before .before .before .before .before .stack-steps .ensures (q .bits) (q .is) (q .long))
+      leads-list (a .path .now) (a .work .now) (a .pairs .now) (a .values) (a .listed) (a .used) (a .ghosts) (lists-of (o .pre .1)) (c .before .before .before .before .before .before .before .before .before .before .before .count .given .0 .0) q (c .before .before .before .before .before .before .before .before .before .stack-steps .result) (c .before .before .before .before .before .before .before .before .before .stack-steps .ensures (q .bits) (q .is) (q .long))
           (r .last .0) (r .last .1 .0) (r .result) (omega (arith, steps-short (c .before .before .before .before .before .before .before .before .before) .1, c .before .before .before .before .before .before .before .before .if1 .left)) (c .before .before .before .before .before .before .before .if2 .taken) (r .ensures),
       (r .ensures .more, r .ensures .total),
     )
 
-sub-t24 : tie.Need-sub-t24
-sub-t24 c = omega (arith, steps-short (c .before .before) .1, c .before .if1 .left)
-
 sub-t25 : tie.Need-sub-t25
 sub-t25 c = omega (arith, steps-short (c .before .before) .1, c .before .if1 .left)
 
-mul-t26 : tie.Need-mul-t26
-mul-t26 c = search needs
+sub-t26 : tie.Need-sub-t26
+sub-t26 c = omega (arith, steps-short (c .before .before) .1, c .before .if1 .left)
 
-add-t27 : tie.Need-add-t27
-add-t27 c = search needs
+mul-t27 : tie.Need-mul-t27
+mul-t27 c = search needs
 
-mul-t28 : tie.Need-mul-t28
-mul-t28 c = search needs
+add-t28 : tie.Need-add-t28
+add-t28 c = search needs
 
-slice-read-t30 : tie.Need-slice-read-t30
-slice-read-t30 c = search needs
+mul-t29 : tie.Need-mul-t29
+mul-t29 c = search needs
+
+slice-read-t31 : tie.Need-slice-read-t31
+slice-read-t31 c = search needs
 
 add-walk-bits : tie.Need-add-walk-bits
 add-walk-bits c = omega (arith, steps-short (c .before .before .before) .1, c .before .before .before .before .before .before .before .before .before .before .before .pre .1 .room .few)
@@ -126,7 +130,7 @@ walk-bits-requires-2 c κs =
     let a = o .args in (
       omega (arith, steps-short (c .before .before .before .before) .0, c .before .before .if2 .left),
       count-short (c .before .before .before .before .before),
-      value-reachable (a .work .now) (a .pairs .now) (a .values) (a .used) (a .ghosts) (o .pre .1) _ (omega (arith, steps-short (c .before .before .before .before) .1, c .before .before .before .if1 .left)),
+      value-reachable (a .work .now) (a .pairs .now) (a .values) (a .listed) (a .used) (a .ghosts) (o .pre .1) _ (omega (arith, steps-short (c .before .before .before .before) .1, c .before .before .before .if1 .left)),
     )
 
 walked-requires-2 : tie.Need-walked-requires-2
@@ -137,12 +141,13 @@ same-length-4 c = search needs
 
 returns-4 : tie.Need-returns-4
 returns-4 c =
-    let a = c .before .before .before .before .before .before .before .before .before .before .before .before .before .before .args in
+    let o = c .before .before .before .before .before .before .before .before .before .before .before .before .before .before in
+    let a = o .args in
     let q = counts (c .before .before .before .before .before .before .before) in (
-      leads-value (a .path .now) (a .work .now) (a .pairs .now) (a .values) (a .used) (a .ghosts) (c .before .before .before .before .before .before .before .before .count .given .0 .0) q (c .before .before .before .before .before .before .stack-steps .result) (c .before .before .before .before .before .before .stack-steps .ensures (q .bits) (q .is) (q .long))
+      leads-value (a .path .now) (a .work .now) (a .pairs .now) (a .values) (a .listed) (a .used) (a .ghosts) (lists-of (o .pre .1)) (c .before .before .before .before .before .before .before .before .count .given .0 .0) q (c .before .before .before .before .before .before .stack-steps .result) (c .before .before .before .before .before .before .stack-steps .ensures (q .bits) (q .is) (q .long))
           (c .before .walk-bits2 .result) (c .walked2 .result) (c .walked2 .ensures) (omega (arith, steps-short (c .before .before .before .before .before .before) .1, c .before .before .before .before .before .if1 .left))
           (omega (arith, steps-short (c .before .before .before .before .before .before) .0, c .before .before .before .before .if2 .left)) (c .before .walk-bits2 .ensures (q .bits) (q .is) (q .long)),
-      total-reached (c .before .walk-bits2 .result) (a .used) (a .ghosts) (c .walked2 .result) (c .walked2 .ensures),
+      total-reached (c .before .walk-bits2 .result) (a .used) (a .ghosts) (a .listed) (c .walked2 .result) (c .walked2 .ensures),
     )
 
 pub traverse-path-with-vec-spec : {M : Type 1} → statement M
@@ -163,12 +168,12 @@ traverse-path-with-vec-spec =
     same-length-2
     same-length-3
     returns-3
-    sub-t24
     sub-t25
-    mul-t26
-    add-t27
-    mul-t28
-    slice-read-t30
+    sub-t26
+    mul-t27
+    add-t28
+    mul-t29
+    slice-read-t31
     add-walk-bits
     walk-bits-requires-2
     walked-requires-2

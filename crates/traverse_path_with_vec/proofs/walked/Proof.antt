@@ -16,7 +16,7 @@ enum-told c = search needs
 returns : tie.Need-returns
 returns c =
     let a = c .before .before .before .args in
-    ap (λ (x : Walked). reached x (a .used) (a .ghosts)) (sym (c .before .w .given .1))
+    ap (λ (x : Walked). reached x (a .used) (a .ghosts) (a .listed)) (sym (c .before .w .given .1))
 
 returns-2 : tie.Need-returns-2
 returns-2 c = search needs
