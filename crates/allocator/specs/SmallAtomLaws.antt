@@ -67,9 +67,23 @@ power-of-bytes : (e : ℕ) → 2 ^ (8 * e) ≡ 256 ^ e
 power-of-bytes zero = refl
 power-of-bytes (suc e) = ap (λ (x : ℕ). 2 ^ x) (omega arith) ∙ pow-add 2 (8 * e) 8 ∙ ap (λ (x : ℕ). x * 256) (power-of-bytes e) ∙ sym (pow-suc 256 e)
 
+signed-power : (e : ℕ) → 2 ^ (8 * suc e - 1) ≡ 128 * 256 ^ e
+signed-power e = ap (λ (x : ℕ). 2 ^ x) (omega arith) ∙ pow-add 2 7 (8 * e) ∙ ap (λ (x : ℕ). 128 * x) (power-of-bytes e)
+
 below-further : (v : ℕ) → v < 128 * 256 ^ further-bytes v v
 below-further v =
     by-lt v (128 * 256 ^ further-bytes v v) (λ l. l) (λ l. absurd (omega (arith, further-at-least (further-bytes v v) v v (omega arith) l)))
+
+pub len-enough : (v : ℕ) → v < 2 ^ (8 * len-for-value v - 1)
+unfolding len-for-value
+len-enough zero = omega arith
+len-enough (suc v) = rw (signed-power (further-bytes (suc v) (suc v))) (below-further (suc v))
+
+pub len-least : (n v : ℕ) → v < 2 ^ (8 * n - 1) → len-for-value v ≤ n
+unfolding len-for-value
+len-least n zero h = omega arith
+len-least zero (suc v) h = absurd (omega arith)
+len-least (suc n) (suc v) h = omega (arith, further-at-most n (suc v) (suc v) (rw (signed-power n) at h))
 
 below-len : (v : ℕ) → v < 256 ^ len-for-value v
 unfolding len-for-value

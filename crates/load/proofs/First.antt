@@ -70,6 +70,13 @@ module _ (xs : List (List ℕ)) where
   pub first-first : (i : ℕ) → i < length xs → first (first i) ≡ first i
   first-first i l = ap (λ (x : List ℕ). first-same x xs) (first-bytes i l)
 
+  -- Two atoms with the same first one have the same bytes, and conversely.
+  pub first-same-bytes : (i j : ℕ) → i < length xs → j < length xs → first i ≡ first j → getD xs i [] ≡ getD xs j []
+  first-same-bytes i j l m e = sym (first-bytes i l) ∙ ap (λ (k : ℕ). getD xs k []) e ∙ first-bytes j m
+
+  pub same-bytes-first : (i j : ℕ) → getD xs i [] ≡ getD xs j [] → first i ≡ first j
+  same-bytes-first i j e = ap (λ (x : List ℕ). first-same x xs) e
+
   -- The same of words that hold the first ones, as the tables do.
   module _ (w : List ℕ) (firsts : (i : ℕ) → i < length xs → at w (FIRST + i) ≡ first i) where
     pub firsts-low : (i : ℕ) → i < length xs → at w (FIRST + i) ≤ i
@@ -78,6 +85,12 @@ module _ (xs : List (List ℕ)) where
     pub firsts-first : (i : ℕ) → i < length xs → at w (FIRST + at w (FIRST + i)) ≡ at w (FIRST + i)
     firsts-first i l =
         ap (λ (k : ℕ). at w (FIRST + k)) (firsts i l) ∙ firsts (first i) (omega (arith, first-low i l)) ∙ first-first i l ∙ sym (firsts i l)
+
+    pub firsts-same-bytes : (i j : ℕ) → i < length xs → j < length xs → at w (FIRST + i) ≡ at w (FIRST + j) → getD xs i [] ≡ getD xs j []
+    firsts-same-bytes i j l m e = first-same-bytes i j l m (sym (firsts i l) ∙ e ∙ firsts j m)
+
+    pub same-bytes-firsts : (i j : ℕ) → i < length xs → j < length xs → getD xs i [] ≡ getD xs j [] → at w (FIRST + i) ≡ at w (FIRST + j)
+    same-bytes-firsts i j l m e = firsts i l ∙ same-bytes-first i j e ∙ sym (firsts j m)
 
 -- ---- of atoms by number
 

@@ -19,10 +19,6 @@ Shorter n (whole s) = Unit {0}
 Shorter n (stop k) = Unit {0}
 
 module _ {S : Type 0} (keep : Values S) where
-  -- What comes of reading on from a.
-  unfoldable pub onward : At S → Read S
-  onward a = run keep (length (a .rest)) a
-
   end-shorter : (n : ℕ) (rest : List ℕ) (s : S) → Shorter n (at-end keep rest s)
   end-shorter n [] s = tt
   end-shorter n (b ∷ rest) s = tt
