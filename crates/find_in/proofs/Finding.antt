@@ -4,14 +4,14 @@ use Prim.Native.Nat.{ℕ, _≤_, _<_}
 use mathlib.Core.Path.{_≡_, refl, ap, _∙_}
 use mathlib.Core.Bool.{Bool, true, false, cond}
 use mathlib.Core.List.{List}
-use mathlib.Core.Option.{Option, none, some, Option·none-ne-some}
+use mathlib.Core.Option.{Option, none, some, Option·map, Option·none-ne-some}
 use lib.Dec.{eqb, ltb}
 use borrow.Author.Tests.{lt-ltb, le-ltb}
 use Rattle.path.specs.Measure.{counted}
 use Rattle.allocator.specs.Handle.{nil, handle-of}
-use Rattle.search.specs.Search.{Parents, search}
+use Rattle.search.specs.Search.{Parents, search, used}
 use Rattle.search.specs.PathBits.{search-ends}
-use Rattle.serializer.specs.FindPath as definition
+use Rattle.search.specs.Used.{used-some}
 use Rattle.serializer.specs.FindPath.{without-terminator, find-in}
 use Rattle.layout.specs.Layout.{ENTRIES}
 use Rattle.layout.specs.Rows.{stack-of, Sound}
@@ -19,7 +19,7 @@ use Rattle.find_path.specs.declared.Path.{Path}
 use Rattle.find_path.specs.declared.Path.the-variants.{At, NoPath}
 use Rattle.search_list.specs.State.{parents-of-all, path-at}
 use Rattle.search_list.specs.Steps.{Kept}
-use Rattle.find_path.specs.Answers.{used, path-of, FoundPath}
+use Rattle.find_path.specs.Answers.{path-of, FoundPath}
 use Rattle.find_path.specs.Answers as found
 use Rattle.stack.specs.Contracts.{marked-at}
 use Rattle.find_in.specs.Contracts.{LengthOf, steps-of, Ready, FindsIn}
@@ -48,35 +48,13 @@ module _ (w : List ℕ) (d h e : ℕ) where
 
 -- ---- the search
 
--- A path without its terminator.
-abbrev stripped : Option (List Bool) → Option (List Bool)
-stripped none = none
-stripped (some bits) = some (without-terminator bits)
-
-used-stripped : (n : ℕ) (o : Option (List Bool)) → definition.used counted n o ≡ stripped (used counted n o)
-used-stripped n none = refl
-used-stripped n (some bits) = go (ltb (counted bits) n)
-  where
-    go : (b : Bool) → cond b (some (without-terminator bits)) none ≡ stripped (cond b (some bits) none)
-    go true = refl
-    go false = refl
-
-steps-are : (w : List ℕ) (r : Path) → stripped (path-of w r) ≡ steps-of w r
+steps-are : (w : List ℕ) (r : Path) → Option·map without-terminator (path-of w r) ≡ steps-of w r
 steps-are w (At i) = refl
 steps-are w NoPath = refl
 
--- A path that is used was found.
-used-found : (n : ℕ) (o : Option (List Bool)) (bits : List Bool) → used counted n o ≡ some bits → o ≡ some bits
-used-found n none bits q = absurd (Option·none-ne-some bits q)
-used-found n (some b) bits q = go (ltb (counted b) n) q
-  where
-    go : (t : Bool) → cond t (some b) none ≡ some bits → some b ≡ some bits
-    go true p = p
-    go false p = absurd (Option·none-ne-some bits p)
-
 ready-of : (w w′ : List ℕ) (d n e : ℕ) (r : Path) → used counted n (search (parents-of-all w) (stack-of w d) n e) ≡ path-of w′ r → found.Ready w′ r → Ready w′ r
 ready-of w w′ d n e (At i) q u =
-    (u, search-ends (parents-of-all w) (stack-of w d) n e (path-at w′ i) (used-found n (search (parents-of-all w) (stack-of w d) n e) (path-at w′ i) q))
+    (u, search-ends (parents-of-all w) (stack-of w d) n e (path-at w′ i) (used-some counted n (search (parents-of-all w) (stack-of w d) n e) (path-at w′ i) q .given))
 ready-of w w′ d n e NoPath q u = tt
 
 module _ (w w′ : List ℕ) (d h e n : ℕ) (r : Path) (s : Sound w) (named : eqb h (handle-of nil) ≡ false) (low : e < ENTRIES)
@@ -87,9 +65,8 @@ module _ (w w′ : List ℕ) (d h e n : ℕ) (r : Path) (s : Sound w) (named : e
       record {
         answer = λ f c m t ho mk.
             rw (named, mk e low, marked, len .is f c ho, le-ltb n 4 long)
-            (ap (λ (p : Parents). definition.used counted n (search p (stack-of w d) n e)) (parents-all f w c ho s)
-            ∙ used-stripped n (search (parents-of-all w) (stack-of w d) n e)
-            ∙ ap stripped (found .answer)
+            (ap (λ (p : Parents). Option·map without-terminator (used counted n (search p (stack-of w d) n e))) (parents-all f w c ho s)
+            ∙ ap (Option·map without-terminator) (found .answer)
             ∙ steps-are w′ r);
         ready = ready-of w w′ d n e r (found .answer) (found .usable);
         kept = found .kept;

@@ -13,6 +13,7 @@ use lib.Seq.{take-all}
 use lib.Dec.{ltb, leb, eqb}
 use borrow.Author.Tests.{le-leb, eq-eqb, ne-eqb, lt-ltb, le-ltb, eqb-true}
 use Rattle.words.specs.Choice.{by-cond, cond-true, cond-false}
+use Rattle.search.specs.Search.{used}
 use Rattle.search.specs.PathBits.{Ends, search-ends}
 use Rattle.path.specs.Bytes.{value, octets, path-bytes}
 use Rattle.path.specs.BytesLaws.{length-path-bytes}
@@ -20,7 +21,7 @@ use Rattle.path.specs.Measure.{counted, counted-bytes}
 use Rattle.find_path.specs.declared.Way.the-variants.{By, Nothing}
 use Rattle.find_path.specs.declared.Path.the-variants.{At, NoPath}
 use Rattle.search_list.specs.State.{parents-of-all, path-at}
-use Rattle.find_path.specs.Answers.{Finds, used, counted-of, FoundPath}
+use Rattle.find_path.specs.Answers.{Finds, counted-of, FoundPath}
 use Rattle.layout.specs.Rows.{stack-of}
 
 -- ---- what is counted

@@ -1,13 +1,13 @@
 -- What the crate's functions answer: the search, and the path that is used.
 -- Assumes nothing.
 use mathlib.Core.Path.{_≡_}
-use mathlib.Core.Bool.{Bool, cond}
+use mathlib.Core.Bool.{Bool}
 use mathlib.Core.List.{List}
 use mathlib.Core.Option.{Option, none, some}
 use Prim.Native.Nat.{ℕ, _+_, _/_, _%_}
-use lib.Dec.{ltb, eqb}
+use lib.Dec.{eqb}
 use Rattle.path.specs.Measure.{counted, counted-bytes}
-use Rattle.search.specs.Search.{search}
+use Rattle.search.specs.Search.{search, used}
 use Rattle.layout.specs.Rows.{stack-of}
 use Rattle.find_path.specs.declared.Way.{Way}
 use Rattle.find_path.specs.declared.Way.the-variants.{By, Nothing}
@@ -34,11 +34,6 @@ pub record Finds (w w′ : List ℕ) (d len e : ℕ) (r : Way) : Type 0 where
   pub kept : Kept w w′
 
 -- ---- the path that is used
-
--- The path that the search gave is used where its measure is below the entry's length.
-abbrev pub used : (measure : List Bool → ℕ) → (len : ℕ) → Option (List Bool) → Option (List Bool)
-used measure len none = none
-used measure len (some bits) = cond (ltb (measure bits) len) (some bits) none
 
 -- What `serialized_length` counts for a path of n bits, the first of which is set.
 abbrev pub counted-of : ℕ → ℕ

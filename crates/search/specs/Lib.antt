@@ -7,3 +7,4 @@ pub mod Enough
 pub mod Flat
 pub mod PathBits
 pub mod Examples
+pub mod Used

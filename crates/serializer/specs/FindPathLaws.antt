@@ -5,7 +5,7 @@ use Prim.Native.Nat.{ℕ, zero, suc, _+_, _-_, _*_, _/_, _%_, _^_, _≤_, _<_}
 use mathlib.Core.Path.{_≡_, refl, sym, ap, _∙_, subst}
 use mathlib.Core.Bool.{Bool, true, false, cond, _&&_}
 use mathlib.Core.List.{List, [], _∷_, _++_, map}
-use mathlib.Core.Option.{Option, none, some, Option·none-ne-some, Option·some-injective}
+use mathlib.Core.Option.{Option, none, some, Option·map, Option·none-ne-some, Option·some-injective}
 use native.Mathlib.Omega.{arith}
 use lib.Dec.{eqb, ltb, leb}
 use lib.ListN.{length, getD, take}
@@ -15,13 +15,14 @@ use Rattle.allocator.specs.Handle.{nil, handle-of}
 use Rattle.clvm.specs.Tree.{Tree, follow, asList}
 use Rattle.atom.specs.Write.{serialized-length}
 use Rattle.path.specs.Bytes.{path-bytes}
-use Rattle.search.specs.Search.{member, search}
+use Rattle.search.specs.Search.{member, search, used}
+use Rattle.search.specs.Used.{used-some}
 use Rattle.search.specs.Sound.{Holds, few, search-sound}
 use Rattle.serializer.specs.Cache.{Parent, Entry, Cache, parents-at, length-at}
 use Rattle.serializer.specs.Trees.{nth}
 use Rattle.serializer.specs.Lock.{Linked, Sound, Short}
 use Rattle.serializer.specs.Kept.{Near}
-use Rattle.serializer.specs.FindPath.{without-terminator, parents-in, used, find-in}
+use Rattle.serializer.specs.FindPath.{without-terminator, parents-in, find-in}
 
 -- ---- what a path found says
 
@@ -52,32 +53,33 @@ abbrev pub Covers : (List Bool → ℕ) → Type 0
 Covers measure = (s : List Bool) → serialized-length (path-bytes (s ++ true ∷ [])) ≤ measure (s ++ true ∷ [])
 
 module _ (measure : List Bool → ℕ) where
-  record Used (len : ℕ) (o : Option (List Bool)) (path : List Bool) : Type 0 where
+  -- A path that is written, as the search gave it.
+  record Written (len : ℕ) (o : Option (List Bool)) (path : List Bool) : Type 0 where
     bits : List Bool
     given : o ≡ some bits
     shorter : measure bits < len
     steps : without-terminator bits ≡ path
 
-  used-some : (len : ℕ) (o : Option (List Bool)) (path : List Bool) → used measure len o ≡ some path → Used len o path
-  used-some len none path e = absurd (Option·none-ne-some path e)
-  used-some len (some bits) path e = go (ltb (measure bits) len) refl e
+  written : (len : ℕ) (o : Option (List Bool)) (path : List Bool) → Option·map without-terminator (used measure len o) ≡ some path → Written len o path
+  written len o path e = go (used measure len o) refl e
     where
-      go : (b : Bool) → ltb (measure bits) len ≡ b → cond b (some (without-terminator bits)) none ≡ some path → Used len (some bits) path
-      go true t q =
-          record { bits = bits; given = refl; shorter = ltb-true (measure bits) len t; steps = Option·some-injective (without-terminator bits) path q }
-      go false t q = absurd (Option·none-ne-some path q)
+      go : (u : Option (List Bool)) → used measure len o ≡ u → Option·map without-terminator u ≡ some path → Written len o path
+      go none t q = absurd (Option·none-ne-some path q)
+      go (some bits) t q =
+          let u = used-some measure len o bits t in
+          record { bits = bits; given = u .given; shorter = u .shorter; steps = Option·some-injective (without-terminator bits) path q }
 
   module _ (c : Cache) (marked stack : List ℕ) (h e : ℕ) (path : List Bool) (q : find-in measure c marked stack h e ≡ some path) where
     abbrev len : ℕ
     len = length-at e (c .entries)
 
-    found : Used len (search (parents-in c) stack len e) path
+    found : Written len (search (parents-in c) stack len e) path
     unfolding find-in
     found =
-        used-some len (search (parents-in c) stack len e) path
-        (else-some (ltb len 4) (used measure len (search (parents-in c) stack len e)) path
-        (then-some (member e marked) (cond (ltb len 4) none (used measure len (search (parents-in c) stack len e))) path
-        (else-some (eqb h (handle-of nil)) (cond (member e marked) (cond (ltb len 4) none (used measure len (search (parents-in c) stack len e))) none) path q)))
+        written len (search (parents-in c) stack len e) path
+        (else-some (ltb len 4) (Option·map without-terminator (used measure len (search (parents-in c) stack len e))) path
+        (then-some (member e marked) (cond (ltb len 4) none (Option·map without-terminator (used measure len (search (parents-in c) stack len e)))) path
+        (else-some (eqb h (handle-of nil)) (cond (member e marked) (cond (ltb len 4) none (Option·map without-terminator (used measure len (search (parents-in c) stack len e)))) none) path q)))
 
     module _ (tr : ℕ → Tree) (linked : Linked (c .entries) tr) where
       record Path : Type 0 where
