@@ -2,7 +2,7 @@
  * The two calls of Nikvoldra, for C and C++ on x86-64 Linux.
  *
  * Link target/staticlib/libsession_call.a for nikvoldra_session and target/staticlib/libde_br.a for nikvoldra_read; the
- * commands `rt staticlib session_call` and `rt staticlib de_br` prove and write them.
+ * command `tools/libraries` proves and writes them.
  *
  * A slice is passed as a pointer to its first element, then its length in elements, not in bytes. The callee keeps no pointer.
  * The caller sees to it that

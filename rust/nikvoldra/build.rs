@@ -32,7 +32,7 @@ fn main() {
         println!("cargo:rerun-if-changed={}", library.display());
         if !library.is_file() {
             fail(&format!(
-                "{} is missing.\nIn the repository's folder, `rt staticlib {name}` proves and writes it; \
+                "{} is missing.\nIn the repository's folder, `tools/libraries` proves and writes it; \
                  or the variable NIKVOLDRA_LIBRARIES names the folder that has it.",
                 library.display()
             ));
