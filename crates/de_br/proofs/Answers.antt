@@ -17,10 +17,12 @@ use Rattle.reading.specs.Call.{Slices, Result, refusal, zeroed, filled, root-of
 use Rattle.store.specs.Layout.{VALUES, valuesOf}
 use Rattle.read_item.specs.State.{storedOf, Lent, Ends}
 use Rattle.read_item.specs.declared.Reader.{Reader}
-use Rattle.de_br.specs.declared.Outcome.{Outcome}
-use Rattle.de_br.specs.declared.Outcome.the-variants as outcome
-use Rattle.de_br.specs.declared.ReadAnswer.{ReadAnswer}
-use Rattle.de_br.specs.Outcome.{start, ReadAll, answerOf, Counts, answerAt, slices, resultOf}
+use Rattle.read_items.specs.declared.Outcome.{Outcome}
+use Rattle.read_items.specs.declared.Outcome.the-variants as outcome
+use Rattle.read_items.specs.Outcome.{start, ReadAll}
+use Rattle.read_answer.specs.declared.ReadAnswer.{ReadAnswer}
+use Rattle.read_answer.specs.Answer.{answerOf, Counts, answerAt, slices}
+use Rattle.de_br.specs.Outcome.{resultOf}
 
 -- ---- a fresh store
 
@@ -179,19 +181,6 @@ result-refused input w p a b w₁ p₁ a₁ b₁ o n all-read e lw lp la lb w₂
     t = subst (λ (y : Outcome). ReadAll input w₁ p₁ a₁ b₁ (read-stored input) y) e all-read
 
 -- ---- the questions
-
--- Question 1 slice by slice: the first that is too short answers it, or the last one does.
-pub short-work : (w p a b : List ℕ) → length w < 524288 → false ≡ long-enough (slices w p a b)
-short-work w p a b h = simp (lt-leb 524288 (length w) h)
-
-pub short-pairs : (w p a b : List ℕ) → 524288 ≤ length w → length p < 262144 → false ≡ long-enough (slices w p a b)
-short-pairs w p a b h k = simp (le-leb 524288 (length w) h, lt-leb 262144 (length p) k)
-
-pub short-atoms : (w p a b : List ℕ) → 524288 ≤ length w → 262144 ≤ length p → length a < 131072 → false ≡ long-enough (slices w p a b)
-short-atoms w p a b h k l = simp (le-leb 524288 (length w) h, le-leb 262144 (length p) k, lt-leb 131072 (length a) l)
-
-pub long-bytes : (w p a b : List ℕ) → 524288 ≤ length w → 262144 ≤ length p → 131072 ≤ length a → leb 65536 (length b) ≡ long-enough (slices w p a b)
-long-bytes w p a b h k l = simp (le-leb 524288 (length w) h, le-leb 262144 (length p) k, le-leb 131072 (length a) l)
 
 -- The three cases of the call: long enough or not, within the limit or not.
 cases : List ℕ → Slices → Bool → Bool → Result

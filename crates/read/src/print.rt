@@ -1,7 +1,7 @@
 // What the program writes.
-use de_br::ReadAnswer;
 use libc::STDERR_FILENO;
 use libc::STDOUT_FILENO;
+use read_answer::ReadAnswer;
 ghost use Prim.Native.Nat.{_≤_};
 
 fn least(count: u32, size: usize) -> usize

@@ -10,7 +10,7 @@ use lib.ListN.{length, take}
 use lib.Seq.{length-take-le, take-all}
 use Rattle.words.specs.Choice.{by-lt}
 use Rattle.reading.specs.Call as read
-use Rattle.de_br.specs.Outcome.{slices as store-slices}
+use Rattle.read_answer.specs.Answer.{slices as store-slices}
 use Rattle.serializer.specs.Demand3.{ReadAs}
 use Rattle.serializer.specs.Call.{Slices, Result}
 use Rattle.checkpoints.specs.declared.Checkpoint.{Checkpoint}

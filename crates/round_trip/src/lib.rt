@@ -1,12 +1,13 @@
 // A session file is run, and the finished bytes are read.
 use checkpoints::Checkpoint;
-use de_br::ReadAnswer;
+use read_answer::ReadAnswer;
 use session_call::SessionAnswer;
 ghost use mathlib.Core.Path.{_≡_};
 ghost use Prim.Native.Nat.{min};
 ghost use lib.ListN.{length, take};
 ghost use Rattle.reading.specs.Call.{reading};
-ghost use Rattle.de_br.specs.Outcome.{slices as store-slices, resultOf};
+ghost use Rattle.read_answer.specs.Answer.{slices as store-slices};
+ghost use Rattle.de_br.specs.Outcome.{resultOf};
 ghost use Rattle.session_call.specs.Outcome.{slices, result-of};
 ghost use Rattle.round_trip.specs.RoundTrip.{the-session, the-reading, RoundTrips};
 

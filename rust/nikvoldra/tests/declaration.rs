@@ -224,6 +224,7 @@ fn same_fields(source: &str, name: &str, c_name: &str) {
 
 const SESSION: &str = "crates/session_call/src/lib.rt";
 const READ: &str = "crates/de_br/src/lib.rt";
+const READ_ANSWER: &str = "crates/read_answer/src/lib.rt";
 const CHECKPOINTS: &str = "crates/checkpoints/src/lib.rt";
 
 /// The call's declaration in the Rattle source. Its checkpoint records are structs, or rows of four words, which have the
@@ -268,7 +269,7 @@ fn calls() {
 #[test]
 fn answers() {
     same_fields(SESSION, "SessionAnswer", "nikvoldra_session_answer");
-    same_fields(READ, "ReadAnswer", "nikvoldra_read_answer");
+    same_fields(READ_ANSWER, "ReadAnswer", "nikvoldra_read_answer");
 }
 
 #[test]

@@ -1,7 +1,8 @@
 -- `round_trip::read_first` gives what reading the first `size` bytes gives.
 -- Assumes nothing.
 use borrow.Author.Needs.{needs}
-use Rattle.de_br.specs.Outcome.{slices, resultOf}
+use Rattle.read_answer.specs.Answer.{slices}
+use Rattle.de_br.specs.Outcome.{resultOf}
 use Rattle.round_trip.proofs.Returned.{lesser-many, first-read}
 use Rattle.round_trip.proofs.read_first.Statement.{statement}
 use Rattle.round_trip.proofs.read_first.Tie as tie

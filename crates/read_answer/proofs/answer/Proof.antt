@@ -1,9 +1,9 @@
--- `de_br::answer` gives the lowest value's node and the reader's counts.
+-- `read_answer::answer` gives the lowest value's node and the reader's counts.
 -- Assumes nothing.
 use mathlib.Core.Path.{refl}
 use native.Mathlib.Omega.{arith}
-use Rattle.de_br.proofs.answer.Statement.{statement}
-use Rattle.de_br.proofs.answer.Tie as tie
+use Rattle.read_answer.proofs.answer.Statement.{statement}
+use Rattle.read_answer.proofs.answer.Tie as tie
 
 shared-slice-read-t4 : tie.Need-shared-slice-read-t4
 shared-slice-read-t4 c = omega arith

@@ -13,8 +13,8 @@ use Rattle.read_item.specs.State.{atOf, Lent, Stands, itemOf, Stepped}
 use Rattle.read_item.specs.declared.Reader.{Reader}
 use Rattle.read_item.specs.declared.Item.{Item}
 use Rattle.read_item.specs.declared.Item.the-variants as item
-use Rattle.de_br.specs.declared.Outcome.the-variants as outcome
-use Rattle.de_br.specs.Outcome.{start, ReadAll}
+use Rattle.read_items.specs.declared.Outcome.the-variants as outcome
+use Rattle.read_items.specs.Outcome.{start, ReadAll}
 
 run-more : (left : ℕ) (a : At Stored) → 0 < left → run store-values left a ≡ then store-values (step store-values a) (λ b. run store-values (left - 1) b)
 unfolding run

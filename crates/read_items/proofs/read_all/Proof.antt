@@ -1,12 +1,12 @@
--- `de_br::read_all` reads every item as the definition says. The loop's invariant: the items that are left, at most `left` of them, give what the whole input gives.
+-- `read_items::read_all` reads every item as the definition says. The loop's invariant: the items that are left, at most `left` of them, give what the whole input gives.
 -- The measure is `left`. Assumes nothing.
 use mathlib.Core.Path.{_≡_, refl, _∙_}
 use native.Mathlib.Omega.{arith}
 use lib.ListN.{length}
 use borrow.Author.Needs.{needs}
-use Rattle.de_br.proofs.Items.{Reads, reads-start, reads-none, reads-go, reads-whole, reads-refused}
-use Rattle.de_br.proofs.read_all.Statement.{statement}
-use Rattle.de_br.proofs.read_all.Tie as tie
+use Rattle.read_items.proofs.Items.{Reads, reads-start, reads-none, reads-go, reads-whole, reads-refused}
+use Rattle.read_items.proofs.read_all.Statement.{statement}
+use Rattle.read_items.proofs.read_all.Tie as tie
 
 abbrev Inv-loop : tie.InvT-loop
 Inv-loop input work₀ pairs₀ atoms₀ bytes₀ r₀ left₀ work pairs atoms bytes r left =

@@ -1,9 +1,9 @@
--- `de_br::long_enough` answers question 1.
+-- `read_answer::long_enough` answers question 1.
 -- Assumes nothing.
 use native.Mathlib.Omega.{arith}
-use Rattle.de_br.proofs.Answers.{short-work, short-pairs, short-atoms, long-bytes}
-use Rattle.de_br.proofs.long_enough.Statement.{statement}
-use Rattle.de_br.proofs.long_enough.Tie as tie
+use Rattle.read_answer.proofs.Question.{short-work, short-pairs, short-atoms, long-bytes}
+use Rattle.read_answer.proofs.long_enough.Statement.{statement}
+use Rattle.read_answer.proofs.long_enough.Tie as tie
 
 returns : tie.Need-returns
 returns c = let s = c .before .args in short-work (s .work .now) (s .pairs .now) (s .atoms .now) (s .bytes .now) (omega arith)

@@ -1,0 +1,76 @@
+// The reading call's answer, its question 1, and what it clears.
+use read_item::Reader;
+ghost use mathlib.Core.Path.{_≡_};
+ghost use Rattle.reading.specs.Call.{refusal as call-refusal, zeroed, long-enough};
+ghost use Rattle.read_answer.specs.Answer.{slices, answerOf, Counts, answerAt};
+
+// The number, 0 for none; the root, and how many pairs, listed atoms, atom bytes and ghost pairs there are.
+#[repr(C)]
+pub struct ReadAnswer {
+    pub number: u32,
+    pub root: u32,
+    pub pairs: u32,
+    pub atoms: u32,
+    pub bytes: u32,
+    pub ghosts: u32,
+}
+
+pub fn refusal(number: u32) -> ReadAnswer
+    ensures { λ r. ⌜ answerOf r ≡ call-refusal number ⌝ }
+{
+    ReadAnswer {
+        number,
+        root: 0,
+        pairs: 0,
+        atoms: 0,
+        bytes: 0,
+        ghosts: 0,
+    }
+}
+
+pub fn long_enough(work: &[u32], pairs: &[u32], atoms: &[u32], bytes: &[u8]) -> bool
+    ensures { λ r. ⌜ r ≡ long-enough (slices (now (work .entry)) (now (pairs .entry)) (now (atoms .entry)) (now (bytes .entry))) ⌝ }
+{
+    if work.len() < 524288 {
+        return false;
+    }
+    if pairs.len() < 262144 {
+        return false;
+    }
+    if atoms.len() < 131072 {
+        return false;
+    }
+    65536 <= bytes.len()
+}
+
+// The store is empty.
+pub fn clear_store(pairs: &mut [u32], atoms: &mut [u32], bytes: &mut [u8])
+    ensures { λ _. ⌜ (now (pairs .exit) ≡ zeroed (now (pairs .entry))) × (now (atoms .exit) ≡ zeroed (now (atoms .entry))) × (now (bytes .exit) ≡ zeroed (now (bytes .entry))) ⌝ }
+{
+    words::clear(pairs);
+    words::clear(atoms);
+    words::clear_bytes(bytes);
+}
+
+// A refused reading leaves nothing.
+pub fn clear_all(work: &mut [u32], pairs: &mut [u32], atoms: &mut [u32], bytes: &mut [u8])
+    ensures { λ _. ⌜ (now (work .exit) ≡ zeroed (now (work .entry))) × (now (pairs .exit) ≡ zeroed (now (pairs .entry))) × (now (atoms .exit) ≡ zeroed (now (atoms .entry))) × (now (bytes .exit) ≡ zeroed (now (bytes .entry))) ⌝ }
+{
+    words::clear(work);
+    clear_store(pairs, atoms, bytes);
+}
+
+// What was read: the one value's node, and the counts.
+pub fn answer(work: &[u32], r: Reader) -> ReadAnswer
+    requires { ⌜ Counts (now work) r ⌝ }
+    ensures { λ a. ⌜ answerOf a ≡ answerAt (now (work .entry)) r ⌝ }
+{
+    ReadAnswer {
+        number: 0,
+        root: work[store::VALUES],
+        pairs: r.pairs as u32,
+        atoms: r.atoms as u32,
+        bytes: r.bytes as u32,
+        ghosts: r.ghosts as u32,
+    }
+}
