@@ -1,9 +1,9 @@
 //! How long the port's reading call takes, and the Rust's, on the same bytes.
 
-use crate::call::{self, ATOMS, BYTES, NikvoldraRead, PAIRS, WORK};
 use crate::times::measure;
 use clvm_rs::Allocator;
 use clvm_rs::serde::node_from_bytes_backrefs;
+use nikvoldra::call::{self, ATOMS_LENGTH, BYTES_LENGTH, PAIRS_LENGTH, WORK_LENGTH};
 use oracle::generate::trees::{encode_atom, path_bytes};
 use oracle::reading::{self, MAX_INPUT};
 use oracle::rng::Rng;
@@ -122,15 +122,15 @@ fn cases() -> Vec<Case> {
     ]
 }
 
-pub fn run(call: NikvoldraRead) {
-    let mut work = vec![0; WORK];
-    let mut pairs = vec![0; PAIRS];
-    let mut atoms = vec![0; ATOMS];
-    let mut bytes = vec![0; BYTES];
+pub fn run() {
+    let mut work = vec![0; WORK_LENGTH];
+    let mut pairs = vec![0; PAIRS_LENGTH];
+    let mut atoms = vec![0; ATOMS_LENGTH];
+    let mut bytes = vec![0; BYTES_LENGTH];
     let mut port = |input: &[u8]| {
         let input = black_box(input);
         black_box(call::read(
-            call, input, &mut work, &mut pairs, &mut atoms, &mut bytes,
+            input, &mut work, &mut pairs, &mut atoms, &mut bytes,
         ))
     };
     heading();

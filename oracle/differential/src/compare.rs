@@ -1,12 +1,21 @@
 //! The call on an input, compared with the Rust's reader.
 
-use crate::call::{self, NikvoldraRead, ReadAnswer};
 use crate::inputs::{Set, sets};
 use crate::lent::{Lent, long, short};
 use crate::share::{self, Part};
+use nikvoldra::call::{ATOMS_LENGTH, BYTES_LENGTH, PAIRS_LENGTH, ReadAnswer, WORK_LENGTH};
 use oracle::rng::Rng;
 use oracle::{hex, reading};
 use std::time::Instant;
+
+/// `nikvoldra::call::read`, or what a test has in its place.
+pub type ReadCall = fn(
+    input: &[u8],
+    work: &mut [u32],
+    pairs: &mut [u32],
+    atoms: &mut [u32],
+    bytes: &mut [u8],
+) -> ReadAnswer;
 
 /// Bytes of rubbish after the input.
 const AFTER: usize = 16;
@@ -42,7 +51,7 @@ impl Tally {
 
 /// The call, the slices that it is lent, and a tally.
 pub struct Comparison {
-    call: NikvoldraRead,
+    call: ReadCall,
     rng: Rng,
     work: Lent<u32>,
     pairs: Lent<u32>,
@@ -59,14 +68,14 @@ fn flat(pairs: &[(u32, u32)]) -> Vec<u32> {
 }
 
 impl Comparison {
-    pub fn new(call: NikvoldraRead, seed: u64) -> Self {
+    pub fn new(call: ReadCall, seed: u64) -> Self {
         let mut rng = Rng::new(seed);
         Self {
             call,
-            work: Lent::new("work", call::WORK, &mut rng),
-            pairs: Lent::new("pairs", call::PAIRS, &mut rng),
-            atoms: Lent::new("atoms", call::ATOMS, &mut rng),
-            bytes: Lent::new("bytes", call::BYTES, &mut rng),
+            work: Lent::new("work", WORK_LENGTH, &mut rng),
+            pairs: Lent::new("pairs", PAIRS_LENGTH, &mut rng),
+            atoms: Lent::new("atoms", ATOMS_LENGTH, &mut rng),
+            bytes: Lent::new("bytes", BYTES_LENGTH, &mut rng),
             input: vec![],
             settled: false,
             tally: Tally::default(),
@@ -117,9 +126,13 @@ impl Comparison {
         self.input.clear();
         self.input.extend(input);
         self.input.extend(self.rng.bytes(AFTER));
-        call::read(
-            self.call,
-            &self.input[..input.len()],
+        self.run_on(input.len())
+    }
+
+    /// The call on so many bytes of the input and the rubbish after it.
+    fn run_on(&mut self, length: usize) -> ReadAnswer {
+        (self.call)(
+            &self.input[..length],
             self.work.slice(),
             self.pairs.slice(),
             self.atoms.slice(),
@@ -212,7 +225,7 @@ fn run_one(c: &mut Comparison, set: &Set, turn: usize, i: usize) -> Result<(), S
 /// All sets, at most `most` inputs of each but the generated ones; `say` gets a
 /// line for each set and a last one.
 pub fn run(
-    call: NikvoldraRead,
+    call: ReadCall,
     generated: usize,
     seed: u64,
     most: usize,
@@ -223,7 +236,7 @@ pub fn run(
 
 /// The sets one after the other.
 pub fn run_sets(
-    call: NikvoldraRead,
+    call: ReadCall,
     sets: Vec<Set>,
     seed: u64,
     most: usize,
@@ -272,35 +285,74 @@ pub fn run_sets(
 
 #[cfg(test)]
 mod tests {
-    use super::run;
-    use crate::call::NikvoldraRead;
+    use super::{Comparison, ReadCall, run};
     use crate::stand_in::{Fault, with_fault};
+    use oracle::reading;
 
-    fn verdict(call: NikvoldraRead) -> Result<(), String> {
+    const RIGHT: ReadCall = with_fault::<{ Fault::None as u8 }>;
+
+    fn verdict(call: ReadCall) -> Result<(), String> {
         run(call, 300, 1, 50, |_| ()).map(|_| ())
     }
 
     #[test]
     fn the_oracle_agrees_with_itself() {
-        assert_eq!(verdict(with_fault::<{ Fault::None as u8 }>), Ok(()));
+        assert_eq!(verdict(RIGHT), Ok(()));
     }
 
     #[test]
     fn each_fault_is_noticed() {
-        let faulty: [NikvoldraRead; 10] = [
+        let faulty: [ReadCall; 8] = [
             with_fault::<{ Fault::Count as u8 }>,
             with_fault::<{ Fault::Number as u8 }>,
             with_fault::<{ Fault::LeftOnRefusal as u8 }>,
             with_fault::<{ Fault::WorkEnd as u8 }>,
             with_fault::<{ Fault::WorkBeyond as u8 }>,
             with_fault::<{ Fault::PairsBeyond as u8 }>,
-            with_fault::<{ Fault::Outside as u8 }>,
             with_fault::<{ Fault::TouchedBy1 as u8 }>,
             with_fault::<{ Fault::LongerInput as u8 }>,
-            with_fault::<{ Fault::Overread as u8 }>,
         ];
         for (i, call) in faulty.into_iter().enumerate() {
             assert!(verdict(call).is_err(), "fault {} is not noticed", i + 1);
         }
+    }
+
+    /// Both where the slices are cleared and where they are untouched.
+    #[test]
+    fn a_word_outside_a_slice_is_noticed() {
+        let outside: [fn(&mut Comparison, bool); 4] = [
+            |c, after| c.work.write_outside(after),
+            |c, after| c.pairs.write_outside(after),
+            |c, after| c.atoms.write_outside(after),
+            |c, after| c.bytes.write_outside(after),
+        ];
+        let mut c = Comparison::new(RIGHT, 1);
+        for input in [vec![0x80], vec![0x80; reading::MAX_INPUT + 1]] {
+            let expected = reading::read(&input);
+            for (i, write) in outside.into_iter().enumerate() {
+                for after in [false, true] {
+                    let lengths = c.lengths();
+                    c.fill(lengths);
+                    let now = c.run(&input);
+                    assert_eq!(c.agrees(now, &expected), Ok(()));
+                    write(&mut c, after);
+                    assert!(c.agrees(now, &expected).is_err(), "slice {i}, {after}");
+                }
+            }
+        }
+    }
+
+    /// An atom of two bytes, of which the second is past the end.
+    #[test]
+    fn a_byte_past_the_input_is_noticed() {
+        let input = [0x82, 0x61];
+        let expected = reading::read(&input);
+        let mut c = Comparison::new(RIGHT, 1);
+        let lengths = c.lengths();
+        c.fill(lengths);
+        let now = c.run(&input);
+        assert_eq!(c.agrees(now, &expected), Ok(()));
+        let now = c.run_on(input.len() + 1);
+        assert!(c.agrees(now, &expected).is_err());
     }
 }

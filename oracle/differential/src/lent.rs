@@ -1,6 +1,7 @@
 //! A slice that is lent to the call: full of rubbish before it, with guards on
 //! both sides, and compared after it.
 
+use nikvoldra::call::Checkpoint;
 use oracle::rng::Rng;
 use std::fmt::Debug;
 
@@ -40,13 +41,20 @@ macro_rules! word {
 word!(u8);
 word!(u32);
 
-impl Word for [u32; 4] {
+impl Word for Checkpoint {
+    /// No field is zero.
     fn rubbish(rng: &mut Rng) -> Self {
-        [(); 4].map(|()| u32::rubbish(rng))
+        let [opens, depth, size, sentinel] = [(); 4].map(|()| u32::rubbish(rng));
+        Self {
+            opens,
+            depth,
+            size,
+            sentinel,
+        }
     }
 
     fn all_zero(words: &[Self]) -> bool {
-        words.iter().all(|w| *w == [0; 4])
+        words.iter().all(|w| *w == Self::default())
     }
 }
 
@@ -120,6 +128,18 @@ impl<T: Word> Lent<T> {
 
     pub fn slice(&mut self) -> &mut [T] {
         &mut self.memory[GUARD..GUARD + self.length]
+    }
+
+    /// Writes right before the slice or right after it, as no call in safe Rust can.
+    #[cfg(test)]
+    pub fn write_outside(&mut self, after: bool) {
+        let at = if after {
+            GUARD + self.length
+        } else {
+            GUARD - 1
+        };
+        // Rubbish is never zero.
+        self.memory[at] = T::default();
     }
 
     fn differs(&self, at: usize, now: T, expected: T) -> String {

@@ -3,15 +3,15 @@
 //! speed is in both.
 
 use crate::benchmark::{atom, rust};
-use crate::call::{self, ATOMS, BYTES, NikvoldraRead, PAIRS, WORK};
 use crate::times::{micros, quartile};
+use nikvoldra::call::{self, ATOMS_LENGTH, BYTES_LENGTH, PAIRS_LENGTH, WORK_LENGTH};
 use oracle::reading::MAX_INPUT;
 use oracle::rng::Rng;
 use std::hint::black_box;
 
 const ROUNDS: usize = 2_000;
 /// Words of all slices of the call.
-const CLEARED: usize = WORK + PAIRS + ATOMS + BYTES / 4;
+const CLEARED: usize = WORK_LENGTH + PAIRS_LENGTH + ATOMS_LENGTH + BYTES_LENGTH / 4;
 
 /// The long input, the short one twice, the long one: half of what the long ones take more. `before` is not timed.
 fn more(mut before: impl FnMut(), mut call: impl FnMut(&[u8]), long: &[u8], short: &[u8]) -> f64 {
@@ -28,21 +28,16 @@ fn row(name: &str, mut round: impl FnMut() -> f64) {
     println!("| {name} | {a:.1} | {b:.1} | {c:.1} |");
 }
 
-pub fn run(nikvoldra_read: NikvoldraRead) {
+pub fn run() {
     let mut rng = Rng::new(1);
     let long = atom(&rng.bytes(MAX_INPUT - 3));
     let short = atom(&rng.bytes(33));
-    let (mut work, mut pairs) = (vec![0; WORK], vec![0; PAIRS]);
-    let (mut atoms, mut bytes) = (vec![0; ATOMS], vec![0; BYTES]);
+    let (mut work, mut pairs) = (vec![0; WORK_LENGTH], vec![0; PAIRS_LENGTH]);
+    let (mut atoms, mut bytes) = (vec![0; ATOMS_LENGTH], vec![0; BYTES_LENGTH]);
     let mut port = |input: &[u8]| {
         let input = black_box(input);
         black_box(call::read(
-            nikvoldra_read,
-            input,
-            &mut work,
-            &mut pairs,
-            &mut atoms,
-            &mut bytes,
+            input, &mut work, &mut pairs, &mut atoms, &mut bytes,
         ));
     };
     let mut words = vec![0_u32; CLEARED];

@@ -2,10 +2,12 @@
 //! same sessions.
 
 use crate::cache_benchmark;
-use crate::session_call::{self, CHECKPOINTS, NikvoldraSession, SessionAnswer, WORDS, WORK};
 use crate::times::measure;
 use clvm_rs::Allocator;
 use clvm_rs::serde::{Serializer, UndoState};
+use nikvoldra::call::{
+    self, CHECKPOINTS_LENGTH, Checkpoint, SessionAnswer, WORDS_LENGTH, WORK_LENGTH,
+};
 use oracle::generate::sessions::Builder;
 use oracle::node::{NIL, from_word};
 use oracle::rng::Rng;
@@ -295,12 +297,12 @@ fn row(c: &Case, port: &mut Port) -> String {
     )
 }
 
-pub fn run(call: NikvoldraSession) {
-    let (mut work, mut words) = (vec![0; WORK], vec![0; WORDS]);
-    let (mut checkpoints, mut output) = (vec![[0; 4]; CHECKPOINTS], vec![0; MAX_OUTPUT]);
+pub fn run() {
+    let (mut work, mut words) = (vec![0; WORK_LENGTH], vec![0; WORDS_LENGTH]);
+    let mut checkpoints = vec![Checkpoint::default(); CHECKPOINTS_LENGTH];
+    let mut output = vec![0; MAX_OUTPUT];
     let mut port = |file: &[u8], length: usize| {
-        black_box(session_call::session(
-            call,
+        black_box(call::session(
             black_box(file),
             &mut work,
             &mut words,

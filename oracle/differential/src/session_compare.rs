@@ -1,9 +1,9 @@
 //! The session call on a file, compared with the unchanged Rust's `Serializer`.
 
 use crate::lent::{ABOVE, Lent, long, short};
-use crate::session_call::{self, CHECKPOINTS, NikvoldraSession, Record, WORDS, WORK};
 use crate::session_inputs::{Set, sets};
 use crate::share::{self, Part};
+use nikvoldra::call::{self, CHECKPOINTS_LENGTH, Checkpoint, WORDS_LENGTH, WORK_LENGTH};
 use oracle::plain::{self, Interner};
 use oracle::rng::Rng;
 use oracle::session::{self, MAX_OUTPUT, SessionAnswer};
@@ -11,6 +11,17 @@ use oracle::{hex, reading};
 use std::collections::BTreeMap;
 use std::time::Instant;
 
+/// `nikvoldra::call::session`, or what a test has in its place.
+pub type SessionCall = fn(
+    file: &[u8],
+    work: &mut [u32],
+    words: &mut [u32],
+    checkpoints: &mut [Checkpoint],
+    output: &mut [u8],
+) -> call::SessionAnswer;
+
+/// The least lengths of work, words and checkpoints.
+const LEAST: [usize; 3] = [WORK_LENGTH, WORDS_LENGTH, CHECKPOINTS_LENGTH];
 /// Bytes of rubbish after the file.
 const AFTER: usize = 16;
 /// Of so many files one is also tried with slices that are too short.
@@ -66,24 +77,24 @@ fn needed(full: &SessionAnswer) -> usize {
 
 /// The call, the slices that it is lent, and a tally.
 pub struct Comparison {
-    call: NikvoldraSession,
+    call: SessionCall,
     rng: Rng,
     work: Lent<u32>,
     words: Lent<u32>,
-    checkpoints: Lent<Record>,
+    checkpoints: Lent<Checkpoint>,
     output: Lent<u8>,
     file: Vec<u8>,
     pub tally: Tally,
 }
 
 impl Comparison {
-    pub fn new(call: NikvoldraSession, seed: u64) -> Self {
+    pub fn new(call: SessionCall, seed: u64) -> Self {
         let mut rng = Rng::new(seed);
         Self {
             call,
-            work: Lent::new("work", WORK, &mut rng),
-            words: Lent::new("words", WORDS, &mut rng),
-            checkpoints: Lent::new("checkpoints", CHECKPOINTS, &mut rng),
+            work: Lent::new("work", WORK_LENGTH, &mut rng),
+            words: Lent::new("words", WORDS_LENGTH, &mut rng),
+            checkpoints: Lent::new("checkpoints", CHECKPOINTS_LENGTH, &mut rng),
             output: Lent::new("output", MAX_OUTPUT, &mut rng),
             file: vec![],
             tally: Tally::default(),
@@ -93,23 +104,44 @@ impl Comparison {
 
     /// Work, words and checkpoints each at its minimum, or each at or above it.
     fn lengths(&mut self) -> [usize; 3] {
-        let least = [WORK, WORDS, CHECKPOINTS];
         if self.rng.percent(50) {
-            return least;
+            return LEAST;
         }
-        least.map(|n| long(&mut self.rng, n))
+        LEAST.map(|n| long(&mut self.rng, n))
     }
 
     /// `one` is one below its minimum or further below, and with some chance others.
     fn short_lengths(&mut self, one: usize) -> [usize; 3] {
         let mut lengths = self.lengths();
         let more = self.rng.percent(30);
-        for (i, least) in [WORK, WORDS, CHECKPOINTS].into_iter().enumerate() {
+        for (i, least) in LEAST.into_iter().enumerate() {
             if i == one || more && self.rng.percent(50) {
                 lengths[i] = short(&mut self.rng, least);
             }
         }
         lengths
+    }
+
+    /// Rubbish in all slices, and after the file.
+    fn fill(&mut self, file: &[u8], lengths: [usize; 3], output: usize) {
+        self.work.fill(lengths[0], &mut self.rng);
+        self.words.fill(lengths[1], &mut self.rng);
+        self.checkpoints.fill(lengths[2], &mut self.rng);
+        self.output.fill(output, &mut self.rng);
+        self.file.clear();
+        self.file.extend(file);
+        self.file.extend(self.rng.bytes(AFTER));
+    }
+
+    /// The call on so many bytes of the file and the rubbish after it.
+    fn run_on(&mut self, length: usize) -> call::SessionAnswer {
+        (self.call)(
+            &self.file[..length],
+            self.work.slice(),
+            self.words.slice(),
+            self.checkpoints.slice(),
+            self.output.slice(),
+        )
     }
 
     /// One call, with rubbish in all slices before it, and all of it compared.
@@ -120,33 +152,16 @@ impl Comparison {
         output: usize,
         expected: &SessionAnswer,
     ) -> Result<(), String> {
-        self.work.fill(lengths[0], &mut self.rng);
-        self.words.fill(lengths[1], &mut self.rng);
-        self.checkpoints.fill(lengths[2], &mut self.rng);
-        self.output.fill(output, &mut self.rng);
-        self.file.clear();
-        self.file.extend(file);
-        self.file.extend(self.rng.bytes(AFTER));
-        let now = session_call::session(
-            self.call,
-            &self.file[..file.len()],
-            self.work.slice(),
-            self.words.slice(),
-            self.checkpoints.slice(),
-            self.output.slice(),
-        );
+        self.fill(file, lengths, output);
+        let now = self.run_on(file.len());
         self.tally.calls += 1;
         self.agrees(now, expected)
             .map_err(|text| format!("{text}\nlengths: {lengths:?}, output {output}"))
     }
 
     /// The answer and the slices are as `expected` has them.
-    fn agrees(
-        &self,
-        now: session_call::SessionAnswer,
-        expected: &SessionAnswer,
-    ) -> Result<(), String> {
-        let answer = session_call::SessionAnswer {
+    fn agrees(&self, now: call::SessionAnswer, expected: &SessionAnswer) -> Result<(), String> {
+        let answer = call::SessionAnswer {
             number: expected.number,
             steps: expected.words.len() as u32,
             size: expected.output.len() as u32,
@@ -273,7 +288,7 @@ fn summary(t: &Tally) -> String {
 /// All sets, at most `most` files of each but the generated ones; `say` gets a
 /// line for each set, one for each kind, and a last one.
 pub fn run(
-    call: NikvoldraSession,
+    call: SessionCall,
     generated: usize,
     seed: u64,
     most: usize,
@@ -320,22 +335,26 @@ pub fn run(
 
 #[cfg(test)]
 mod tests {
-    use super::run;
-    use crate::session_call::NikvoldraSession;
+    use super::{Comparison, SessionCall, run};
     use crate::session_stand_in::{Fault, with_fault};
+    use oracle::session::{self, MAX_OUTPUT};
 
-    fn verdict(call: NikvoldraSession) -> Result<(), String> {
+    const RIGHT: SessionCall = with_fault::<{ Fault::None as u8 }>;
+    /// No atoms, pairs and sentinel; one step, which adds the small atom 5.
+    const FILE: &[u8] = b"BRS\0\x01\0\0\0\0\xff\xff\xff\xff\x01\x08\0\0\x05";
+
+    fn verdict(call: SessionCall) -> Result<(), String> {
         run(call, 200, 1, 60, |_| ()).map(|_| ())
     }
 
     #[test]
     fn the_text_agrees_with_the_rust() {
-        assert_eq!(verdict(with_fault::<{ Fault::None as u8 }>), Ok(()));
+        assert_eq!(verdict(RIGHT), Ok(()));
     }
 
     #[test]
     fn each_fault_is_noticed() {
-        let faulty: [NikvoldraSession; 16] = [
+        let faulty: [SessionCall; 14] = [
             with_fault::<{ Fault::Number as u8 }>,
             with_fault::<{ Fault::Steps as u8 }>,
             with_fault::<{ Fault::Size as u8 }>,
@@ -347,14 +366,51 @@ mod tests {
             with_fault::<{ Fault::WorkEnd as u8 }>,
             with_fault::<{ Fault::WorkBeyond as u8 }>,
             with_fault::<{ Fault::Checkpoint as u8 }>,
-            with_fault::<{ Fault::Outside as u8 }>,
             with_fault::<{ Fault::TouchedBy8 as u8 }>,
             with_fault::<{ Fault::TouchedBy1 as u8 }>,
             with_fault::<{ Fault::LongOutput as u8 }>,
-            with_fault::<{ Fault::Overread as u8 }>,
         ];
         for (i, call) in faulty.into_iter().enumerate() {
             assert!(verdict(call).is_err(), "fault {} is not noticed", i + 1);
         }
+    }
+
+    /// Both where the slices are cleared and where they are untouched.
+    #[test]
+    fn a_word_outside_a_slice_is_noticed() {
+        let outside: [fn(&mut Comparison, bool); 4] = [
+            |c, after| c.work.write_outside(after),
+            |c, after| c.words.write_outside(after),
+            |c, after| c.checkpoints.write_outside(after),
+            |c, after| c.output.write_outside(after),
+        ];
+        let mut c = Comparison::new(RIGHT, 1);
+        for file in [FILE, &FILE[1..]] {
+            let expected = session::run(file, MAX_OUTPUT, true);
+            for (i, write) in outside.into_iter().enumerate() {
+                for after in [false, true] {
+                    let lengths = c.lengths();
+                    c.fill(file, lengths, 100);
+                    let now = c.run_on(file.len());
+                    assert_eq!(c.agrees(now, &expected), Ok(()));
+                    write(&mut c, after);
+                    assert!(c.agrees(now, &expected).is_err(), "slice {i}, {after}");
+                }
+            }
+        }
+    }
+
+    /// The atom's last byte is past the end.
+    #[test]
+    fn a_byte_past_the_file_is_noticed() {
+        let file = &FILE[..FILE.len() - 1];
+        let expected = session::run(file, MAX_OUTPUT, true);
+        let mut c = Comparison::new(RIGHT, 1);
+        let lengths = c.lengths();
+        c.fill(file, lengths, 100);
+        let now = c.run_on(file.len());
+        assert_eq!(c.agrees(now, &expected), Ok(()));
+        let now = c.run_on(file.len() + 1);
+        assert!(c.agrees(now, &expected).is_err());
     }
 }

@@ -1,10 +1,9 @@
 //! The session call made of `oracle::model` (01's text), right or with one
 //! fault, to try the comparison itself.
 
-use crate::session_call::{CHECKPOINTS, Record, SessionAnswer, WORDS, WORK};
+use nikvoldra::call::{CHECKPOINTS_LENGTH, Checkpoint, SessionAnswer, WORDS_LENGTH, WORK_LENGTH};
 use oracle::model;
 use oracle::session::{self, MAX_OUTPUT};
-use std::slice::from_raw_parts_mut;
 
 #[derive(Clone, Copy, PartialEq)]
 #[repr(u8)]
@@ -32,49 +31,33 @@ pub enum Fault {
     WorkBeyond,
     /// a checkpoint record keeps a word
     Checkpoint,
-    /// a word past the slice of words
-    Outside,
     /// a refused file has its output cleared
     TouchedBy8,
     /// slices that are too short are cleared
     TouchedBy1,
     /// more than 65,535 bytes of the output are used
     LongOutput,
-    /// bytes past the file's end are read
-    Overread,
 }
 
 struct Slices<'a> {
     work: &'a mut [u32],
     words: &'a mut [u32],
-    checkpoints: &'a mut [Record],
+    checkpoints: &'a mut [Checkpoint],
     output: &'a mut [u8],
 }
 
-/// # Safety
-/// As the call's: each pointer is good for its length.
-#[allow(clippy::too_many_arguments)]
-pub unsafe extern "C" fn with_fault<const FAULT: u8>(
-    file: *const u8,
-    file_length: usize,
-    work: *mut u32,
-    work_length: usize,
-    words: *mut u32,
-    words_length: usize,
-    checkpoints: *mut Record,
-    checkpoints_length: usize,
-    output: *mut u8,
-    output_length: usize,
+pub fn with_fault<const FAULT: u8>(
+    file: &[u8],
+    work: &mut [u32],
+    words: &mut [u32],
+    checkpoints: &mut [Checkpoint],
+    output: &mut [u8],
 ) -> SessionAnswer {
-    let extra = usize::from(FAULT == Fault::Overread as u8 && file_length % 7 == 3);
-    let file = unsafe { std::slice::from_raw_parts(file, file_length + extra) };
-    let mut slices = unsafe {
-        Slices {
-            work: from_raw_parts_mut(work, work_length),
-            words: from_raw_parts_mut(words, words_length),
-            checkpoints: from_raw_parts_mut(checkpoints, checkpoints_length),
-            output: from_raw_parts_mut(output, output_length),
-        }
+    let mut slices = Slices {
+        work,
+        words,
+        checkpoints,
+        output,
     };
     answer(FAULT, file, &mut slices)
 }
@@ -85,7 +68,10 @@ fn answer(fault: u8, file: &[u8], s: &mut Slices) -> SessionAnswer {
         number,
         ..SessionAnswer::default()
     };
-    if s.work.len() < WORK || s.words.len() < WORDS || s.checkpoints.len() < CHECKPOINTS {
+    if s.work.len() < WORK_LENGTH
+        || s.words.len() < WORDS_LENGTH
+        || s.checkpoints.len() < CHECKPOINTS_LENGTH
+    {
         if fault(Fault::TouchedBy1) {
             s.output.fill(0);
         }
@@ -131,13 +117,13 @@ fn answer(fault: u8, file: &[u8], s: &mut Slices) -> SessionAnswer {
 fn clear(fault: &impl Fn(Fault) -> bool, s: &mut Slices, words: usize, size: usize) {
     let cleared = match s.work.len() {
         n if fault(Fault::WorkEnd) => n - 1,
-        _ if fault(Fault::WorkBeyond) => WORK,
+        _ if fault(Fault::WorkBeyond) => WORK_LENGTH,
         n => n,
     };
     s.work[..cleared].fill(0);
-    s.checkpoints.fill([0; 4]);
+    s.checkpoints.fill(Checkpoint::default());
     if fault(Fault::Checkpoint) {
-        s.checkpoints[15][3] = 1;
+        s.checkpoints[15].sentinel = 1;
     }
     let from = words + usize::from(fault(Fault::WordsBeyond));
     if from < s.words.len() {
@@ -146,8 +132,5 @@ fn clear(fault: &impl Fn(Fault) -> bool, s: &mut Slices, words: usize, size: usi
     let from = size + usize::from(fault(Fault::OutputBeyond));
     if from < s.output.len() {
         s.output[from..].fill(0);
-    }
-    if fault(Fault::Outside) {
-        unsafe { *s.words.as_mut_ptr().add(s.words.len()) ^= 1 };
     }
 }

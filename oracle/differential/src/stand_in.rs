@@ -1,9 +1,8 @@
 //! The reading call made of the oracle, right or with one fault, to try the
 //! comparison itself.
 
-use crate::call::{ATOMS, BYTES, PAIRS, ReadAnswer, WORK};
+use nikvoldra::call::{ATOMS_LENGTH, BYTES_LENGTH, PAIRS_LENGTH, ReadAnswer, WORK_LENGTH};
 use oracle::reading;
-use std::slice::from_raw_parts_mut;
 
 #[derive(Clone, Copy, PartialEq)]
 #[repr(u8)]
@@ -21,43 +20,29 @@ pub enum Fault {
     WorkBeyond,
     /// a word past the last pair
     PairsBeyond,
-    /// a word past the slice
-    Outside,
     /// slices that are too short are cleared
     TouchedBy1,
     /// 65,536 bytes are read
     LongerInput,
-    /// bytes past the input's end are read
-    Overread,
 }
 
-/// # Safety
-/// As the call's: each pointer is good for its length.
-#[allow(clippy::too_many_arguments)]
-pub unsafe extern "C" fn with_fault<const FAULT: u8>(
-    input: *const u8,
-    input_length: usize,
-    work: *mut u32,
-    work_length: usize,
-    pairs: *mut u32,
-    pairs_length: usize,
-    atoms: *mut u32,
-    atoms_length: usize,
-    bytes: *mut u8,
-    bytes_length: usize,
+pub fn with_fault<const FAULT: u8>(
+    input: &[u8],
+    work: &mut [u32],
+    pairs: &mut [u32],
+    atoms: &mut [u32],
+    bytes: &mut [u8],
 ) -> ReadAnswer {
     let fault = |f: Fault| f as u8 == FAULT;
-    let extra = usize::from(fault(Fault::Overread) && input_length % 7 == 3);
-    let input = unsafe { std::slice::from_raw_parts(input, input_length + extra) };
-    let work = unsafe { from_raw_parts_mut(work, work_length) };
-    let pairs = unsafe { from_raw_parts_mut(pairs, pairs_length) };
-    let atoms = unsafe { from_raw_parts_mut(atoms, atoms_length) };
-    let bytes = unsafe { from_raw_parts_mut(bytes, bytes_length) };
     let refusal = |number| ReadAnswer {
         number,
         ..ReadAnswer::default()
     };
-    if work.len() < WORK || pairs.len() < PAIRS || atoms.len() < ATOMS || bytes.len() < BYTES {
+    if work.len() < WORK_LENGTH
+        || pairs.len() < PAIRS_LENGTH
+        || atoms.len() < ATOMS_LENGTH
+        || bytes.len() < BYTES_LENGTH
+    {
         if fault(Fault::TouchedBy1) {
             bytes.fill(0);
         }
@@ -74,7 +59,7 @@ pub unsafe extern "C" fn with_fault<const FAULT: u8>(
     }
     let cleared = match work.len() {
         n if fault(Fault::WorkEnd) => n - 1,
-        _ if fault(Fault::WorkBeyond) => WORK,
+        _ if fault(Fault::WorkBeyond) => WORK_LENGTH,
         n => n,
     };
     work[..cleared].fill(0);
@@ -90,9 +75,6 @@ pub unsafe extern "C" fn with_fault<const FAULT: u8>(
     bytes[..r.bytes.len()].copy_from_slice(&r.bytes);
     if fault(Fault::PairsBeyond) && !r.pairs.is_empty() {
         pairs[2 * r.pairs.len()] = 1;
-    }
-    if fault(Fault::Outside) {
-        unsafe { *atoms.as_mut_ptr().add(atoms.len()) ^= 1 };
     }
     ReadAnswer {
         number: match r.number {
