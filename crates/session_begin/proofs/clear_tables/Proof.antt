@@ -1,4 +1,4 @@
--- `session_call::clear_tables` clears the words before the rows of parents.
+-- `session_begin::clear_tables` clears the words before the rows of parents.
 -- Assumes nothing.
 use Prim.Native.Nat.{ℕ}
 use mathlib.Core.Path.{sym, ap, _∙_}
@@ -6,9 +6,9 @@ use native.Mathlib.Omega.{arith}
 use lib.ListN.{replicate}
 use lib.Seq.{length-take-le}
 use borrow.Author.Needs.{needs}
-use Rattle.session_call.proofs.Opening.{front-cleared}
-use Rattle.session_call.proofs.clear_tables.Statement.{statement}
-use Rattle.session_call.proofs.clear_tables.Tie as tie
+use Rattle.session_begin.proofs.Opening.{front-cleared}
+use Rattle.session_begin.proofs.clear_tables.Statement.{statement}
+use Rattle.session_begin.proofs.clear_tables.Tie as tie
 
 slice-relend-prefix-clear : tie.Need-slice-relend-prefix-clear
 slice-relend-prefix-clear c = search needs
