@@ -67,10 +67,10 @@ use Rattle.read_answer.proofs.ReadAnswer as Q
 use Rattle.read_answer.proofs.ReadAnswer.Laws as Q′
 use Rattle.de_br.specs.Outcome.{{resultOf}}
 use Rattle.serializer.specs.Call.{{Slices, Result}}
-use Rattle.session_call.specs.declared.SessionAnswer.{{SessionAnswer}}
+use Rattle.session_answer.specs.declared.SessionAnswer.{{SessionAnswer}}
+use Rattle.session_answer.proofs.SessionAnswer as R
+use Rattle.session_answer.proofs.SessionAnswer.Laws as R′
 use Rattle.session_call.specs.Outcome.{{slices, result-of, ReadsBack}}
-use Rattle.session_call.proofs.SessionAnswer as R
-use Rattle.session_call.proofs.SessionAnswer.Laws as R′
 use @CALL@ as call
 use @CALL@.Symbol as call-def
 use @CALL@.Symbol.{{name as #call}}

@@ -51,9 +51,9 @@ use Rattle.checkpoints.specs.declared.Checkpoint.{Checkpoint}
 use Rattle.checkpoints.specs.Records.{blank}
 use Rattle.checkpoints.proofs.Checkpoint as T
 use Rattle.checkpoints.proofs.Checkpoint.Laws as T′
-use Rattle.session_call.specs.declared.SessionAnswer.{SessionAnswer}
-use Rattle.session_call.proofs.SessionAnswer as R
-use Rattle.session_call.proofs.SessionAnswer.Laws as R′
+use Rattle.session_answer.specs.declared.SessionAnswer.{SessionAnswer}
+use Rattle.session_answer.proofs.SessionAnswer as R
+use Rattle.session_answer.proofs.SessionAnswer.Laws as R′
 use @CALL@ as call
 use @CALL@.Symbol as call-def
 use @CALL@.Symbol.{name as #call}

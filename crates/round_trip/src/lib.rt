@@ -1,7 +1,7 @@
 // A session file is run, and the finished bytes are read.
 use checkpoints::Checkpoint;
 use read_answer::ReadAnswer;
-use session_call::SessionAnswer;
+use session_answer::SessionAnswer;
 ghost use mathlib.Core.Path.{_≡_};
 ghost use Prim.Native.Nat.{min};
 ghost use lib.ListN.{length, take};

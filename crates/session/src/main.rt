@@ -4,7 +4,7 @@ mod print;
 
 use checkpoints::Checkpoint;
 use libc::STDIN_FILENO;
-use session_call::SessionAnswer;
+use session_answer::SessionAnswer;
 
 // The session call with sixteen checkpoint records of its own.
 fn run(file: &[u8], work: &mut [u32], words: &mut [u32], output: &mut [u8]) -> SessionAnswer {

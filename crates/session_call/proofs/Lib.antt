@@ -1,4 +1,1 @@
-pub mod Opening
-pub mod Starting
-pub mod Asking
 pub mod Calling

@@ -1,3 +1,1 @@
-pub mod Opened
-pub mod Begins
 pub mod Outcome

@@ -223,6 +223,7 @@ fn same_fields(source: &str, name: &str, c_name: &str) {
 }
 
 const SESSION: &str = "crates/session_call/src/lib.rt";
+const SESSION_ANSWER: &str = "crates/session_answer/src/lib.rt";
 const READ: &str = "crates/de_br/src/lib.rt";
 const READ_ANSWER: &str = "crates/read_answer/src/lib.rt";
 const CHECKPOINTS: &str = "crates/checkpoints/src/lib.rt";
@@ -268,7 +269,7 @@ fn calls() {
 
 #[test]
 fn answers() {
-    same_fields(SESSION, "SessionAnswer", "nikvoldra_session_answer");
+    same_fields(SESSION_ANSWER, "SessionAnswer", "nikvoldra_session_answer");
     same_fields(READ_ANSWER, "ReadAnswer", "nikvoldra_read_answer");
 }
 

@@ -45,9 +45,9 @@ use Rattle.checkpoints.specs.declared.Checkpoint.{Checkpoint}
 use Rattle.checkpoints.specs.Records.{blank}
 use Rattle.checkpoints.proofs.Checkpoint as T
 use Rattle.checkpoints.proofs.Checkpoint.Laws as T′
-use Rattle.session_call.specs.declared.SessionAnswer.{SessionAnswer}
-use Rattle.session_call.proofs.SessionAnswer as R
-use Rattle.session_call.proofs.SessionAnswer.Laws as R′
+use Rattle.session_answer.specs.declared.SessionAnswer.{SessionAnswer}
+use Rattle.session_answer.proofs.SessionAnswer as R
+use Rattle.session_answer.proofs.SessionAnswer.Laws as R′
 use Rattle.session_call.proofs.nikvoldra_session as call
 use Rattle.session_call.proofs.nikvoldra_session.Symbol as call-def
 use Rattle.session_call.proofs.nikvoldra_session.Symbol.{name as #call}

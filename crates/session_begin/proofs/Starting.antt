@@ -26,7 +26,7 @@ use Rattle.tree_cache.proofs.Fresh.{Sorted, tables-handles, fresh-whole, fresh-
 use Rattle.incremental.specs.State.{todo-of, rights-left}
 use Rattle.checkpoints.specs.declared.Checkpoint.{Checkpoint}
 use Rattle.steps.specs.State.{whole-run, At, Underway}
-use Rattle.session_call.specs.Opened.{Opened, start-at}
+use Rattle.session_begin.specs.Opened.{Opened, start-at}
 
 -- Questions 5 and 7 were answered.
 sorted : (f : File) → Contents f → Sorted f

@@ -1,4 +1,4 @@
--- `session_call::load_places` puts the places of the atoms and the handles of the pairs into work.
+-- `session_begin::load_places` puts the places of the atoms and the handles of the pairs into work.
 -- Assumes nothing.
 use mathlib.Core.Path.{sym}
 use native.Mathlib.Omega.{arith}
@@ -7,9 +7,9 @@ use Rattle.words.proofs.Words.{part-length}
 use Rattle.words.specs.Words.{part}
 use Rattle.session_file.specs.CheckedLaws.{atoms-to-load, pairs-to-load}
 use Rattle.steps.specs.State.{the-file}
-use Rattle.session_call.proofs.Opening.{few-twice, pairs-room, placed}
-use Rattle.session_call.proofs.load_places.Statement.{statement}
-use Rattle.session_call.proofs.load_places.Tie as tie
+use Rattle.session_begin.proofs.Opening.{few-twice, pairs-room, placed}
+use Rattle.session_begin.proofs.load_places.Statement.{statement}
+use Rattle.session_begin.proofs.load_places.Tie as tie
 
 clear-tables-requires : tie.Need-clear-tables-requires
 clear-tables-requires c κs = search needs

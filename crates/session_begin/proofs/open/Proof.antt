@@ -1,13 +1,13 @@
--- `session_call::open` puts all tables of the file into work.
+-- `session_begin::open` puts all tables of the file into work.
 -- Assumes nothing.
 use mathlib.Core.Path.{refl}
 use native.Mathlib.Omega.{arith}
 use lib.ListN.{length-set}
 use borrow.Author.Needs.{needs}
 use Rattle.steps.specs.State.{the-file}
-use Rattle.session_call.proofs.Opening.{firsts-ask, opened}
-use Rattle.session_call.proofs.open.Statement.{statement}
-use Rattle.session_call.proofs.open.Tie as tie
+use Rattle.session_begin.proofs.Opening.{firsts-ask, opened}
+use Rattle.session_begin.proofs.open.Statement.{statement}
+use Rattle.session_begin.proofs.open.Tie as tie
 
 load-places-requires : tie.Need-load-places-requires
 load-places-requires c κs = search needs

@@ -1,14 +1,12 @@
--- `session_call::clear_tables` clears the words before the rows of parents.
+-- `session_begin::clear_tables` clears the words before the rows of parents.
 -- Assumes nothing.
-use Prim.Native.Nat.{ℕ}
-use mathlib.Core.Path.{sym, ap, _∙_}
+use mathlib.Core.Path.{sym}
 use native.Mathlib.Omega.{arith}
-use lib.ListN.{replicate}
 use lib.Seq.{length-take-le}
 use borrow.Author.Needs.{needs}
-use Rattle.session_call.proofs.Opening.{front-cleared}
-use Rattle.session_call.proofs.clear_tables.Statement.{statement}
-use Rattle.session_call.proofs.clear_tables.Tie as tie
+use Rattle.session_begin.proofs.Opening.{front-cleared}
+use Rattle.session_begin.proofs.clear_tables.Statement.{statement}
+use Rattle.session_begin.proofs.clear_tables.Tie as tie
 
 slice-relend-prefix-clear : tie.Need-slice-relend-prefix-clear
 slice-relend-prefix-clear c = search needs
@@ -24,7 +22,7 @@ same-length c = search needs
 
 returns : tie.Need-returns
 returns c = let s = c .before .before .before .before .before in let cl = c .before .before .clear in
-    λ k l. front-cleared 47307 k (cl .last .0) _ (cl .ensures ∙ ap (λ (m : ℕ). replicate m 0) (length-take-le 47307 (s .args .work .now) (omega (arith, s .pre)))) l
+    front-cleared 47307 (s .args .work .now) (cl .last .0) _ (omega (arith, s .pre)) (cl .ensures)
 
 pub clear-tables-spec : {M : Type 1} → statement M
 clear-tables-spec =

@@ -13,10 +13,10 @@ use Rattle.session_file.specs.Checked.{Passed, Checks}
 use Rattle.session_file.specs.CheckedLaws.{Accepted, accepted, rejected}
 use Rattle.session_file.specs.declared.Checked.{Checked}
 use Rattle.steps.specs.State.{contents-of, the-file}
-use Rattle.session_call.specs.declared.Begun.{Begun}
-use Rattle.session_call.specs.Opened.{Opened, start-at}
-use Rattle.session_call.specs.Begins.{are-long, asked, refused-with, Starts, Begins}
-use Rattle.session_call.proofs.Starting.{starts}
+use Rattle.session_begin.specs.declared.Begun.{Begun}
+use Rattle.session_begin.specs.Opened.{Opened, start-at}
+use Rattle.session_begin.specs.Begins.{are-long, asked, refused-with, Starts, Begins}
+use Rattle.session_begin.proofs.Starting.{starts}
 
 -- ---- question 1
 

@@ -1,11 +1,11 @@
 -- Loading a session file: the words lent to the loaders come back, and hold the tables of the file; the words after them are zero, up to the rows of parents.
 -- Assumes nothing.
-use Prim.Native.Nat.{ℕ, zero, suc, _+_, _-_, _*_, _≤_, _<_}
+use Prim.Native.Nat.{ℕ, zero, suc, _+_, _*_, _≤_, _<_}
 use mathlib.Core.Path.{_≡_, refl, sym, ap, subst, _∙_}
 use mathlib.Core.List.{List, [], _∷_, _++_}
-use mathlib.Core.Option.{Option, none, some}
 use native.Mathlib.Omega.{arith}
-use lib.ListN.{length, getD, set, replicate}
+use lib.ListN.{length, getD, set, take, replicate}
+use lib.Seq.{length-take-le}
 use borrow.Rule.Slice.PartMut.{putMid}
 use Rattle.words.specs.Words.{at, part}
 use Rattle.words.specs.Lists.{all-at}
@@ -15,14 +15,15 @@ use Rattle.session_file.specs.Places.{ListedAtom}
 use Rattle.session_file.specs.Checked.{Passed}
 use Rattle.session_file.specs.Loaded.{AtomPlace, AtomsLoaded, PairsLoaded}
 use Rattle.session_file.specs.declared.Checked.{Checked}
-use Rattle.layout.specs.Layout.{ATOMS, PAIRS, FIRST, ATOM-LENGTHS, ATOM-HEADS, ATOM-COUNT, PAIR-COUNT, SENTINEL, OPEN, PARENTS}
+use Rattle.layout.specs.Layout.{ATOMS, PAIRS, FIRST, ATOM-LENGTHS, ATOM-HEADS, ATOM-COUNT, PAIR-COUNT, SENTINEL, OPEN}
 use Rattle.load.specs.Load.{atom-bytes, Ready, Loaded}
 use Rattle.load.proofs.Tables.{table-firsts, table-lengths}
-use Rattle.session_call.specs.Opened.{TablesClear, Placed, Opened}
+use Rattle.session_begin.specs.Opened.{TablesClear, Placed, Opened}
 
--- The words before place n are cleared, and the others stay.
-pub front-cleared : (n k : ℕ) (t rest : List ℕ) → t ≡ replicate n 0 → k < n → at (t ++ rest) k ≡ 0
-front-cleared n k t rest e l = ap (λ (x : List ℕ). at (x ++ rest) k) e ∙ go n k l
+-- The words before place n were lent, and came back cleared.
+pub front-cleared : (n : ℕ) (w t rest : List ℕ) → n ≤ length w → t ≡ replicate (length (take n w)) 0 → (k : ℕ) → k < n → at (t ++ rest) k ≡ 0
+front-cleared n w t rest long e k l =
+    ap (λ (x : List ℕ). at (x ++ rest) k) (e ∙ ap (λ (m : ℕ). replicate m 0) (length-take-le n w long)) ∙ go n k l
   where
     go : (m j : ℕ) → j < m → at (replicate m 0 ++ rest) j ≡ 0
     go zero j h = absurd (omega arith)

@@ -1,9 +1,9 @@
--- `session_call::clear_rest` clears what is left after a run, and nothing after a refusal.
+-- `session_answer::clear_rest` clears what is left after a run, and nothing after a refusal.
 -- Assumes nothing.
-use Rattle.session_call.proofs.Calling.{cleared-none, cleared-all, tail-cleared}
+use Rattle.session_answer.proofs.Clearing.{cleared-none, cleared-all, tail-cleared}
 use borrow.Author.Needs.{needs}
-use Rattle.session_call.proofs.clear_rest.Statement.{statement}
-use Rattle.session_call.proofs.clear_rest.Tie as tie
+use Rattle.session_answer.proofs.clear_rest.Statement.{statement}
+use Rattle.session_answer.proofs.clear_rest.Tie as tie
 
 returns : tie.Need-returns
 returns c = let a = c .before .before .before .before .args in cleared-none (a .p) (a .work .now) (a .words .now) (a .output .now) (a .refused) (c .if1 .taken)

@@ -1,13 +1,13 @@
--- `session_call::begin` asks questions 1 to 8, and loads the file where all get yes.
+-- `session_begin::begin` asks questions 1 to 8, and loads the file where all get yes.
 -- Assumes nothing.
 use Prim.Native.Nat.{ℕ, _<_}
 use native.Mathlib.Omega.{arith}
 use borrow.Author.Tests.{not-true, not-false}
 use Rattle.words.specs.Lists.{all-of}
-use Rattle.session_call.proofs.Asking.{begin-short, begin-refused, open-asks, begin-run}
+use Rattle.session_begin.proofs.Asking.{begin-short, begin-refused, open-asks, begin-run}
 use borrow.Author.Needs.{needs}
-use Rattle.session_call.proofs.begin.Statement.{statement}
-use Rattle.session_call.proofs.begin.Tie as tie
+use Rattle.session_begin.proofs.begin.Statement.{statement}
+use Rattle.session_begin.proofs.begin.Tie as tie
 
 long-enough-requires : tie.Need-long-enough-requires
 long-enough-requires c κs = search needs

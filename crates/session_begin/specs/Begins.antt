@@ -9,7 +9,7 @@ use Rattle.session_file.specs.File.{File, Got, got, refused, version-1, file}
 use Rattle.checkpoints.specs.declared.Checkpoint.{Checkpoint}
 use Rattle.steps.specs.declared.Progress.{Progress}
 use Rattle.steps.specs.State.{the-file, Underway}
-use Rattle.session_call.specs.declared.Begun.{Begun}
+use Rattle.session_begin.specs.declared.Begun.{Begun}
 
 -- Question 1, of the lengths of work, words and checkpoint records.
 abbrev pub are-long : (work words records : ℕ) → Bool
