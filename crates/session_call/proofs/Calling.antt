@@ -20,7 +20,7 @@ use Rattle.serializer.specs.Call.{Slices, Result, untouched, after-run, after-f
 use Rattle.checkpoints.specs.declared.Checkpoint.{Checkpoint}
 use Rattle.checkpoints.specs.Records.{blank}
 use Rattle.steps.specs.State.{contents-of, the-file, whole-run, Ended}
-use Rattle.steps.specs.declared.Progress.{Progress}
+use Rattle.progress.specs.declared.Progress.{Progress}
 use Rattle.run_steps.specs.Driven.{Going, Driven}
 use Rattle.session_call.specs.declared.SessionAnswer.{SessionAnswer}
 use Rattle.session_call.specs.declared.Begun.{Begun}

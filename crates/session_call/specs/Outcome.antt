@@ -11,7 +11,7 @@ use Rattle.serializer.specs.Premises.{Apart}
 use Rattle.serializer.specs.Demand3.{Finished, ReadBack}
 use Rattle.serializer.specs.Call.{Answer, Slices, Result}
 use Rattle.checkpoints.specs.declared.Checkpoint.{Checkpoint}
-use Rattle.steps.specs.declared.Progress.{Progress}
+use Rattle.progress.specs.declared.Progress.{Progress}
 use Rattle.session_call.specs.declared.SessionAnswer.{SessionAnswer}
 
 abbrev pub answer-of : SessionAnswer → Answer

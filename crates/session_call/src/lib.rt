@@ -1,7 +1,7 @@
 // The session call: a session file is checked, its tables are loaded, and its steps are run.
 use checkpoints::Checkpoint;
+use progress::Progress;
 use session_file::Checked;
-use steps::Progress;
 ghost use mathlib.Core.Path.{_≡_};
 ghost use Prim.Native.Nat.{_≤_};
 ghost use lib.ListN.{length};
