@@ -58,12 +58,12 @@ use Rattle.checkpoints.proofs.Again.{Lent, under, lends-at, comes-at}
 use Rattle.checkpoints.proofs.Rows.{byte-fits, the-vals, the-tells, the-makes, the-typed, after}
 use Rattle.checkpoints.proofs.Checkpoint as T
 use Rattle.checkpoints.proofs.Checkpoint.Laws as T′
-use Rattle.steps.specs.declared.Progress.{Progress}
-use Rattle.steps.specs.declared.StepAnswer.{StepAnswer}
-use Rattle.steps.proofs.Progress as S
-use Rattle.steps.proofs.Progress.Laws as S′
-use Rattle.steps.proofs.StepAnswer as R
-use Rattle.steps.proofs.StepAnswer.Laws as R′
+use Rattle.progress.specs.declared.Progress.{Progress}
+use Rattle.progress.specs.declared.StepAnswer.{StepAnswer}
+use Rattle.progress.proofs.Progress as S
+use Rattle.progress.proofs.Progress.Laws as S′
+use Rattle.progress.proofs.StepAnswer as R
+use Rattle.progress.proofs.StepAnswer.Laws as R′
 use Rattle.steps.proofs.slot_of as slot-of
 use Rattle.steps.proofs.slot_of.Symbol as slot-of-def
 use Rattle.steps.proofs.slot_of.Symbol.{name as #steps·slot-of}
@@ -400,7 +400,7 @@ run-steps-spec 𝓤 H 𝓜 𝓖 𝓡 =
 '''
 T=HEAD
 T=T.replace("use lib.ListN.{length, set, getD, length-set}","use lib.ListN.{length, set, getD, take, length-set}")
-T=T.replace("use Rattle.steps.specs.declared.StepAnswer.{StepAnswer}\n","use Rattle.steps.specs.declared.StepAnswer.{StepAnswer}\nuse Rattle.steps.specs.State.{the-file}\nuse Rattle.steps.specs.Steps.{Ready}\n")
+T=T.replace("use Rattle.progress.specs.declared.StepAnswer.{StepAnswer}\n","use Rattle.progress.specs.declared.StepAnswer.{StepAnswer}\nuse Rattle.steps.specs.State.{the-file}\nuse Rattle.steps.specs.Steps.{Ready}\n")
 rows={1:('u32','work','work-len','zs .0'),2:('u32','words','words-len','zs .1 .0'),3:('u8','out','out-len','zs .1 .1 .0')}
 def lends(j):
     R,fld,ln,z=rows[j]; s=sub(j)

@@ -11,9 +11,10 @@ use Rattle.checkpoints.specs.Records.{blank}
 use Rattle.checkpoints.specs.declared.Checkpoint.{Checkpoint}
 use Rattle.session_file.specs.File.{Step}
 use Rattle.session_file.specs.Places.{StepsAt}
-use Rattle.steps.specs.declared.Progress.{Progress}
-use Rattle.steps.specs.declared.StepAnswer.{StepAnswer}
-use Rattle.steps.specs.State.{the-file, bit, Underway, Stands, slot-for}
+use Rattle.progress.specs.declared.Progress.{Progress}
+use Rattle.progress.specs.declared.StepAnswer.{StepAnswer}
+use Rattle.progress.specs.Stored.{bit}
+use Rattle.steps.specs.State.{the-file, Underway, Stands, slot-for}
 use Rattle.steps.specs.Steps.{Ready, Onward}
 use Rattle.steps.proofs.Answers.{stands-on, under, ended}
 use Rattle.run_steps.specs.Driven.{Going, Driven}

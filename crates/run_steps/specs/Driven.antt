@@ -5,7 +5,7 @@ use mathlib.Core.Bool.{Bool, true, false}
 use mathlib.Core.List.{List}
 use lib.ListN.{take}
 use Rattle.checkpoints.specs.declared.Checkpoint.{Checkpoint}
-use Rattle.steps.specs.declared.Progress.{Progress}
+use Rattle.progress.specs.declared.Progress.{Progress}
 use Rattle.steps.specs.State.{the-file, Underway, Ended}
 
 -- A run that is not over is under way.

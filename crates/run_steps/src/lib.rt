@@ -1,6 +1,6 @@
 // The steps of a session, one after the other, with the checkpoint records in a lent slice of structs.
 use checkpoints::Checkpoint;
-use steps::Progress;
+use progress::Progress;
 ghost use Rattle.run_steps.specs.Driven.{Going, Driven};
 
 // The steps, to the end of the file or to the first that is refused. A run that is over stays as it is.

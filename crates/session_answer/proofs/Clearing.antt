@@ -9,7 +9,7 @@ use lib.ListN.{length, take, drop, replicate, length-drop, drop-of-length-le}
 use lib.Seq.{length-take-le}
 use borrow.Rule.Slice.PartMut.{putMid}
 use Rattle.reading.specs.Call.{zeroed, filled}
-use Rattle.steps.specs.declared.Progress.{Progress}
+use Rattle.progress.specs.declared.Progress.{Progress}
 use Rattle.session_answer.specs.Answer.{Cleared}
 
 -- A slice whose words from n on were lent, and came back zero.

@@ -6,7 +6,7 @@ use mathlib.Core.List.{List}
 use lib.ListN.{take}
 use Rattle.reading.specs.Call.{zeroed, filled}
 use Rattle.serializer.specs.Call.{Answer}
-use Rattle.steps.specs.declared.Progress.{Progress}
+use Rattle.progress.specs.declared.Progress.{Progress}
 use Rattle.session_answer.specs.declared.SessionAnswer.{SessionAnswer}
 
 abbrev pub answer-of : SessionAnswer → Answer

@@ -1,5 +1,5 @@
 // The end of a session call: what is left is cleared, and the answer.
-use steps::Progress;
+use progress::Progress;
 ghost use mathlib.Core.Path.{_≡_};
 ghost use Prim.Native.Nat.{_≤_};
 ghost use lib.ListN.{length};

@@ -10,7 +10,7 @@ use Rattle.session_file.specs.Loaded.{AtomPlace, pair-of}
 use Rattle.layout.specs.Layout.{ATOMS, PAIRS, FIRST, OPEN, PARENTS}
 use Rattle.tree_cache.specs.Meaning.{Tables}
 use Rattle.incremental.specs.State.{AtomPlaces, AtomsThere}
-use Rattle.steps.specs.declared.Progress.{Progress}
+use Rattle.progress.specs.declared.Progress.{Progress}
 
 -- The words before the rows of parents are zero.
 abbrev pub TablesClear : List ℕ → Type 0

@@ -19,7 +19,7 @@ use Rattle.serializer.specs.Call.{Slices, Result, untouched, after-run, after-f
 use Rattle.checkpoints.specs.declared.Checkpoint.{Checkpoint}
 use Rattle.checkpoints.specs.Records.{blank}
 use Rattle.steps.specs.State.{contents-of, the-file, whole-run, Ended}
-use Rattle.steps.specs.declared.Progress.{Progress}
+use Rattle.progress.specs.declared.Progress.{Progress}
 use Rattle.run_steps.specs.Driven.{Going, Driven}
 use Rattle.session_begin.specs.declared.Begun.{Begun}
 use Rattle.session_begin.specs.Begins.{are-long, asked, refused-with, Begins}

@@ -12,7 +12,6 @@ use borrow.Author.Tests.{lt-ltb}
 use Rattle.words.specs.Words.{at}
 use Rattle.words.specs.Lists.{All}
 use Rattle.words.specs.Choice.{cond-true}
-use Rattle.checkpoints.specs.Records.{blank}
 use Rattle.checkpoints.specs.declared.Checkpoint.{Checkpoint}
 use Rattle.path.specs.Measure.{counted}
 use Rattle.allocator.specs.Handle.{node-of}
@@ -38,9 +37,11 @@ use Rattle.incremental.specs.Contracts.{place-of, Fine, goes-on, comes-to, Lead
 use Rattle.incremental.proofs.Frames.{todo-same, rights-same, pairs-few}
 use Rattle.incremental.specs.declared.Outcome.{Outcome}
 use Rattle.incremental.specs.declared.Outcome.the-variants as outcome
-use Rattle.steps.specs.declared.Progress.{Progress}
-use Rattle.steps.specs.State.{whole-run, after-words, bit, waits, At, Before, History, Stocked, Underway, Ended, slot-for}
-use Rattle.steps.specs.Steps.{noted-at, record-of, Adding, after-outcome, Added}
+use Rattle.progress.specs.declared.Progress.{Progress}
+use Rattle.progress.specs.Stored.{bit, record-of}
+use Rattle.progress.specs.Moves.{noted-at, after-outcome}
+use Rattle.steps.specs.State.{whole-run, after-words, waits, At, Before, History, Stocked, Underway, Ended, slot-for}
+use Rattle.steps.specs.Steps.{Adding, Added}
 use Rattle.steps.proofs.Frames.{places-kept, atoms-kept, whole-kept, holds-kept, unmapped-kept, all-counts-kept}
 use Rattle.steps.proofs.Runs.{run-add, words-ended}
 use Rattle.steps.proofs.States.{at-kept, history-more, go-on}

@@ -20,10 +20,12 @@ use Rattle.incremental.specs.State.{todo-of}
 use Rattle.incremental.specs.Contracts.{Fine, ended as ended-at}
 use Rattle.incremental.specs.declared.Outcome.{Outcome}
 use Rattle.incremental.specs.declared.Outcome.the-variants as outcome
-use Rattle.steps.specs.declared.Progress.{Progress}
-use Rattle.steps.specs.declared.StepAnswer.{StepAnswer}
-use Rattle.steps.specs.State.{after-words, bit, waits, size-at, Underway, Ended, Stands, slot-for}
-use Rattle.steps.specs.Steps.{refused-at, noted-at, record-of, question-of, stopped-at, Comes, Adding, after-outcome, Added, undone-at, Undoing, Undone, Ready, Onward}
+use Rattle.progress.specs.declared.Progress.{Progress}
+use Rattle.progress.specs.declared.StepAnswer.{StepAnswer}
+use Rattle.progress.specs.Stored.{bit, record-of}
+use Rattle.progress.specs.Moves.{refused-at, noted-at, after-outcome, undone-at, question-of, stopped-at}
+use Rattle.steps.specs.State.{after-words, waits, size-at, Underway, Ended, Stands, slot-for}
+use Rattle.steps.specs.Steps.{Comes, Adding, Added, Undoing, Undone, Ready, Onward}
 use Rattle.steps.proofs.Slots.{nth-none}
 use Rattle.steps.proofs.Runs.{run-ends, run-finished, run-full, run-beyond, words-ended}
 use Rattle.steps.proofs.Adding.{adding, added-on, added-off}

@@ -9,8 +9,8 @@ use lib.Seq.{length-take-le, take-all, take-at}
 use Rattle.words.specs.Choice.{by-lt}
 use Rattle.checkpoints.specs.declared.Checkpoint.{Checkpoint}
 use Rattle.session_file.specs.File.{File}
-use Rattle.steps.specs.declared.Progress.{Progress}
-use Rattle.steps.specs.declared.StepAnswer.{StepAnswer}
+use Rattle.progress.specs.declared.Progress.{Progress}
+use Rattle.progress.specs.declared.StepAnswer.{StepAnswer}
 use Rattle.steps.specs.Steps.{Ready, Onward}
 
 take-used : (n : ℕ) (o : List ℕ) → n ≡ min (length o) 65535 → take n o ≡ take 65535 o

@@ -18,17 +18,18 @@ use Rattle.session_file.specs.File.{File, Step, restore}
 use Rattle.session_file.specs.Places.{StepsAt, StepNamed}
 use Rattle.serializer.specs.Writer.{Todo, Written, Session}
 use Rattle.serializer.specs.Steps.{UndoState, or-known, restored, Run, with-word, word-of, run-steps}
-use Rattle.layout.specs.Layout.{PAIR-COUNT, OPEN, STACK, WRITTEN, MAPS, SENTINEL-ENTRY, USED, SEEN, ENTRIES, DEPTH}
-use Rattle.stack.specs.Contracts.{Stacked, copied-stack, Restored}
+use Rattle.layout.specs.Layout.{PAIR-COUNT, OPEN, STACK, WRITTEN, MAPS, SENTINEL-ENTRY, USED, SEEN}
 use Rattle.stack.proofs.Stacks.{stack-same, stacked-same}
 use Rattle.stack.proofs.Marks.{marked-same}
 use Rattle.tree_cache.specs.Meaning.{Whole, Holds, entry-or-none}
 use Rattle.tree_cache.proofs.Frames.{tables-kept}
 use Rattle.incremental.specs.State.{todo-of, Running, Writes}
 use Rattle.incremental.proofs.Frames.{todo-same, rights-same, pairs-few}
-use Rattle.steps.specs.declared.Progress.{Progress}
-use Rattle.steps.specs.State.{whole-run, after-words, bit, Before, History, Stocked, Underway, slot-for}
-use Rattle.steps.specs.Steps.{noted-at, with-entry, Undoing, Undone, undone-at}
+use Rattle.progress.specs.declared.Progress.{Progress}
+use Rattle.progress.specs.Stored.{bit, with-entry}
+use Rattle.progress.specs.Moves.{noted-at, undone-at}
+use Rattle.steps.specs.State.{whole-run, after-words, Before, History, Stocked, Underway, slot-for}
+use Rattle.steps.specs.Steps.{Undoing, Undone}
 use Rattle.steps.proofs.Slots.{Found, nth-found, set-same, set-there, set-here}
 use Rattle.steps.proofs.Frames.{places-kept, atoms-kept, whole-kept, holds-kept, unmapped-kept, all-counts-kept}
 use Rattle.steps.proofs.Runs.{run-restore}
@@ -53,20 +54,7 @@ entry-low : (v : List ℕ) (r n : ℕ) → 524288 ≤ length v → r ≤ n → a
 entry-low v zero n l a b = b
 entry-low v (suc e) n l a b = omega (arith, set-here v SENTINEL-ENTRY (suc e) 0 (omega arith))
 
-pub entry-set : (v : List ℕ) (r : ℕ) → (r ≡ 0 → ⊥) → set v SENTINEL-ENTRY r ≡ with-entry v r
-entry-set v zero n = absurd (n refl)
-entry-set v (suc e) n = refl
-
--- ---- the calls of a restore
-
-pub restore-asks : (w : List ℕ) (depth n : ℕ) (r : Checkpoint) (o d : ℕ) → o ≡ r .opens → d ≡ r .depth → Undoing w depth n r
-    → (524288 ≤ length w) × (Stacked w depth) × (n < 16) × (o ≤ 4096) × (d ≤ DEPTH) × ((i : ℕ) → i < d → at w (copied-stack n + i) < ENTRIES)
-restore-asks w depth n r o d oi di u =
-    (u .long, u .stacked, u .few, omega (arith, u .few-opens), omega (arith, u .deep), λ i l. u .entries i (omega arith))
-
-pub undone-of : (w v w′ : List ℕ) (n : ℕ) (r : Checkpoint) (o d : ℕ) → o ≡ r .opens → d ≡ r .depth → Restored w v n o d → w′ ≡ with-entry v (r .sentinel) → Undone w w′ n r
-undone-of w v w′ n r o d oi di re is =
-    record { restored-words = v; restored = subst (λ (x : ℕ). Restored w v n (r .opens) x) di (subst (λ (x : ℕ). Restored w v n x d) oi re); is = is }
+-- ---- a restore
 
 module _ (input : List ℕ) (f : File) (w words : List ℕ) (rows : List Checkpoint) (out : List ℕ) (p : Progress) (n next : ℕ) (rest : List Step)
     (u : Underway input f w words rows out p) (e : u .left ≡ restore n ∷ rest) (few : n < p .adds) (r : Checkpoint)

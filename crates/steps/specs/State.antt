@@ -22,7 +22,8 @@ use Rattle.layout.specs.Rows.{all-counts}
 use Rattle.stack.specs.Contracts.{copied-open, copied-stack, copied-marks}
 use Rattle.tree_cache.specs.Meaning.{Tables, unmapped}
 use Rattle.incremental.specs.State.{AtomPlaces, AtomsThere, todo-of, Running, Writes}
-use Rattle.steps.specs.declared.Progress.{Progress}
+use Rattle.progress.specs.declared.Progress.{Progress}
+use Rattle.progress.specs.Stored.{bit}
 
 -- ---- the file of the bytes, and its whole run
 
@@ -43,11 +44,6 @@ abbrev pub after-words : List ℕ → Run → Run
 after-words ws r = record { words = ws ++ r .words; number = r .number; last = r .last }
 
 -- ---- one state
-
--- 1 where the session is finished.
-abbrev pub bit : Bool → ℕ
-bit true = 1
-bit false = 0
 
 abbrev pub waits : Bool → List Todo → Option (List Todo)
 waits true k = none

@@ -53,14 +53,14 @@ use Rattle.checkpoints.proofs.Again.{Lent, under, lends-at, comes-at}
 use Rattle.checkpoints.proofs.Rows.{byte-fits, the-vals, the-tells, the-makes, the-typed, after}
 use Rattle.checkpoints.proofs.Checkpoint as T
 use Rattle.checkpoints.proofs.Checkpoint.Laws as T′
-use Rattle.steps.specs.declared.Progress.{Progress}
-use Rattle.steps.specs.declared.StepAnswer.{StepAnswer}
+use Rattle.progress.specs.declared.Progress.{Progress}
+use Rattle.progress.specs.declared.StepAnswer.{StepAnswer}
 use Rattle.steps.specs.State.{the-file}
 use Rattle.steps.specs.Steps.{Ready}
-use Rattle.steps.proofs.Progress as S
-use Rattle.steps.proofs.Progress.Laws as S′
-use Rattle.steps.proofs.StepAnswer as R
-use Rattle.steps.proofs.StepAnswer.Laws as R′
+use Rattle.progress.proofs.Progress as S
+use Rattle.progress.proofs.Progress.Laws as S′
+use Rattle.progress.proofs.StepAnswer as R
+use Rattle.progress.proofs.StepAnswer.Laws as R′
 use Rattle.steps.proofs.slot_of as slot-of
 use Rattle.steps.proofs.slot_of.Symbol as slot-of-def
 use Rattle.steps.proofs.slot_of.Symbol.{name as #steps·slot-of}

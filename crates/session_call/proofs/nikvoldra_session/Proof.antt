@@ -53,9 +53,9 @@ use Rattle.checkpoints.proofs.clear_first as clear
 use Rattle.checkpoints.proofs.clear_first.Symbol as clear-def
 use Rattle.checkpoints.proofs.clear_first.Symbol.{name as #clear}
 use Rattle.checkpoints.proofs.clear_first.Met as clear-thm
-use Rattle.steps.specs.declared.Progress.{Progress}
-use Rattle.steps.proofs.Progress as S
-use Rattle.steps.proofs.Progress.Laws as S′
+use Rattle.progress.specs.declared.Progress.{Progress}
+use Rattle.progress.proofs.Progress as S
+use Rattle.progress.proofs.Progress.Laws as S′
 use Rattle.run_steps.specs.Driven.{Driven}
 use Rattle.run_steps.proofs.run_steps as drive
 use Rattle.run_steps.proofs.run_steps.Symbol as drive-def

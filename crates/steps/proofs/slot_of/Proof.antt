@@ -1,10 +1,7 @@
 -- `steps::slot_of` gives the record that the step at a place takes.
 -- Assumes nothing.
-use Prim.Native.Nat.{ℕ}
-use mathlib.Core.Bool.{cond}
-use mathlib.Core.Path.{ap, refl, _∙_}
+use mathlib.Core.Path.{refl}
 use native.Mathlib.Omega.{arith}
-use lib.Dec.{ltb}
 use borrow.Author.Needs.{needs}
 use Rattle.session_file.specs.Places.{StepsAt}
 use Rattle.steps.proofs.Slots.{slot-told}
@@ -23,8 +20,8 @@ within-requires c κs = search needs
 enum-known-number : tie.Need-enum-known-number
 enum-known-number c = search needs
 
-wide-requires : tie.Need-wide-requires
-wide-requires c κs = search needs
+cast-within : tie.Need-cast-within
+cast-within c = search needs
 
 within-requires-2 : tie.Need-within-requires-2
 within-requires-2 c κs = search needs
@@ -36,7 +33,7 @@ returns : tie.Need-returns
 returns c = let s = c .before .before .before .before .before .args in let n = c .before .before .before .next-step in (c .within .ensures .0, slot-told (s .file .now) (s .at) (s .adds) _ (n .result) _ (StepsAt (s .file .now) (s .at)) (n .ensures) (c .before .enum-told .given .1) (c .within .ensures .1))
 
 returns-2 : tie.Need-returns-2
-returns-2 c = let s = c .before .before .before .before .before .before .before .args in let n = c .before .before .before .before .before .next-step in (c .within2 .ensures .0, slot-told (s .file .now) (s .at) (s .adds) _ (n .result) _ (StepsAt (s .file .now) (s .at)) (n .ensures) (c .before .before .before .number .given .1) (c .within2 .ensures .1 ∙ ap (λ (x : ℕ). cond (ltb x 16) x 0) (c .before .wide .ensures)))
+returns-2 c = let s = c .before .before .before .before .before .before .args in let n = c .before .before .before .before .next-step in (c .within2 .ensures .0, slot-told (s .file .now) (s .at) (s .adds) _ (n .result) _ (StepsAt (s .file .now) (s .at)) (n .ensures) (c .before .before .number .given .1) (c .within2 .ensures .1))
 
 returns-3 : tie.Need-returns-3
 returns-3 c = let s = c .before .before .before .before .args in let n = c .before .before .next-step in (omega arith, slot-told (s .file .now) (s .at) (s .adds) 0 (n .result) _ (StepsAt (s .file .now) (s .at)) (n .ensures) (c .enum-told2 .given .1) refl)
@@ -49,7 +46,7 @@ slot-of-spec =
     enum-told
     within-requires
     enum-known-number
-    wide-requires
+    cast-within
     within-requires-2
     enum-told-2
     returns

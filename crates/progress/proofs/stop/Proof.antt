@@ -1,8 +1,8 @@
--- `steps::stop` ends the run with a number, and keeps the record.
+-- `progress::stop` ends the run with a number, and keeps the record.
 -- Assumes nothing.
 use borrow.Author.Needs.{needs}
-use Rattle.steps.proofs.stop.Statement.{statement}
-use Rattle.steps.proofs.stop.Tie as tie
+use Rattle.progress.proofs.stop.Statement.{statement}
+use Rattle.progress.proofs.stop.Tie as tie
 
 refuse-requires : tie.Need-refuse-requires
 refuse-requires c κs = search needs

@@ -1,11 +1,11 @@
--- `steps::after_outcome` gives where the session stands after an add.
+-- `progress::after_outcome` gives where the session stands after an add.
 -- Assumes nothing.
 use mathlib.Core.Path.{sym, ap, _∙_}
 use borrow.Author.Needs.{needs}
-use Rattle.steps.specs.Steps.{refused-at, after-outcome}
-use Rattle.steps.specs.declared.Progress.{Progress}
-use Rattle.steps.proofs.after_outcome.Statement.{statement}
-use Rattle.steps.proofs.after_outcome.Tie as tie
+use Rattle.progress.specs.Moves.{refused-at, after-outcome}
+use Rattle.progress.specs.declared.Progress.{Progress}
+use Rattle.progress.proofs.after_outcome.Statement.{statement}
+use Rattle.progress.proofs.after_outcome.Tie as tie
 
 enum-known-o : tie.Need-enum-known-o
 enum-known-o c = search needs

@@ -1,11 +1,11 @@
--- `steps::undone` gives where the session stands after a restore.
+-- `progress::undone` gives where the session stands after a restore.
 -- Assumes nothing.
 use mathlib.Core.Bool.{false}
 use mathlib.Core.Path.{_∙_}
 use borrow.Author.Needs.{needs}
-use Rattle.steps.specs.Steps.{moved-to}
-use Rattle.steps.proofs.undone.Statement.{statement}
-use Rattle.steps.proofs.undone.Tie as tie
+use Rattle.progress.specs.Moves.{moved-to}
+use Rattle.progress.proofs.undone.Statement.{statement}
+use Rattle.progress.proofs.undone.Tie as tie
 
 wide-requires : tie.Need-wide-requires
 wide-requires c κs = search needs

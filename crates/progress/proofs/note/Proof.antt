@@ -1,11 +1,11 @@
--- `steps::note` writes the word of a finished step.
+-- `progress::note` writes the word of a finished step.
 -- Assumes nothing.
 use Prim.Native.Nat.{ℕ}
 use mathlib.Core.Path.{refl, ap}
 use lib.ListN.{set}
 use borrow.Author.Needs.{needs}
-use Rattle.steps.proofs.note.Statement.{statement}
-use Rattle.steps.proofs.note.Tie as tie
+use Rattle.progress.proofs.note.Statement.{statement}
+use Rattle.progress.proofs.note.Tie as tie
 
 word-of-requires : tie.Need-word-of-requires
 word-of-requires c κs = search needs

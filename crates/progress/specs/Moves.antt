@@ -1,0 +1,73 @@
+-- Where a session stands after each move: a refusal, a finished step, an add, a restore. And questions 9 and 10.
+use Prim.Native.Nat.{ℕ, _+_}
+use mathlib.Core.Bool.{Bool, true, false, cond}
+use lib.Dec.{ltb}
+use Rattle.checkpoints.specs.declared.Checkpoint.{Checkpoint}
+use Rattle.incremental.specs.declared.Place.{Place}
+use Rattle.incremental.specs.declared.Outcome.{Outcome}
+use Rattle.incremental.specs.declared.Outcome.the-variants as outcome
+use Rattle.progress.specs.declared.Progress.{Progress}
+use Rattle.progress.specs.declared.StepAnswer.{StepAnswer}
+
+-- The run ends with a number.
+abbrev pub refused-at : Progress → ℕ → Progress
+refused-at p n =
+    record {
+      at = p .at;
+      steps = p .steps;
+      adds = p .adds;
+      opens = p .opens;
+      depth = p .depth;
+      size = p .size;
+      finished = p .finished;
+      number = n;
+      done = true;
+    }
+
+-- A step is finished; the next one stands at `next`.
+abbrev pub noted-at : Progress → ℕ → Progress
+noted-at p next =
+    record {
+      at = next;
+      steps = p .steps + 1;
+      adds = p .adds;
+      opens = p .opens;
+      depth = p .depth;
+      size = p .size;
+      finished = p .finished;
+      number = p .number;
+      done = p .done;
+    }
+
+-- Another place of the writer, and another count of adds.
+abbrev pub moved-to : Progress → Place → (adds : ℕ) → (finished : Bool) → Progress
+moved-to p q n b =
+    record {
+      at = p .at;
+      steps = p .steps;
+      adds = n;
+      opens = q .opens;
+      depth = q .depth;
+      size = q .size;
+      finished = b;
+      number = 0;
+      done = false;
+    }
+
+-- The progress after an add.
+abbrev pub after-outcome : Progress → Outcome → Progress
+after-outcome p (outcome.Done q) = moved-to p q (p .adds + 1) true
+after-outcome p (outcome.Stopped q) = moved-to p q (p .adds + 1) false
+after-outcome p (outcome.Refused n q) = refused-at (moved-to p q (p .adds) false) n
+
+-- The progress after a restore.
+abbrev pub undone-at : Progress → Checkpoint → ℕ → Progress
+undone-at p r n = moved-to p (record { opens = r .opens; depth = r .depth; size = r .size }) n false
+
+-- Questions 9 and 10, at an add: the number of the first that gets no, or 0.
+abbrev pub question-of : (finished : Bool) → (adds : ℕ) → ℕ
+question-of finished adds = cond finished 9 (cond (ltb adds 16) 0 10)
+
+-- The run ends with a number, and the record stays.
+abbrev pub stopped-at : Progress → ℕ → Checkpoint → StepAnswer
+stopped-at p n c = record { state = refused-at p n; saved = c }
