@@ -10,7 +10,7 @@ use Rattle.steps.specs.State.{the-file, Underway, Ended}
 
 -- A run that is not over is under way.
 abbrev pub Going : (input w words : List ℕ) (rows : List Checkpoint) (out : List ℕ) (p : Progress) → (done : Bool) → Type 0
-Going input w words rows out p true = p ≡ p
+Going input w words rows out p true = Unit {0}
 Going input w words rows out p false = Underway input (the-file input) w words rows (take 65535 out) p
 
 -- A run that is over leaves everything as it is. Any other goes to its end.

@@ -110,7 +110,7 @@ module _ (input w ws : List ℕ) (cs : List Checkpoint) (o : List ℕ) where
     run-asks = go the-asked begins
       where
         go : (g : Got File) → Begins input w (length ws) (length cs) w₁ b g → Going input w₁ ws cs o (b .start) (b .start .done)
-        go (refused n) h = subst (λ (x : Begun). Going input w₁ ws cs o (x .start) (x .start .done)) (sym (h .0)) refl
+        go (refused n) h = subst (λ (x : Begun). Going input w₁ ws cs o (x .start) (x .start .done)) (sym (h .0)) tt
         go (got f rest) h =
             subst (λ (x : Bool). Going input w₁ ws cs o (b .start) x) (sym (h .goes))
             (h .ready ws cs (take 65535 o) (h .many-words) (h .many-rows) (omega (arith, length-take 65535 o)))
