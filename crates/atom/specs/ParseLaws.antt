@@ -1,11 +1,9 @@
 -- Laws of reading: an equation for each way in which a prefix and an atom are read.
 -- Assumes nothing.
-use Prim.Native.Nat.{ℕ, zero, suc, _+_, _-_, _*_, _^_, _≤_, _<_}
+use Prim.Native.Nat.{ℕ, suc, _+_, _-_, _^_, _≤_, _<_}
 use mathlib.Core.Path.{_≡_, refl, sym, ap, _∙_}
-use mathlib.Core.Bool.{Bool, true, false, cond, _&&_}
-use mathlib.Core.List.{List, [], _∷_, _++_}
+use mathlib.Core.List.{List, [], _∷_}
 use native.Mathlib.Omega.{arith}
-use lib.Dec.{ltb, leb, eqb}
 use lib.ListN.{length, getD, take, drop, length-drop, drop-of-length-le}
 use lib.Seq.{drop-cons}
 use borrow.Author.Tests.{lt-ltb, le-ltb, le-leb, lt-leb, eq-eqb, ne-eqb}
@@ -14,7 +12,7 @@ use Rattle.words.specs.Words.{part}
 use Rattle.words.specs.Choice.{cond-true, cond-false, by-lt}
 use native.Mathlib.Decide.{ℕ-discrete}
 use Rattle.atom.specs.Prefix.{least, mark}
-use Rattle.atom.specs.Parse.{ones, Size, sized, bad-size, one-byte, size-of, decode-size, Parse, blob, refused, whole, parse, moved-by, parse-at, blob-of}
+use Rattle.atom.specs.Parse.{ones, sized, bad-size, one-byte, size-of, decode-size, blob, refused, whole, parse, moved-by, parse-at, blob-of}
 
 -- ---- leading ones
 

@@ -2,7 +2,7 @@
 -- Every other atom has its size in front, in a prefix of one to five bytes: as many leading ones as the prefix has bytes, a zero,
 -- and the size in the 6, 13, 20, 27 or 34 bits that are left. The shortest prefix is used.
 use Prim.Native.Nat.{ℕ, zero, suc, _+_, _-_, _*_, _^_}
-use mathlib.Core.Bool.{Bool, true, false, cond}
+use mathlib.Core.Bool.{Bool, false, cond}
 use mathlib.Core.List.{List, [], _∷_, _++_}
 use mathlib.Core.Option.{Option, none, some}
 use lib.Dec.{ltb}

@@ -2,24 +2,23 @@
 -- Assumes nothing.
 use Prim.Native.Nat.{ℕ, zero, suc, _+_, _-_, _*_, _/_, _%_, _^_, _≤_, _<_}
 use mathlib.Core.Path.{_≡_, refl, sym, ap, subst, _∙_}
-use mathlib.Core.Bool.{Bool, true, false, cond}
+use mathlib.Core.Bool.{Bool, true, false}
 use mathlib.Core.List.{List, [], _∷_, _++_, append-assoc}
 use mathlib.Core.Option.{Option, none, some, Option·none-ne-some, Option·some-injective}
 use native.Mathlib.Omega.{arith}
 use native.Mathlib.Nat.{zero-add, add-mul, mul-le-mul-right, pow-suc, pow-succ', pow-le-pow-right, div-one, div-div-eq-div-mul, div-lt-iff-lt-mul, mul-add-div-right, mod-eq-of-lt}
 use native.Mathlib.Decide.{ℕ-discrete}
 use lib.Seq.{take-at, drop-at, take-add, length-take-le}
-use lib.Dec.{ltb}
-use lib.ListN.{length, getD, take, drop, length-append, length-take, length-drop, List·getD-append}
+use lib.ListN.{length, getD, take, drop, length-append, length-drop, List·getD-append}
 use lib.Pow.{pow-mono, pow-pos}
 use borrow.Author.Tests.{lt-ltb, le-ltb, ltb-true}
 use Rattle.words.specs.Choice.{by-lt, cond-true, cond-false}
-use Rattle.words.specs.Lists.{All, Bytes, all-take}
+use Rattle.words.specs.Lists.{Bytes, all-take}
 use Rattle.words.specs.Words.{tabulate}
 use Rattle.words.specs.BigEndian.{big-endian, number, number-after, length-big-endian, number-big-endian, big-endian-number, number-after-bound, number-after-low}
 use Rattle.atom.specs.Prefix.{size-bits, least, width, mark, prefix, single, prefix-width, encode}
 use Rattle.atom.specs.PrefixLaws.{table-at, Carries, width-carries, carries-width, carries-limit, width-some}
-use Rattle.atom.specs.Parse.{ones, Size, sized, bad-size, one-byte, size-of, decode-size, Parse, blob, refused, whole, parse, blob-of}
+use Rattle.atom.specs.Parse.{ones, Size, sized, bad-size, one-byte, size-of, decode-size, blob, refused, whole, parse, blob-of}
 use Rattle.atom.specs.ParseLaws.{no-one, one-more, size-one, size-right, NotSingle, Accepted, accepted, parse-nil, parse-single, parse-prefixed, blob-there}
 use Rattle.atom.specs.WriteLaws.{encode-some, encode-none, width-of-single, width-of-sized, width-of-none}
 

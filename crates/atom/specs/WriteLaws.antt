@@ -1,19 +1,19 @@
 -- Laws of writing: an equation for each way in which an atom is written.
 -- Assumes nothing.
-use Prim.Native.Nat.{ℕ, zero, suc, _+_, _-_, _*_, _^_, _≤_, _<_}
+use Prim.Native.Nat.{ℕ, _+_, _-_, _*_, _^_, _≤_, _<_}
 use mathlib.Core.Path.{_≡_, refl, sym, ap, _∙_}
-use mathlib.Core.Bool.{Bool, true, false, cond}
-use mathlib.Core.List.{List, [], _∷_, _++_, append-assoc}
-use mathlib.Core.Option.{Option, none, some, Option·none-ne-some, Option·some-injective}
+use mathlib.Core.Bool.{true, false}
+use mathlib.Core.List.{List, _++_, append-assoc}
+use mathlib.Core.Option.{Option, none, some}
 use native.Mathlib.Omega.{arith}
-use native.Mathlib.Nat.{pow-le-pow-right, mul-le-mul, add-assoc, le-trans}
-use lib.ListN.{length, getD, take, drop, length-append, length-take}
-use lib.Seq.{paste, take-all, take-length, length-paste-head, take-at, drop-paste, take-paste, drop-drop, length-take-le}
+use native.Mathlib.Nat.{pow-le-pow-right, mul-le-mul, add-assoc}
+use lib.ListN.{length, take, drop, length-append}
+use lib.Seq.{paste, take-all, take-length, drop-paste, take-paste, drop-drop}
 use borrow.Author.Tests.{lt-ltb, le-ltb}
 use Rattle.words.specs.Choice.{cond-true, cond-false}
 use Rattle.words.specs.BigEndian.{length-big-endian}
-use Rattle.atom.specs.Prefix.{least, width, mark, prefix, single, prefix-width, with-prefix, encode}
-use Rattle.atom.specs.Write.{Write, next, full, too-long, Written, put, serialized-length, length-or-0}
+use Rattle.atom.specs.Prefix.{width, mark, prefix, single, prefix-width, with-prefix, encode}
+use Rattle.atom.specs.Write.{next, full, too-long, put, serialized-length, length-or-0}
 use Rattle.atom.specs.PrefixLaws.{width-none}
 
 -- ---- the width of an atom's prefix

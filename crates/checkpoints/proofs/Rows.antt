@@ -13,7 +13,7 @@ use mir.Val.{Val, WT, hasTy}
 use prog.Wp.{Heap}
 use ghost.Atoms.{Atoms}
 use types.Kit.{Given}
-use denote.Laws.{Is, Tells, Copy, Makes}
+use denote.Laws.{Is, Tells, Makes}
 use denote.Slice.{Room}
 use denote.Struct.Laws as LL
 use Rattle.checkpoints.specs.declared.Checkpoint.{Checkpoint}

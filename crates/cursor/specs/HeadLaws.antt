@@ -2,14 +2,14 @@
 -- Assumes nothing.
 use Prim.Native.Nat.{ℕ, _+_, _≤_, _<_}
 use mathlib.Core.Path.{_≡_, refl, sym, ap, subst, _∙_}
-use mathlib.Core.Bool.{Bool, true, false, cond}
-use mathlib.Core.List.{List, [], _∷_}
+use mathlib.Core.Bool.{cond}
+use mathlib.Core.List.{List}
 use lib.Dec.{eqb}
-use lib.ListN.{length, getD, drop, drop-of-length-le}
+use lib.ListN.{length, getD, drop-of-length-le}
 use lib.Seq.{drop-cons}
 use borrow.Author.Tests.{eqb-true, eqb-false}
 use Rattle.words.specs.Choice.{by-cond, by-lt}
-use Rattle.atom.specs.Parse.{Parse, parse-at}
+use Rattle.atom.specs.Parse.{parse-at}
 use Rattle.cursor.specs.declared.Head.{Head}
 use Rattle.cursor.specs.Heads.{There, end, pair, path, atom, headOf, begun, head-of, head-at}
 

@@ -1,6 +1,6 @@
 -- An item for a whole subtree: a reference, or an atom in full. Its entry goes on the stack; or there is no room for it.
 -- Assumes nothing.
-use Prim.Native.Nat.{ℕ, _+_, _-_, _≤_, _<_}
+use Prim.Native.Nat.{ℕ, _+_, _≤_, _<_}
 use mathlib.Core.Path.{_≡_, refl, sym, ap, _∙_, subst}
 use mathlib.Core.Bool.{Bool, true, false, cond, _||_}
 use mathlib.Core.List.{List, [], _∷_, _++_}
@@ -26,7 +26,7 @@ use Rattle.serializer.specs.Writer.{Todo, parse, Written, done, and-then, atom-
 use Rattle.serializer.specs.FindPath.{without-terminator, find-in}
 use Rattle.serializer.specs.Steps.{room-in}
 use Rattle.serializer.specs.Loop.{turn-atom, turn-atom-ref, turn-pair-ref}
-use Rattle.layout.specs.Layout.{PAIR-COUNT, ENTRIES, DEPTH}
+use Rattle.layout.specs.Layout.{PAIR-COUNT, ENTRIES}
 use Rattle.find_path.specs.declared.Path.{Path}
 use Rattle.find_path.specs.declared.Path.the-variants.{At, NoPath}
 use Rattle.search_list.specs.State.{path-at}

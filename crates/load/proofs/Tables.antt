@@ -1,9 +1,8 @@
 -- From the words that loading leaves to the tables of a file whose atoms lie where the words say.
 -- Assumes nothing.
-use Prim.Native.Nat.{ℕ, _+_, _≤_, _<_}
+use Prim.Native.Nat.{ℕ, _+_, _<_}
 use mathlib.Core.Path.{_≡_, ap, _∙_}
 use mathlib.Core.List.{List, []}
-use native.Mathlib.Omega.{arith}
 use lib.ListN.{length, getD}
 use lib.Seq.{ext-getD}
 use Rattle.words.specs.Words.{at}
@@ -12,7 +11,6 @@ use Rattle.atom.specs.Write.{serialized-length}
 use Rattle.layout.specs.Layout.{FIRST, ATOM-LENGTHS}
 use Rattle.tree_cache.specs.Meaning.{first-same}
 use Rattle.load.specs.Load.{atom-bytes, atoms, Loaded}
-use Rattle.load.proofs.First.{firsts-low, firsts-first}
 
 module _ (file w w′ : List ℕ) (xs : List (List ℕ)) (are : (i : ℕ) → i < length xs → atom-bytes file w i ≡ getD xs i []) where
   -- The atoms by their places are the listed ones.

@@ -1,15 +1,13 @@
 -- Laws of a path builder: its numbers and its bytes follow from its bits.
 -- Assumes nothing.
-use Prim.Native.Nat.{ℕ, _+_, _*_, _-_, _/_, _%_, _≤_}
-use mathlib.Core.Path.{_≡_, sym, ap, subst, _∙_}
-use mathlib.Core.Bool.{Bool, false}
-use mathlib.Core.List.{List, _++_}
+use Prim.Native.Nat.{ℕ, _+_, _*_, _-_, _/_}
+use mathlib.Core.Path.{_≡_, sym, ap, _∙_}
+use mathlib.Core.List.{List}
 use native.Mathlib.Omega.{arith}
-use lib.ListN.{length, take, drop, replicate, length-drop, take-append-drop}
+use lib.ListN.{length, take, length-drop}
 use lib.Seq.{length-take-le}
-use Rattle.words.specs.Lists.{Bytes}
-use Rattle.path.specs.Bytes.{value, octets, path-bytes, all-bits}
-use Rattle.path.specs.BytesLaws.{length-all-bits, octets-all-bits, value-zero}
+use Rattle.path.specs.Bytes.{octets, path-bytes, all-bits}
+use Rattle.path.specs.BytesLaws.{length-all-bits}
 use Rattle.path_builder.specs.declared.PathBuilder.{PathBuilder}
 use Rattle.path_builder.specs.Builder.{free, built, Sound}
 

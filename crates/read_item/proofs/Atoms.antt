@@ -1,24 +1,23 @@
 -- Laws of an atom: what the parser found is what the definition reads, and what was pushed is what the definition pushes.
 -- Assumes nothing.
-use Prim.Native.Nat.{ℕ, zero, suc, _+_, _-_, _*_, _^_, _≤_, _<_}
+use Prim.Native.Nat.{ℕ, _+_, _-_, _*_, _≤_}
 use mathlib.Core.Path.{_≡_, refl, sym, ap, subst, _∙_}
-use mathlib.Core.List.{List, [], _∷_, _++_}
+use mathlib.Core.List.{List, _∷_}
 use mathlib.Core.Option.{Option, none, some}
 use native.Mathlib.Omega.{arith}
-use native.Mathlib.Nat.{add-assoc}
 use lib.ListN.{length, take, drop, length-drop}
 use lib.Seq.{drop-drop}
 use Rattle.atom.specs.Parse.{Parse, blob, refused, parse, moved-by, parse-at, blob-of}
 use Rattle.atom.specs.ParseLaws.{blob-there}
 use Rattle.allocator.specs.SmallAtom.{fits-in-small-atom}
-use Rattle.reading.specs.Format.{ParseOp, SExp, Cons, Step, go, whole, stop, settle, atom-item}
-use Rattle.reading.specs.Store.{Store, Value, Made, Stored, small-or-listed, new-atom, push-made, store-values}
+use Rattle.reading.specs.Format.{ParseOp, SExp, stop, settle, atom-item}
+use Rattle.reading.specs.Store.{Store, Stored, small-or-listed, new-atom, push-made, store-values}
 use Rattle.reading.specs.Sound.{Sound, unlisted, sound-atom}
 use Rattle.reading.specs.Blobs.{Within, blob-within, length-blob}
-use Rattle.store.specs.Layout.{VALUES, opsOf, valuesOf, PushedValue, AtomStored}
+use Rattle.store.specs.Layout.{opsOf, valuesOf}
 use Rattle.read_item.specs.declared.Reader.{Reader}
 use Rattle.read_item.specs.declared.Item.{Item}
-use Rattle.read_item.specs.State.{storedWith, storedOf, Ready, Next, itemWith, itemOf, AtomRoom, AtomPushed, Lent, Stands, SteppedAtom}
+use Rattle.read_item.specs.State.{storedOf, Ready, Next, AtomRoom, AtomPushed, Lent, Stands, SteppedAtom}
 use Rattle.read_item.proofs.Joins.{length-ops, stored-is}
 use Rattle.read_item.proofs.Lending.{Counts, counts, lent-after, item-same, item-stands}
 

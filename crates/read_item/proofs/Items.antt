@@ -1,8 +1,8 @@
 -- Laws of an item: its first byte says which kind it is, and each kind is read as the definition says.
 -- Assumes nothing.
-use Prim.Native.Nat.{ℕ, zero, suc, _+_, _-_, _*_, _≤_, _<_}
+use Prim.Native.Nat.{ℕ, suc, _+_, _*_, _≤_, _<_}
 use mathlib.Core.Path.{_≡_, refl, sym, ap, subst, _∙_}
-use mathlib.Core.List.{List, [], _∷_}
+use mathlib.Core.List.{List, _∷_}
 use native.Mathlib.Omega.{arith}
 use native.Mathlib.Numerals.{add-one}
 use lib.ListN.{length, getD, take, drop, drop-of-length-le}
@@ -10,15 +10,15 @@ use lib.Seq.{drop-cons}
 use borrow.Author.Tests.{eq-eqb, ne-eqb}
 use Rattle.words.specs.Choice.{cond-true, cond-false}
 use Rattle.atom.specs.Parse.{parse}
-use Rattle.reading.specs.Format.{ParseOp, SExp, Cons, At, Step, go, whole, stop, settle, atom-item, path-item, next-item, step}
+use Rattle.reading.specs.Format.{ParseOp, SExp, Cons, go, stop, settle, atom-item, path-item, next-item, step}
 use Rattle.reading.specs.Store.{Value, Stored, store-values}
 use Rattle.reading.specs.Sound.{Sound, unlisted, sound-pair}
-use Rattle.store.specs.Layout.{opsOf, valuesOf, PushedPair}
+use Rattle.store.specs.Layout.{opsOf, PushedPair}
 use Rattle.read_item.specs.declared.Reader.{Reader}
 use Rattle.read_item.specs.declared.Item.{Item}
 use Rattle.read_item.specs.declared.Item.the-variants as item
-use Rattle.read_item.specs.State.{storedWith, storedOf, atOf, itemOf, StandsItem, Lent, Stands, Stepped, SteppedAtom, pair-begun, BeforePath, path-there, PathPushed, SteppedPath, path-settled, path-refused}
-use Rattle.read_item.proofs.Joins.{length-ops, stored-is}
+use Rattle.read_item.specs.State.{storedWith, storedOf, atOf, Lent, Stands, Stepped, SteppedAtom, pair-begun, BeforePath, path-there, SteppedPath, path-settled, path-refused}
+use Rattle.read_item.proofs.Joins.{length-ops}
 use Rattle.read_item.proofs.Lending.{lent-after, item-same, item-stands}
 
 module _ (input w p a b : List ℕ) (r : Reader) where

@@ -1,25 +1,23 @@
 -- Laws of the joins: what a sound reader has room for, and that a join in the slices is the definition's.
 -- Assumes nothing.
-use Prim.Native.Nat.{ℕ, zero, suc, _+_, _-_, _*_, _/_, _^_, _≤_, _<_}
+use Prim.Native.Nat.{ℕ, zero, suc, _+_, _-_, _*_, _/_, _≤_, _<_}
 use mathlib.Core.Path.{_≡_, refl, sym, ap, subst, _∙_}
-use mathlib.Core.List.{List, [], _∷_, _++_}
-use mathlib.Core.Option.{none}
+use mathlib.Core.List.{List, [], _∷_}
 use native.Mathlib.Omega.{arith}
-use native.Mathlib.Numerals.{add-one}
-use lib.ListN.{length, take, drop, length-take}
-use lib.Seq.{length-take-le, drop-drop}
+use lib.ListN.{length, take, drop}
+use lib.Seq.{drop-drop}
 use Rattle.words.specs.Words.{at}
-use Rattle.reading.specs.Format.{ParseOp, SExp, Cons, Step, settle}
-use Rattle.reading.specs.Store.{Store, Value, Stored, pair-count, join-values, store-values}
+use Rattle.reading.specs.Format.{ParseOp, SExp, Cons, settle}
+use Rattle.reading.specs.Store.{Store, Value, Stored, join-values, store-values}
 use Rattle.reading.specs.Sound.{Sound, unlisted, conses, sound-join, sound-two}
-use Rattle.store.specs.Layout.{OPS, VALUES, opOf, opsOf, valueAt, valuesOf, Joined}
+use Rattle.store.specs.Layout.{OPS, opOf, opsOf, valueAt, valuesOf, Joined}
 use Rattle.store.proofs.Stacks.{ops-more, values-two}
 use Rattle.store.proofs.Stored.{half}
 use Rattle.traverse_path_with_vec.specs.Leads.{HaveLists}
 use Rattle.traverse_path_with_vec.proofs.Adding.{fewer-listed}
 use Rattle.traverse_path_with_vec.proofs.Leading.{drop-values}
 use Rattle.read_item.specs.declared.Reader.{Reader}
-use Rattle.read_item.specs.State.{storedWith, Ready, Follows, Onward, NoJoin, Settled}
+use Rattle.read_item.specs.State.{storedWith, Ready, Onward, NoJoin}
 
 pub length-values : (w : List ℕ) (n : ℕ) → length (valuesOf w n) ≡ n
 unfolding valuesOf

@@ -1,21 +1,21 @@
 -- Laws of the lent slices: what is not in use stays zero, and the counts keep within.
 -- Assumes nothing.
-use Prim.Native.Nat.{ℕ, zero, suc, _+_, _-_, _*_, _/_, _≤_, _<_}
+use Prim.Native.Nat.{ℕ, zero, suc, _+_, _-_, _*_, _/_, _≤_}
 use mathlib.Core.Path.{_≡_, refl, sym, ap, subst, _∙_}
 use mathlib.Core.List.{List, [], _∷_}
 use native.Mathlib.Omega.{arith}
 use lib.ListN.{length, take, drop, replicate}
 use lib.Seq.{drop-drop, length-take-le}
-use Rattle.reading.specs.Format.{ParseOp, SExp, Cons, Step, go, whole, stop}
-use Rattle.reading.specs.Store.{Stored, pair-count, atom-count}
+use Rattle.reading.specs.Format.{ParseOp, SExp, Step, go, whole}
+use Rattle.reading.specs.Store.{Stored}
 use Rattle.reading.specs.Sound.{Sound}
-use Rattle.store.specs.Layout.{opsOf, valuesOf}
+use Rattle.store.specs.Layout.{opsOf}
 use Rattle.store.proofs.Stored.{half}
 use Rattle.read_item.specs.declared.Reader.{Reader}
 use Rattle.read_item.specs.declared.Item.{Item}
 use Rattle.read_item.specs.declared.Item.the-variants as item
-use Rattle.read_item.specs.State.{storedWith, storedOf, zeros-from, Follows, itemWith, itemOf, FollowsItem, Lent, Stands, Ends, StandsItem}
-use Rattle.read_item.proofs.Joins.{length-values, length-ops}
+use Rattle.read_item.specs.State.{storedWith, storedOf, zeros-from, Follows, itemWith, itemOf, FollowsItem, Lent, StandsItem}
+use Rattle.read_item.proofs.Joins.{length-values}
 
 drop-zeros : (m k : ℕ) → drop {A = ℕ} m (replicate k 0) ≡ replicate (k - m) 0
 drop-zeros zero zero = refl

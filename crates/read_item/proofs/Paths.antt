@@ -1,34 +1,33 @@
 -- Laws of a reference: the walk in the slices is the definition's, and what was pushed is what the definition pushes.
 -- Assumes nothing.
-use Prim.Native.Nat.{ℕ, zero, suc, _+_, _-_, _*_, _/_, _^_, _≤_, _<_}
+use Prim.Native.Nat.{ℕ, zero, suc, _+_, _*_, _/_, _≤_, _<_}
 use mathlib.Core.Path.{_≡_, refl, sym, ap, subst, _∙_}
 use mathlib.Core.Bool.{Bool, true, false}
-use mathlib.Core.List.{List, [], _∷_, _++_}
+use mathlib.Core.List.{List, [], _∷_}
 use mathlib.Core.Option.{Option, none, some}
 use native.Mathlib.Omega.{arith}
 use native.Mathlib.Decide.{ℕ-discrete}
-use lib.ListN.{length, getD, take, drop, length-drop}
+use lib.ListN.{length, take, drop, length-drop}
 use lib.Seq.{drop-drop, getD-take, length-take-le}
 use Rattle.words.specs.Words.{at}
 use Rattle.words.specs.Lists.{All, all-at}
-use Rattle.atom.specs.Parse.{Parse, blob, refused, parse, parse-at, blob-of}
+use Rattle.atom.specs.Parse.{Parse, blob, refused, parse-at, blob-of}
 use Rattle.path.specs.Bytes.{read-path}
 use Rattle.allocator.specs.Handle.{Node, pair, listed-atom, small-atom, unknown, node-of}
-use Rattle.reading.specs.Format.{ParseOp, SExp, Cons, Step, go, whole, stop, settle, pushed, path-item}
-use Rattle.reading.specs.Store.{Store, Value, Made, Stored, Listed, Led, pair-count, push-made, add-to-list, list-of, walk, led-to, led-list, above, lead, push-led, push-path-stored, store-values}
+use Rattle.reading.specs.Format.{ParseOp, SExp, stop, settle, pushed, path-item}
+use Rattle.reading.specs.Store.{Store, Value, Stored, Listed, Led, add-to-list, list-of, lead, push-led, store-values}
 use Rattle.reading.specs.Sound.{Sound, Known, KnownHandle, KnownValue, sound-path-some}
 use Rattle.reading.specs.Sound as sound-law
 use Rattle.reading.specs.Blobs.{Within, length-blob}
-use Rattle.store.specs.Layout.{OPS, VALUES, valueAt, opsOf, valuesOf, PushedValue}
-use Rattle.store.proofs.Stacks.{ops-same, values-more}
+use Rattle.store.specs.Layout.{VALUES, opsOf, valuesOf, PushedValue}
+use Rattle.store.proofs.Stacks.{ops-same}
 use Rattle.store.proofs.Stored.{half}
 use Rattle.path_walk.specs.Answers as walk-law
 use Rattle.traverse_path_with_vec.specs.Leads as leads
 use Rattle.traverse_path_with_vec.specs.declared.Built.{Built}
 use Rattle.read_item.specs.declared.Reader.{Reader}
-use Rattle.read_item.specs.declared.Item.{Item}
-use Rattle.read_item.specs.State.{storedWith, Ready, Next, node-pushed, BeforePath, PathFound, path-there, PathPushed, SteppedPath, path-settled, path-refused}
-use Rattle.read_item.proofs.Joins.{length-values, length-ops, stored-is, Room, room}
+use Rattle.read_item.specs.State.{storedWith, Ready, node-pushed, BeforePath, PathFound, path-there, PathPushed}
+use Rattle.read_item.proofs.Joins.{length-ops, stored-is, Room, room}
 use Rattle.read_item.proofs.Atoms.{Found, found-at, refused-at}
 
 -- ---- a path changes no atom

@@ -1,20 +1,19 @@
 -- Laws of settling: what comes after the joins is what the definition says.
 -- Assumes nothing.
-use Prim.Native.Nat.{ℕ, zero, suc, _+_, _-_, _*_, _≤_, _<_}
+use Prim.Native.Nat.{ℕ, _+_, _-_, _<_}
 use mathlib.Core.Path.{_≡_, refl, sym, ap, subst, _∙_}
 use mathlib.Core.List.{List, [], _∷_}
 use native.Mathlib.Omega.{arith}
 use lib.ListN.{length, drop, drop-of-length-le}
 use lib.Seq.{drop-cons}
-use Rattle.reading.specs.Format.{ParseOp, SExp, Cons, Step, go, whole, stop, at-end, settle}
-use Rattle.reading.specs.Store.{Stored, store-values}
+use Rattle.reading.specs.Format.{ParseOp, SExp, Cons, go, at-end, settle}
+use Rattle.reading.specs.Store.{store-values}
 use Rattle.reading.specs.Sound.{Sound}
 use Rattle.words.specs.Words.{at}
 use Rattle.store.specs.Layout.{OPS, opOf, opsOf}
 use Rattle.read_item.specs.declared.Reader.{Reader}
-use Rattle.read_item.specs.declared.Item.{Item}
 use Rattle.read_item.specs.declared.Item.the-variants as item
-use Rattle.read_item.specs.State.{storedWith, Follows, Onward, NoJoin, Settled, itemWith, FollowsItem, Next}
+use Rattle.read_item.specs.State.{storedWith, Follows, NoJoin, Settled, Next}
 use Rattle.read_item.proofs.Joins.{ops-top}
 
 no-ops : (w : List ℕ) (n : ℕ) → n ≡ 0 → opsOf w n ≡ []

@@ -1,10 +1,10 @@
 -- What the reader's counts and the lent slices stand for, what holds of them, and what each function leaves.
-use Prim.Native.Nat.{ℕ, zero, suc, _+_, _-_, _*_, _^_, _≤_, _<_}
+use Prim.Native.Nat.{ℕ, _+_, _-_, _*_, _^_, _≤_, _<_}
 use mathlib.Core.Path.{_≡_}
 use mathlib.Core.List.{List, [], _∷_}
 use lib.ListN.{length, take, drop, replicate}
 use Rattle.reading.specs.Format.{ParseOp, SExp, Cons, At, Step, go, whole, stop, settle, atom-item, path-item, step}
-use Rattle.reading.specs.Store.{Store, Value, Stored, store-values}
+use Rattle.reading.specs.Store.{Stored, store-values}
 use Rattle.reading.specs.Sound.{Sound}
 use Rattle.atom.specs.Parse.{Parse, blob, parse, parse-at}
 use Rattle.traverse_path_with_vec.specs.declared.Built.{Built}

@@ -5,7 +5,7 @@ use mathlib.Core.Path.{_≡_, refl, ap, subst, _∙_}
 use mathlib.Core.List.{List}
 use native.Mathlib.Omega.{arith}
 use lib.ListN.{length}
-use Rattle.reading.specs.Format.{At, Step, whole, step, then, run, read}
+use Rattle.reading.specs.Format.{At, Step, step, then, run, read}
 use Rattle.reading.specs.Store.{Stored, store-values, read-stored}
 use Rattle.reading.specs.Sound.{sound-start}
 use Rattle.store.specs.Layout.{opsOf, valuesOf}

@@ -1,11 +1,11 @@
 -- The reading call: 01's questions 1 and 2, then 14 to 16 by the store's reader; the answer, and what each slice holds afterwards.
-use Prim.Native.Nat.{ℕ, zero, suc, _+_, _-_, _/_}
-use mathlib.Core.Bool.{Bool, true, false, cond, _&&_}
+use Prim.Native.Nat.{ℕ, _-_}
+use mathlib.Core.Bool.{Bool, cond, _&&_}
 use mathlib.Core.List.{List, [], _∷_, _++_}
-use lib.Dec.{leb, ltb}
+use lib.Dec.{leb}
 use lib.ListN.{length, replicate}
 use Rattle.reading.specs.Format.{Read, accepted, turned-down}
-use Rattle.reading.specs.Store.{Store, Value, Stored, pair-count, atom-count, read-stored}
+use Rattle.reading.specs.Store.{Value, Stored, pair-count, atom-count, read-stored}
 
 -- The number, 0 for none; the root and four counts: pairs, listed atoms, atom bytes, ghost pairs.
 pub record Answer : Type 0 where

@@ -1,6 +1,6 @@
 -- What holds of the store's reader after every item: its stacks fit, its counts are bounded by the bytes used, its handles name what is there.
 -- Sound holds at the start and is kept by `ff`, by an atom, by a path and by a join.
-use Prim.Native.Nat.{ℕ, zero, suc, _+_, _*_, _/_, _%_, _^_, _≤_, _<_}
+use Prim.Native.Nat.{ℕ, zero, suc, _+_, _*_, _^_, _≤_, _<_}
 use mathlib.Core.Path.{_≡_, refl, ap, subst}
 use mathlib.Core.Bool.{Bool, true, false}
 use mathlib.Core.List.{List, [], _∷_, _++_}
@@ -9,7 +9,7 @@ use native.Mathlib.Omega.{arith}
 use lib.ListN.{length, length-append}
 use Rattle.words.specs.Words.{at}
 use Rattle.words.specs.Lists.{All, all-append, all-map, all-at}
-use Rattle.allocator.specs.Handle.{Node, pair, listed-atom, small-atom, unknown, node-of-kind, node-of, handle-of, nil}
+use Rattle.allocator.specs.Handle.{Node, pair, listed-atom, small-atom, unknown, node-of, handle-of, nil}
 use Rattle.allocator.specs.HandleLaws.{node-of-pair, node-of-listed-atom, node-of-small-atom, handle-of-node-of}
 use Rattle.allocator.specs.SmallAtom.{fits-in-small-atom}
 use Rattle.allocator.specs.SmallAtomLaws.{fits-some}

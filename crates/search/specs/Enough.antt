@@ -1,10 +1,10 @@
 -- The counts by which the search recurs are enough: more steps in a pass, or more passes, give the same.
 -- Assumes nothing.
 use Prim.Native.Nat.{ℕ, zero, suc, _+_, _-_, _*_, _≤_, _<_}
-use mathlib.Core.Path.{_≡_, refl, sym, ap, subst, _∙_}
-use mathlib.Core.Bool.{Bool, true, false, cond}
+use mathlib.Core.Path.{_≡_, refl, sym, ap, _∙_}
+use mathlib.Core.Bool.{Bool, true}
 use mathlib.Core.List.{List, [], _∷_, _++_, append-nil}
-use mathlib.Core.Option.{Option, none, some}
+use mathlib.Core.Option.{Option, none}
 use native.Mathlib.Omega.{arith}
 use lib.ListN.{length}
 use lib.Seq.{append-snoc}
@@ -12,7 +12,7 @@ use Rattle.search.specs.Search.{Trail, atEntry, onStack, Parents, Steppe
 use Rattle.words.specs.Choice.{by-lt}
 use Rattle.words.specs.Lists.{All, all-append, all-map}
 use Rattle.search.specs.Lists.{all-last-first, size, AtLeast, Longer, shorts, shorts-short, shorts-long, shorts-append, shorts-last-first, shorts-all-long, shorts-le-length}
-use Rattle.search.specs.Induction.{walk-zero, walk-nil, walk-long, walk-short, Grown, step-grown, StepOK, PassOK, pass-ok}
+use Rattle.search.specs.Induction.{walk-zero, walk-nil, walk-long, walk-short, Grown, step-grown, PassOK, pass-ok}
 use Rattle.search.specs.Sound.{Small, Few, small-step}
 
 -- ---- the steps of a pass

@@ -1,11 +1,9 @@
 -- Examples, by computation.
-use Prim.Native.Nat.{ℕ, zero, suc, _+_, _*_}
+use Prim.Native.Nat.{ℕ, zero, suc}
 use mathlib.Core.Path.{_≡_, refl}
-use mathlib.Core.Bool.{Bool, true, false, cond}
-use mathlib.Core.List.{List, [], _∷_, map}
-use mathlib.Core.Option.{Option, none, some, Option·map}
-use lib.Dec.{ltb}
-use lib.ListN.{length}
+use mathlib.Core.Bool.{true, false}
+use mathlib.Core.List.{[], _∷_, map}
+use mathlib.Core.Option.{some}
 use Rattle.search.specs.Search.{Parents, search, walk, passes}
 use Rattle.clvm.specs.Tree.{Tree, atom, cons}
 use Rattle.search.specs.Sound.{Linked}

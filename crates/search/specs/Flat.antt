@@ -1,14 +1,13 @@
 -- The walk of a pass once more, as one list and a cursor, the way the Rust goes; and that `walk` is the same.
 -- Assumes nothing.
-use Prim.Native.Nat.{ℕ, zero, suc, _+_, _≤_, _<_}
-use mathlib.Core.Path.{_≡_, refl, sym, ap, ap₂, subst, _∙_}
-use mathlib.Core.Bool.{Bool, true, false, cond}
+use Prim.Native.Nat.{ℕ, zero, suc, _≤_, _<_}
+use mathlib.Core.Path.{_≡_, refl, sym, ap}
+use mathlib.Core.Bool.{Bool, true, false}
 use mathlib.Core.List.{List, [], _∷_, _++_, append-assoc, append-nil}
 use mathlib.Core.Option.{Option, none, some}
 use native.Mathlib.Omega.{arith}
 use lib.ListN.{length, set, getElem?, length-append}
 use lib.Seq.{append-snoc, set-append-seam}
-use lib.Dec.{ltb}
 use borrow.Author.Tests.{lt-ltb, le-ltb}
 use Rattle.search.specs.Search.{Trail, Parents, Stepped, result, stays, dropped, capped, Passed, found, gone, left, step, in-front, last-first, long, goes-on, walk}
 use Rattle.words.specs.Choice.{by-lt}

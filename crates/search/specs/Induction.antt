@@ -2,15 +2,15 @@
 -- paths go in lock step: where pass L begins, every path has L bits or more, the pass steps those that have L, and all have more where it ends.
 -- Assumes nothing.
 use Prim.Native.Nat.{ℕ, zero, suc, _+_, _-_, _*_, _≤_, _<_}
-use mathlib.Core.Path.{_≡_, refl, sym, ap, subst, _∙_}
-use mathlib.Core.Bool.{Bool, true, false, cond}
+use mathlib.Core.Path.{_≡_, refl, subst}
+use mathlib.Core.Bool.{Bool, true, cond}
 use mathlib.Core.List.{List, [], _∷_, _++_}
 use mathlib.Core.Option.{Option, none, some}
 use native.Mathlib.Omega.{arith}
 use lib.ListN.{length}
 use lib.Dec.{ltb}
 use borrow.Author.Tests.{lt-ltb, le-ltb}
-use Rattle.search.specs.Search.{Trail, atEntry, onStack, bitsOf, Parents, Stepped, result, stays, dropped, capped, member, distance, most-visits, upward, sideward, moves, visit, Passed, found, gone, left, step, last-first, goes-on, walk, then, passes, search}
+use Rattle.search.specs.Search.{Trail, atEntry, onStack, Parents, Stepped, result, stays, dropped, capped, member, distance, most-visits, upward, sideward, moves, visit, Passed, found, gone, left, step, last-first, goes-on, walk, then, passes, search}
 use Rattle.words.specs.Choice.{by-cond, by-lt}
 use Rattle.words.specs.Lists.{All, all-append, all-map}
 use Rattle.search.specs.Lists.{all-last-first, size, AtLeast, Longer, shorts, shorts-short, shorts-long, shorts-append, shorts-last-first, shorts-all-long, shorts-le-length, long-of-no-shorts}

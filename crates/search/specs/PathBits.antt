@@ -7,12 +7,12 @@ use mathlib.Core.Bool.{Bool, true, false, cond}
 use mathlib.Core.List.{List, [], _∷_, _++_}
 use mathlib.Core.Option.{Option, none, some}
 use native.Mathlib.Omega.{arith}
-use lib.ListN.{length, getD, length-append}
+use lib.ListN.{length, getD}
 use lib.Dec.{ltb}
 use Rattle.words.specs.Choice.{by-cond}
 use Rattle.words.specs.Lists.{All, all-append}
 use Rattle.path.specs.Bytes.{path-bytes}
-use Rattle.path.specs.BytesLaws.{length-path-bytes, path-bytes-first}
+use Rattle.path.specs.BytesLaws.{path-bytes-first}
 use Rattle.search.specs.Search.{Trail, atEntry, onStack, Parents, Stepped, dropped, capped, member, distance, upward, sideward, moves, visit, step, search, most-visits}
 use Rattle.search.specs.Induction.{StepOK, search-ok}
 use Rattle.search.specs.Sound.{few}

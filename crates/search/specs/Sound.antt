@@ -1,8 +1,8 @@
 -- The search is sound: the path that it gives leads a reader from its stack to the entry's tree.
 -- Assumes nothing.
 use Prim.Native.Nat.{ℕ, zero, suc, _+_, _-_, _*_, _≤_, _<_}
-use mathlib.Core.Path.{_≡_, refl, sym, ap, subst, _∙_}
-use mathlib.Core.Bool.{Bool, true, false, cond, not}
+use mathlib.Core.Path.{_≡_, refl, ap}
+use mathlib.Core.Bool.{Bool, true, false, cond}
 use mathlib.Core.List.{List, [], _∷_, _++_, map}
 use mathlib.Core.Option.{Option, none, some, Option·map}
 use native.Mathlib.Omega.{arith}
@@ -10,10 +10,10 @@ use lib.ListN.{length, drop, getD}
 use lib.Seq.{drop-cons}
 use lib.Dec.{eqb, ltb}
 use borrow.Author.Tests.{eqb-true, ltb-true}
-use Rattle.clvm.specs.Tree.{Tree, place, atom, cons, pick, follow, asList}
-use Rattle.search.specs.Search.{Trail, atEntry, onStack, Parents, Stepped, result, stays, dropped, capped, member, distance, upward, sideward, moves, visit, step, search, most-visits, bitsOf}
+use Rattle.clvm.specs.Tree.{Tree, cons, pick, follow, asList}
+use Rattle.search.specs.Search.{Trail, atEntry, onStack, Parents, Stepped, dropped, capped, member, distance, upward, sideward, moves, visit, step, search, most-visits}
 use Rattle.words.specs.Choice.{by-cond}
-use Rattle.words.specs.Lists.{All, all-append, all-map}
+use Rattle.words.specs.Lists.{All, all-append}
 use Rattle.search.specs.Lists.{size}
 use Rattle.search.specs.Induction.{StepOK, search-ok}
 

@@ -7,17 +7,16 @@
 -- Assumes nothing.
 use Prim.Native.Nat.{ℕ, zero, suc, _+_, _*_, _%_, _^_, _-_, _≤_, _<_, min}
 use mathlib.Core.Path.{_≡_, refl, sym, ap, _∙_, subst}
-use mathlib.Core.Bool.{Bool, true, false, cond, _&&_}
+use mathlib.Core.Bool.{Bool, true, false, cond}
 use mathlib.Core.List.{List, [], _∷_, _++_, map}
 use mathlib.Core.Option.{Option, none, some}
 use native.Mathlib.Omega.{arith}
 use lib.Dec.{ltb, leb}
-use lib.ListN.{length, take, getD, replicate, List·getD-append}
+use lib.ListN.{length, take, replicate, List·getD-append}
 use lib.Seq.{take-at}
-use borrow.Author.Tests.{ltb-true, ltb-false, le-leb}
+use borrow.Author.Tests.{le-leb}
 use Rattle.words.specs.Lists.{Bytes}
 use Rattle.words.specs.Words.{at}
-use Rattle.words.specs.Choice.{cond-true}
 use Rattle.clvm.specs.Tree.{Tree}
 use Rattle.path.specs.Measure.{counted}
 use Rattle.reading.specs.Format.{accepted}
@@ -25,16 +24,16 @@ use Rattle.reading.specs.Store.{Store, read-stored}
 use Rattle.reading.specs.Names.{NamesHandle, names-more}
 use Rattle.reading.specs.Call as read
 use Rattle.session_file.specs.File.{File, Step, add, Limits, version-1, Got, got, refused, file}
-use Rattle.session_file.specs.Unfold.{Unfolded, unfolded}
+use Rattle.session_file.specs.Unfold.{unfolded}
 use Rattle.session_file.specs.Filling.{plain-filling}
 use Rattle.serializer.specs.Premises.{opens, Apart}
 use Rattle.serializer.specs.Items.{Item, size-of, output, NoLonger}
 use Rattle.serializer.specs.Output.{output-size}
-use Rattle.serializer.specs.Writer.{Todo, Session, start, Added, added, turned-down, add-tree, onward, add-all}
+use Rattle.serializer.specs.Writer.{Todo, Session, start, Added, added, turned-down, add-tree, add-all}
 use Rattle.serializer.specs.FindPath.{find-in}
 use Rattle.serializer.specs.FindPathLaws.{Covers}
 use Rattle.serializer.specs.Counted.{counted-covers}
-use Rattle.serializer.specs.Steps.{room-in, UndoState, undo-state, Run, run-steps, stop-at, with-word, after-add, unless-full, word-of, finished-bit}
+use Rattle.serializer.specs.Steps.{room-in, UndoState, undo-state, Run, run-steps, with-word, after-add, unless-full, word-of, finished-bit}
 use Rattle.serializer.specs.Call.{Slices, Result, long-enough, untouched, after-run, after-file, session}
 use Rattle.serializer.specs.TheoremBytes.{BytesReadBack}
 use Rattle.serializer.specs.TheoremFile.{read-back-file}

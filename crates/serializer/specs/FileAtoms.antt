@@ -1,20 +1,19 @@
 -- The atoms of a session file's trees are bytes, and short enough for a prefix.
 -- Assumes nothing.
-use Prim.Native.Nat.{ℕ, zero, suc, _+_, _-_, _/_, _%_, _^_, _≤_, _<_, min}
-use mathlib.Core.Path.{_≡_, refl, sym, ap, _∙_, subst}
+use Prim.Native.Nat.{ℕ, zero, suc, _+_, _/_, _%_, _^_, _≤_, _<_}
+use mathlib.Core.Path.{_≡_, refl, subst}
 use mathlib.Core.Bool.{Bool, true, false, cond}
 use mathlib.Core.List.{List, [], _∷_, _++_, map}
-use mathlib.Core.Option.{Option, none, some}
 use native.Mathlib.Omega.{arith}
-use lib.Dec.{eqb, ltb, leb}
+use lib.Dec.{ltb, leb}
 use lib.ListN.{length, getD, take, drop, length-take, length-drop}
-use Rattle.words.specs.Lists.{All, all-append, all-take, all-drop, Bytes, same}
-use Rattle.words.specs.BigEndian.{big-endian, length-big-endian}
+use Rattle.words.specs.Lists.{All, all-append, all-take, all-drop, same}
+use Rattle.words.specs.BigEndian.{length-big-endian}
 use Rattle.words.specs.Choice.{by-cond}
-use Rattle.allocator.specs.Handle.{Node, pair, listed-atom, small-atom, unknown, node-of, node-of-kind, handle-of}
+use Rattle.allocator.specs.Handle.{pair, node-of, node-of-kind, handle-of}
 use Rattle.allocator.specs.SmallAtom.{further-bytes, len-for-value, small-bytes, fits-in-small-atom}
 use Rattle.allocator.specs.SmallAtomLaws.{bytes-small-bytes}
-use Rattle.session_file.specs.File.{File, Pair, Limits, version-1, Got, got, refused, and-then, asked, bytes-of, field, count, listed, atom, atoms, pairs, sentinel, steps, mark, after-mark, file}
+use Rattle.session_file.specs.File.{File, Pair, Limits, Got, got, refused, and-then, asked, bytes-of, field, count, listed, atom, atoms, pairs, sentinel, steps, mark, after-mark, file}
 use Rattle.session_file.specs.Unfold.{Unfolded, hole, leaf, node, is-sentinel, named-by, unfold-with, unfold-pairs, unfolded}
 use Rattle.serializer.specs.Kept.{Leaves}
 use Rattle.serializer.specs.Formed.{Atom}

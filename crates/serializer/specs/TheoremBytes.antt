@@ -2,12 +2,11 @@
 -- filling's tree. Two facts of the items are premises here: every item has bytes, and they are bytes.
 -- Assumes nothing.
 use Prim.Native.Nat.{ℕ, _≤_}
-use mathlib.Core.Path.{_≡_, refl, sym, ap, _∙_, subst}
+use mathlib.Core.Path.{_≡_, sym, ap, _∙_, subst}
 use mathlib.Core.Bool.{Bool}
 use mathlib.Core.List.{List, [], _∷_, map}
-use mathlib.Core.Option.{Option, none, some}
+use mathlib.Core.Option.{none, some}
 use native.Mathlib.Omega.{arith}
-use lib.ListN.{length}
 use Rattle.words.specs.Lists.{All, Bytes}
 use Rattle.clvm.specs.Tree.{Tree}
 use Rattle.reading.specs.Format.{Read, accepted, turned-down}
@@ -15,7 +14,7 @@ use Rattle.reading.specs.Plain.{Plain, read-plain}
 use Rattle.reading.specs.Store.{Stored, read-stored}
 use Rattle.reading.specs.Names.{NamesHandle}
 use Rattle.reading.specs.Call.{root-of}
-use Rattle.reading.specs.Agree.{SameTree, ReadersAgree, both-turned-down, both-accepted, readers-agree}
+use Rattle.reading.specs.Agree.{ReadersAgree, both-turned-down, both-accepted, readers-agree}
 use Rattle.session_file.specs.File.{File}
 use Rattle.session_file.specs.Unfold.{unfolded}
 use Rattle.session_file.specs.Filling.{plain-filling}

@@ -1,6 +1,6 @@
 // The start of a session call: questions 1 to 8, and the tables of a file that passes.
-use session_file::Checked;
 use progress::Progress;
+use session_file::Checked;
 ghost use mathlib.Core.Path.{_≡_};
 ghost use Prim.Native.Nat.{_≤_};
 ghost use lib.ListN.{length};

@@ -1,9 +1,9 @@
 -- Laws of the marks: which words they depend on, and what a bit that is set leaves.
 -- Assumes nothing.
-use mathlib.Core.Path.{_≡_, refl, sym, ap, _∙_}
+use mathlib.Core.Path.{_≡_, sym, ap, _∙_}
 use mathlib.Core.Bool.{Bool, true, false, _||_}
 use mathlib.Core.List.{List}
-use Prim.Native.Nat.{ℕ, _+_, _-_, _/_, _%_, _^_, _≤_, _<_}
+use Prim.Native.Nat.{ℕ, _+_, _/_, _%_, _^_, _≤_, _<_}
 use native.Mathlib.Omega.{arith}
 use native.Mathlib.Decide.{ℕ-discrete}
 use lib.Dec.{eqb}
@@ -16,7 +16,7 @@ use Rattle.words.proofs.Words.{part-length, part-at, put-length, put-part, put-
 use Rattle.path.specs.Bytes.{odd}
 use Rattle.path.specs.BitSet.{bits-of}
 use Rattle.path.specs.BitSetLaws.{bits-of-at, length-bits-of}
-use Rattle.layout.specs.Layout.{STACK, WRITTEN, MOVED, ENTRIES}
+use Rattle.layout.specs.Layout.{STACK, WRITTEN, ENTRIES}
 use Rattle.stack.specs.Contracts.{marked-at, Marked, Pushed, PushedMarked}
 use Rattle.stack.proofs.Stacks.{stacked-same, stack-same}
 

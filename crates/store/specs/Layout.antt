@@ -1,5 +1,5 @@
 -- The reader's stacks in work, and its store in lent slices: what the words stand for, and what each function leaves.
-use Prim.Native.Nat.{ℕ, zero, suc, _+_, _-_, _*_, _≤_, _<_}
+use Prim.Native.Nat.{ℕ, zero, suc, _+_, _-_, _*_, _≤_}
 use mathlib.Core.Path.{_≡_}
 use mathlib.Core.List.{List, [], _∷_}
 use mathlib.Core.Option.{Option, none, some}
@@ -8,7 +8,7 @@ use lib.Seq.{paste}
 use Rattle.words.specs.Words.{at}
 use Rattle.allocator.specs.Handle.{handle-of, listed-atom}
 use Rattle.reading.specs.Format.{ParseOp, SExp, Cons}
-use Rattle.reading.specs.Store.{Store, Stored, Value, Made, new-atom, join-values}
+use Rattle.reading.specs.Store.{Store, Value, new-atom, join-values}
 
 abbrev pub OPS : ℕ
 OPS = 0

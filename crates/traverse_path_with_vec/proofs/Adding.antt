@@ -16,7 +16,7 @@ use Rattle.store.proofs.Stacks.{values-same, values-more}
 use Rattle.store.proofs.Stored.{take-two, drop-two, half}
 use Rattle.traverse_path_with_vec.specs.declared.Built.{Built}
 use Rattle.reading.specs.Sound.{unlisted}
-use Rattle.traverse_path_with_vec.specs.Leads.{unlisted-of, HaveLists, Holds, Adds, Lists}
+use Rattle.traverse_path_with_vec.specs.Leads.{unlisted-of, Holds, Adds, Lists}
 
 -- ---- a list that the value has
 

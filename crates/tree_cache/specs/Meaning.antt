@@ -2,7 +2,7 @@
 use Prim.Native.Nat.{ℕ, zero, suc, _+_, _*_, _≤_, _<_}
 use mathlib.Core.Path.{_≡_}
 use mathlib.Core.Logic.{_⊎_}
-use mathlib.Core.Bool.{Bool, true, cond}
+use mathlib.Core.Bool.{true, cond}
 use mathlib.Core.List.{List, [], _∷_, map}
 use mathlib.Core.Option.{Option, none, some}
 use lib.Dec.{eqb}
@@ -15,7 +15,7 @@ use Rattle.allocator.specs.SmallAtom.{small-bytes, fits-in-small-atom}
 use Rattle.session_file.specs.File.{File, Pair, named}
 use Rattle.session_file.specs.Answers.{sentinel-word}
 use Rattle.serializer.specs.Cache.{Key, sentinel-key, atom-key, pair-key, Entry, Cache, lookup}
-use Rattle.layout.specs.Layout.{PAIRS, FIRST, ATOM-LENGTHS, ATOM-COUNT, PAIR-COUNT, SENTINEL, MAPS, SENTINEL-ENTRY, USED, LEFT, RIGHT, ENTRIES}
+use Rattle.layout.specs.Layout.{PAIRS, FIRST, ATOM-LENGTHS, ATOM-COUNT, PAIR-COUNT, SENTINEL, MAPS, SENTINEL-ENTRY, USED, LEFT, RIGHT}
 use Rattle.layout.specs.Rows.{Row, rows-of, Sound}
 
 -- ---- keys: two words

@@ -1,7 +1,6 @@
 -- `read_item::atom_item` meets its contract.
 -- Assumes nothing.
-use mathlib.Core.Path.{_≡_, refl, sym, ap, _∙_}
-use native.Mathlib.Omega.{arith}
+use mathlib.Core.Path.{sym, ap, _∙_}
 use Rattle.parse_atom.specs.Answers.{parseOf}
 use Rattle.read_item.proofs.Atoms as atoms
 use borrow.Author.Needs.{needs}

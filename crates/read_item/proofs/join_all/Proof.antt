@@ -1,11 +1,9 @@
 -- `read_item::join_all` meets its contract. The invariant: what is left gives what all would give.
 -- Assumes nothing.
-use borrow.Author.Needs.{needs}
-use Prim.Native.Nat.{_-_}
 use mathlib.Core.Path.{_≡_, refl, _∙_}
 use native.Mathlib.Omega.{arith}
 use lib.ListN.{length}
-use Rattle.read_item.specs.State.{Ready, Onward}
+use Rattle.read_item.specs.State.{Onward}
 use Rattle.read_item.proofs.Joins as joins
 use Rattle.read_item.proofs.join_all.Statement.{statement}
 use Rattle.read_item.proofs.join_all.Tie as tie

@@ -1,8 +1,8 @@
 -- `read_item::path_item` meets its contract.
 -- Assumes nothing.
-use mathlib.Core.Path.{_≡_, refl, sym, ap, _∙_}
+use mathlib.Core.Path.{refl, sym, ap, _∙_}
 use Rattle.parse_atom.specs.Answers.{parseOf}
-use Rattle.read_item.specs.State.{PathFound, path-refused}
+use Rattle.read_item.specs.State.{path-refused}
 use Rattle.read_item.proofs.Paths as paths
 use borrow.Author.Needs.{needs}
 use Rattle.read_item.proofs.path_item.Statement.{statement}

@@ -1,13 +1,11 @@
 -- `read_item::push_path` meets its contract.
 -- Assumes nothing.
-use Prim.Native.Nat.{ℕ}
-use mathlib.Core.Path.{_≡_, refl, sym, ap, subst, _∙_}
-use mathlib.Core.List.{List}
+use mathlib.Core.Path.{refl, sym, ap, subst}
 use native.Mathlib.Omega.{arith}
 use lib.ListN.{length}
 use Rattle.parse_atom.specs.Answers.{parseOf}
 use Rattle.read_item.specs.declared.Reader.{Reader}
-use Rattle.read_item.specs.State.{Ready, PathPushed, SteppedPath, path-settled, path-refused}
+use Rattle.read_item.specs.State.{Ready, PathPushed, path-settled, path-refused}
 use Rattle.read_item.proofs.Paths as paths
 use borrow.Author.Needs.{needs}
 use Rattle.read_item.proofs.push_path.Statement.{statement}

@@ -1,7 +1,7 @@
 -- `traverse_path_with_vec::build_list` meets its contract. The loop's invariant: the list of the lowest i values is made, and a ghost pair was spent for each of them without a list.
 -- Assumes nothing.
 use Prim.Native.Nat.{_+_, _-_, _≤_}
-use mathlib.Core.Path.{_≡_, refl, sym, _∙_}
+use mathlib.Core.Path.{_≡_, refl, _∙_}
 use native.Mathlib.Omega.{arith}
 use lib.ListN.{length}
 use borrow.Author.Needs.{needs}

@@ -1,6 +1,5 @@
 -- `traverse_path_with_vec::list_at` meets its contract: the topmost of the values has a list, which is that of them all.
 -- Assumes nothing.
-use Prim.Native.Nat.{_<_}
 use mathlib.Core.Path.{sym, _∙_}
 use native.Mathlib.Omega.{arith}
 use borrow.Author.Needs.{needs}

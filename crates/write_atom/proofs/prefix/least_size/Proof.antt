@@ -1,6 +1,5 @@
 -- `write_atom::prefix::least_size` meets its contract: the table's rule, proved once over the widths.
 -- Assumes nothing.
-use mathlib.Core.List.{List, [], _∷_}
 use native.Mathlib.Omega.{arith}
 use Rattle.atom.specs.Prefix.{least}
 use Rattle.atom.specs.PrefixLaws.{table-at, least-sizes}

@@ -1,6 +1,5 @@
 -- `write_atom::prefix::mark_of` meets its contract: the table's rule, proved once over the widths.
 -- Assumes nothing.
-use mathlib.Core.List.{List, [], _∷_}
 use Rattle.atom.specs.Prefix.{mark}
 use Rattle.atom.specs.PrefixLaws.{table-at, marks}
 use borrow.Author.Needs.{needs}

@@ -1,7 +1,6 @@
 -- `write_atom::prefix::prefix_width` meets its contract.
 -- Assumes nothing.
 use mathlib.Core.Path.{sym, _∙_}
-use native.Mathlib.Omega.{arith}
 use Rattle.atom.specs.WriteLaws.{width-of-single, width-of-large, width-of-sized}
 use borrow.Author.Needs.{needs}
 use Rattle.write_atom.proofs.prefix.prefix_width.Statement.{statement}

@@ -1,7 +1,7 @@
 -- `write_atom::prefix::shortest_width` meets its contract. The invariant: no width below `w` holds the size.
 -- Assumes nothing.
-use Prim.Native.Nat.{ℕ, _≤_, _<_, _-_, _+_}
-use mathlib.Core.Path.{_≡_, refl, _∙_, ap}
+use Prim.Native.Nat.{_≤_, _-_}
+use mathlib.Core.Path.{_≡_, refl, _∙_}
 use native.Mathlib.Omega.{arith}
 use Rattle.atom.specs.Prefix.{first-width, width}
 use Rattle.atom.specs.PrefixLaws.{least-next, width-here, width-on}

@@ -1,12 +1,11 @@
 -- `write_atom::prefix::write_number` meets its contract. The invariant: the bytes from `left` on are written, and those before are the bytes of `rest`.
 -- Assumes nothing.
-use Prim.Native.Nat.{ℕ, _≤_, _<_, _-_, _+_, _%_}
+use Prim.Native.Nat.{ℕ, _≤_, _-_, _+_, _%_}
 use mathlib.Core.List.{List}
 use mathlib.Core.Path.{_≡_, refl, _∙_, ap}
 use native.Mathlib.Omega.{arith}
 use lib.ListN.{length, take, set, length-set}
 use lib.Seq.{take-all}
-use borrow.Author.Needs.{needs}
 use Rattle.words.specs.BigEndian.{big-endian, length-big-endian}
 use Rattle.write_atom.proofs.Numbers as numbers
 use Rattle.write_atom.proofs.prefix.write_number.Statement.{statement}

@@ -1,11 +1,11 @@
 -- `write_atom::prefix::write_prefix` meets its contract.
 -- Assumes nothing.
-use mathlib.Core.Path.{_≡_, sym, ap, _∙_}
+use mathlib.Core.Path.{ap, _∙_}
 use Prim.Native.Nat.{ℕ, _+_}
 use native.Mathlib.Omega.{arith}
 use lib.Seq.{paste, paste-zero}
 use Rattle.words.specs.BigEndian.{big-endian}
-use Rattle.atom.specs.Prefix.{mark, prefix}
+use Rattle.atom.specs.Prefix.{prefix}
 use Rattle.atom.specs.WriteLaws.{mark-bound}
 use borrow.Author.Needs.{needs}
 use Rattle.write_atom.proofs.prefix.write_prefix.Statement.{statement}

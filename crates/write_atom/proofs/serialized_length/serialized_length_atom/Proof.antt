@@ -1,6 +1,6 @@
 -- `write_atom::serialized_length::serialized_length_atom` meets its contract.
 -- Assumes nothing.
-use mathlib.Core.Path.{_≡_, sym, ap, _∙_}
+use mathlib.Core.Path.{sym, ap, _∙_}
 use native.Mathlib.Omega.{arith}
 use Rattle.write_atom.specs.Answers.{widthOf}
 use Rattle.atom.specs.PrefixLaws.{prefixed}

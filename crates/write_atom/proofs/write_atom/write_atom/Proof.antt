@@ -1,7 +1,7 @@
 use Rattle.atom.specs.WriteLaws.{put-too-long, put-no-room, put-prefixed}
 -- `write_atom::write_atom::write_atom` meets its contract.
 -- Assumes nothing.
-use mathlib.Core.Path.{_≡_, sym, ap, _∙_}
+use mathlib.Core.Path.{sym, ap, _∙_}
 use native.Mathlib.Omega.{arith}
 use Rattle.write_atom.specs.Answers.{widthOf}
 use Rattle.atom.specs.PrefixLaws.{prefixed}
