@@ -19,7 +19,7 @@ use Rattle.words.specs.BigEndian.{number, number-after}
 use Rattle.atom.specs.Prefix.{least, mark}
 use Rattle.atom.specs.Parse.{ones, Size, sized, bad-size, one-byte, size-of, decode-size, whole, moved-by, parse-at, Parse, blob, refused}
 use Rattle.atom.specs.ParseLaws.{size-seven, size-not-whole, size-large, size-long, size-one, size-right, at-prefixed, accepted}
-use Rattle.parse_atom.proofs.Numbers.{ones-more}
+use Rattle.parse_atom.proofs.LeadingOnes.{ones-more}
 
 number-add : (a d : ℕ) (bs : List ℕ) → number-after (a + d) bs ≡ number-after a bs + d * 256 ^ length bs
 unfolding number-after

@@ -2,12 +2,10 @@
 use write_atom::prefix::SIZE_LIMIT;
 use write_atom::prefix::least_size;
 ghost use mathlib.Core.Path.{_≡_};
-ghost use Prim.Native.Nat.{_+_, _-_, _*_, _^_, _≤_, _<_};
+ghost use Prim.Native.Nat.{_+_, _-_, _^_, _≤_, _<_};
 ghost use mathlib.Core.Bool.{cond};
 ghost use lib.Dec.{ltb};
-ghost use lib.ListN.{length, getD, take, drop};
-ghost use Rattle.words.specs.BigEndian.{«number-after»};
-ghost use Rattle.words.specs.Words.{part};
+ghost use lib.ListN.{length, getD, drop};
 ghost use Rattle.atom.specs.Parse.{ones, «one-byte», «decode-size», «parse-at», «blob-of», blob, refused};
 ghost use Rattle.parse_atom.specs.Answers.{sizeOf, parseOf};
 
@@ -53,20 +51,6 @@ fn leading_ones(byte: u8) -> Ones
     Ones { width: 8, rest }
 }
 
-// The number that the `count` bytes from `position` on make after the number `first`.
-fn number_at(input: &[u8], position: usize, count: usize, first: u8) -> u64
-    requires { ⌜ (position + count ≤ length (now input)) × (count ≤ 5) ⌝ }
-    ensures { λ r. ⌜ r ≡ «number-after» first (part (now (input .entry)) position count) ⌝ }
-{
-    let mut value = first as u64;
-    let mut i = 0;
-    while i < count {
-        value = value * 256 + (input[position + i] as u64);
-        i += 1;
-    }
-    value
-}
-
 // A prefix that carries the size 1: the byte has to follow, and not be one that stands for itself.
 fn one_byte(input: &[u8], position: usize, offset: usize) -> DecodeSize
     ensures { λ r. ⌜ sizeOf r ≡ «one-byte» offset (drop position (now (input .entry))) ⌝ }
@@ -93,7 +77,7 @@ pub fn decode_size_with_offset(input: &[u8], position: usize) -> DecodeSize
     if input.len() - position < width {
         return DecodeSize::SerializationError;
     }
-    let size = number_at(input, position + 1, width - 1, first.rest);
+    let size = words::number_at(input, position + 1, width - 1, first.rest);
     if SIZE_LIMIT <= size {
         return DecodeSize::SerializationError;
     }

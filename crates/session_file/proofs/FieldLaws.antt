@@ -1,20 +1,19 @@
 -- Laws of one field: the code's answer is what the definition gives.
 -- Assumes nothing.
-use Prim.Native.Nat.{ℕ, _+_, _-_, _*_, _^_, _≤_, _<_}
+use Prim.Native.Nat.{ℕ, _+_, _-_, _≤_, _<_}
 use mathlib.Core.Path.{_≡_, refl, sym, ap, subst, _∙_}
 use mathlib.Core.Bool.{Bool, true, false, cond}
 use mathlib.Core.List.{List}
 use mathlib.Core.Option.{Option, none, some}
 use native.Mathlib.Omega.{arith}
-use native.Mathlib.Nat.{pow-le-pow-right}
 use lib.Dec.{ltb, leb, eqb}
-use lib.ListN.{length, getD, take, drop, length-drop}
+use lib.ListN.{length, take, drop, length-drop}
 use lib.Seq.{drop-drop}
 use borrow.Author.Tests.{lt-ltb, le-ltb, le-leb, lt-leb, eq-eqb, ne-eqb}
 use Rattle.words.specs.Choice.{cond-true, cond-false}
 use Rattle.words.specs.Words.{part}
-use Rattle.words.specs.BigEndian.{number, number-more}
-use Rattle.words.proofs.Words.{part-more, part-length}
+use Rattle.words.specs.BigEndian.{number}
+use Rattle.words.proofs.Words.{part-length}
 use Rattle.allocator.specs.Handle.{Node, pair, listed-atom, small-atom, unknown, node-of, index-of, object-type-of}
 use Rattle.allocator.specs.SmallAtom.{fits-in-small-atom, fits-answer}
 use Rattle.allocator.specs.declared.ObjectType.{ObjectType}
@@ -25,16 +24,6 @@ use Rattle.session_file.specs.declared.Part.{Part}
 use Rattle.session_file.specs.File as format
 use Rattle.session_file.specs.File.{Got, got, refused, and-then, asked, bytes-of, field, count, version-1, listed, named, handle, one-pair, operand, one-step, add, restore}
 use Rattle.session_file.specs.Answers.{Answers, itself, sized, pair-word, sentinel-word, operand-word, atom-of}
-
--- ---- the bytes of a number
-
-pub number-turn : (input : List ℕ) (p i value : ℕ) → p + i < length input → value ≡ number (part input p i)
-    → value * 256 + getD input (p + i) 0 ≡ number (part input p (i + 1))
-number-turn input p i value h e =
-    ap (λ (v : ℕ). v * 256 + getD input (p + i) 0) e ∙ sym (number-more 0 (part input p i) (getD input (p + i) 0)) ∙ ap number (sym (part-more input p i h))
-
-pub pow-bound : (i : ℕ) → i ≤ 3 → 256 ^ i ≤ 256 ^ 3
-pow-bound i h = pow-le-pow-right {n = 256} (omega arith) h
 
 -- ---- questions
 

@@ -33,13 +33,7 @@ pub fn number_at(file: &[u8], at: usize, count: usize) -> u32
     requires { ⌜ (at + count ≤ length (now file)) × (count ≤ 4) ⌝ }
     ensures { λ r. ⌜ r ≡ number (part (now (file .entry)) at count) ⌝ }
 {
-    let mut value: u32 = 0;
-    let mut i = 0;
-    while i < count {
-        value = value * 256 + (file[at + i] as u32);
-        i += 1;
-    }
-    value
+    words::number_at(file, at, count, 0) as u32
 }
 
 // Where the bytes of atom i start and end, as words 2·i and 2·i + 1. The rest of the table is as it was.

@@ -1,9 +1,11 @@
-// Slices of words and bytes: clear, copy, compare. What every other crate does to a lent slice as a whole.
+// Slices of words and bytes: clear, copy, compare; bytes read as a number. What other crates do to a lent slice.
 ghost use mathlib.Core.Path.{_≡_};
 ghost use Prim.Native.Nat.{_+_, _≤_, _<_};
 ghost use lib.ListN.{length, replicate, drop};
 ghost use lib.Seq.{paste};
+ghost use Rattle.words.specs.BigEndian.{«number-after»};
 ghost use Rattle.words.specs.Lists.{same};
+ghost use Rattle.words.specs.Words.{part};
 
 // All words are zero.
 pub fn clear(words: &mut [u32])
@@ -66,4 +68,18 @@ pub fn same_bytes(a: &[u8], b: &[u8]) -> bool
         passed += 1;
     }
     true
+}
+
+// The number that the `count` bytes from `position` on make after the number `first`.
+pub fn number_at(input: &[u8], position: usize, count: usize, first: u8) -> u64
+    requires { ⌜ (position + count ≤ length (now input)) × (count ≤ 5) ⌝ }
+    ensures { λ r. ⌜ r ≡ «number-after» first (part (now (input .entry)) position count) ⌝ }
+{
+    let mut value = first as u64;
+    let mut read = 0;
+    while read < count {
+        value = value * 256 + (input[position + read] as u64);
+        read += 1;
+    }
+    value
 }

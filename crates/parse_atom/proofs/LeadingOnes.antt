@@ -1,18 +1,11 @@
--- Laws of the loops: leading ones counted off, bytes read into a number.
+-- Laws of the loop that counts off a byte's leading ones.
 -- Assumes nothing.
 use Prim.Native.Nat.{ℕ, zero, suc, _+_, _-_, _*_, _/_, _^_, _≤_, _<_}
-use mathlib.Core.Path.{_≡_, refl, sym, ap, _∙_}
-use mathlib.Core.List.{List, [], _∷_, _++_}
+use mathlib.Core.Path.{_≡_, refl}
 use native.Mathlib.Omega.{arith}
-use native.Mathlib.Nat.{pow-suc, pow-le-pow-right}
-use lib.ListN.{length, getD}
-use Rattle.words.specs.Words.{part}
-use Rattle.words.specs.BigEndian.{number-after, number-more}
-use Rattle.words.proofs.Words.{part-more}
+use native.Mathlib.Nat.{pow-suc}
 use Rattle.atom.specs.Parse.{ones}
 use Rattle.atom.specs.ParseLaws.{no-one, one-more}
-
--- ---- leading ones
 
 pub ones-none : (k rest : ℕ) → 0 < k → rest < 2 ^ k / 2 → ones k rest ≡ 0
 ones-none zero rest h l = absurd (omega arith)
@@ -62,13 +55,3 @@ pub ones-all : (byte left rest : ℕ) → left ≤ 0 → ones 8 byte ≡ 8 - lef
     → (_≡_ {A = ℕ} 8 (ones 8 byte)) × (8 ≤ 8) × (rest + 256 ≡ byte + 1)
 ones-all byte zero rest h e r = (omega (arith, ones-zero rest), omega arith, r)
 ones-all byte (suc left) rest h e r = absurd (omega arith)
-
--- ---- bytes read into a number
-
-pub number-turn : (input : List ℕ) (p i first value : ℕ) → p + i < length input → value ≡ number-after first (part input p i)
-    → value * 256 + getD input (p + i) 0 ≡ number-after first (part input p (i + 1))
-number-turn input p i first value h e =
-    ap (λ (v : ℕ). v * 256 + getD input (p + i) 0) e ∙ sym (number-more first (part input p i) (getD input (p + i) 0)) ∙ ap (number-after first) (sym (part-more input p i h))
-
-pub pow-bound : (i : ℕ) → i ≤ 5 → 256 ^ i ≤ 256 ^ 5
-pow-bound i h = pow-le-pow-right {n = 256} (omega arith) h
