@@ -1,23 +1,23 @@
 -- Laws of the parser's code: the size that it reads is the definition's, and the parts it hands on.
 -- Assumes nothing.
-use Prim.Native.Nat.{ℕ, zero, suc, _+_, _-_, _*_, _/_, _%_, _^_, _≤_, _<_}
+use Prim.Native.Nat.{ℕ, zero, suc, _+_, _-_, _*_, _^_, _≤_, _<_}
 use mathlib.Core.Path.{_≡_, refl, sym, ap, _∙_}
-use mathlib.Core.Bool.{Bool, true, false, cond}
-use mathlib.Core.List.{List, [], _∷_, _++_}
+use mathlib.Core.Bool.{cond}
+use mathlib.Core.List.{List, [], _∷_}
 use native.Mathlib.Omega.{arith}
 use native.Mathlib.Nat.{add-zero, zero-add, add-assoc, pow-succ', mul-assoc}
 use native.Mathlib.Numerals.{add-one}
 use lib.Pow.{pow-mono}
-use lib.Dec.{ltb, leb}
-use lib.ListN.{length, getD, take, drop, length-take, length-drop}
+use lib.Dec.{ltb}
+use lib.ListN.{length, getD, take, drop, length-drop}
 use lib.Seq.{drop-cons, drop-drop, getD-drop}
-use borrow.Author.Tests.{lt-ltb, le-ltb, le-leb, lt-leb}
+use borrow.Author.Tests.{lt-ltb, le-ltb}
 use Rattle.words.specs.Choice.{cond-true, cond-false, by-lt}
 use Rattle.words.specs.Words.{part}
 use Rattle.words.proofs.Words.{part-length}
 use Rattle.words.specs.BigEndian.{number, number-after}
 use Rattle.atom.specs.Prefix.{least, mark}
-use Rattle.atom.specs.Parse.{ones, Size, sized, bad-size, one-byte, size-of, decode-size, whole, moved-by, parse-at, Parse, blob, refused}
+use Rattle.atom.specs.Parse.{ones, Size, sized, bad-size, one-byte, size-of, decode-size, whole, moved-by, parse-at, blob, refused}
 use Rattle.atom.specs.ParseLaws.{size-seven, size-not-whole, size-large, size-long, size-one, size-right, at-prefixed, accepted}
 use Rattle.parse_atom.proofs.LeadingOnes.{ones-more}
 

@@ -1,5 +1,4 @@
 -- What the code's answers mean: 01's number and the values of each case. `SerializationError` is 14, `NonCanonicalSerialization` 15.
-use Prim.Native.Nat.{ℕ}
 use Rattle.atom.specs.Parse.{Size, sized, bad-size, Parse, blob, refused}
 use Rattle.parse_atom.specs.declared.DecodeSize.{DecodeSize}
 use Rattle.parse_atom.specs.declared.DecodeSize.the-variants as decode-size

@@ -1,13 +1,13 @@
 -- 01's whole case as a file, and the states of its plain filling: computed.
-use Prim.Native.Nat.{ℕ, zero, suc}
+use Prim.Native.Nat.{ℕ}
 use mathlib.Core.Path.{_≡_, refl}
-use mathlib.Core.List.{List, [], _∷_, _++_, map}
-use mathlib.Core.Option.{Option, none, some, bind}
-use Rattle.clvm.specs.Tree.{Tree, place, atom, cons}
+use mathlib.Core.List.{List, [], _∷_}
+use mathlib.Core.Option.{none, some, bind}
+use Rattle.clvm.specs.Tree.{place, atom, cons}
 use Rattle.words.specs.BigEndian.{big-endian, number-after}
 use Rattle.allocator.specs.Handle.{node-of}
 use Rattle.allocator.specs.SmallAtom.{further-bytes, fits-in-small-atom, is-small-atom}
-use Rattle.session_file.specs.File.{File, Got, got, refused, add, restore, version-1, atoms, pairs, steps, file}
+use Rattle.session_file.specs.File.{File, got, add, version-1, atoms, pairs, steps, file}
 use Rattle.session_file.specs.Unfold.{unfolded}
 use Rattle.session_file.specs.Filling.{fill, plain-filling}
 

@@ -1,7 +1,7 @@
 -- The session file of 01, field by field from the left, with questions 2 to 8: the file's atoms, pairs, sentinel and steps, or the number of the first
 -- question that gets no. In one field the questions are asked by number.
 use Prim.Native.Nat.{ℕ, zero, suc, _+_}
-use mathlib.Core.Bool.{Bool, true, false, cond, _&&_}
+use mathlib.Core.Bool.{Bool, true, false, cond}
 use mathlib.Core.List.{List, [], _∷_, _++_}
 use mathlib.Core.Option.{Option, none, some}
 use lib.Dec.{ltb, leb, eqb}

@@ -7,15 +7,15 @@ use mathlib.Core.Option.{Option}
 use native.Mathlib.Omega.{arith}
 use native.Mathlib.Numerals.{add-one}
 use lib.Dec.{leb}
-use lib.ListN.{length, take, drop, length-append, drop-of-length-le}
+use lib.ListN.{length, drop, length-append, drop-of-length-le}
 use lib.Seq.{drop-cons}
 use borrow.Author.Tests.{leb-true}
 use Rattle.words.specs.Choice.{by-lt}
 use Rattle.words.specs.Lists.{All, same}
-use Rattle.session_file.specs.File.{got, and-then, asked, field, count, version-1, atom, atoms, Pair, one-pair, pairs, sentinel, Step, add, restore, one-step, steps, File, mark, after-mark, file}
+use Rattle.session_file.specs.File.{got, and-then, field, count, version-1, atom, atoms, Pair, one-pair, pairs, sentinel, Step, add, restore, one-step, steps, File}
 use Rattle.session_file.specs.Places.{AtomsAt, PairsAt, StepsAt, StepIs, step-size, PairsNamed, StepNamed, ListedAtom}
 use Rattle.session_file.specs.Checked.{Contents}
-use Rattle.session_file.specs.FileLaws.{then-of, asked-of, got-value, got-rest, field-at, atom-at, pair-at, step-at, sentinel-named, after-atom-count, after-atoms, after-pair-count, after-pairs, after-sentinel, after-steps}
+use Rattle.session_file.specs.FileLaws.{then-of, asked-of, got-value, got-rest, field-at, atom-at, pair-at, step-at, sentinel-named}
 
 -- One of a list at its front, or at the end of what stands before.
 onward : {A : Type 0} (done : List A) (x : A) (more xs : List A) → xs ≡ (done ++ x ∷ []) ++ more → xs ≡ done ++ x ∷ more

@@ -1,14 +1,14 @@
 -- Laws of words: parts, tables, and what a store leaves.
 use mathlib.Core.Path.{_≡_, refl, sym, ap, _∙_}
 use mathlib.Core.List.{List, [], _∷_, _++_, map, append-nil}
-use Prim.Native.Nat.{ℕ, zero, suc, _+_, _*_, _-_, _≤_, _<_}
+use Prim.Native.Nat.{ℕ, zero, suc, _+_, _-_, _≤_, _<_}
 use native.Mathlib.Omega.{arith}
 use native.Mathlib.Nat.{le-antisymm, not-suc-le-zero, le-of-suc-le-suc}
 use native.Mathlib.Numerals.{add-one}
 use native.Mathlib.Decide.{ℕ-discrete, decLt, decLe}
 use borrow.Rule.Slice.PartMut.{putMid, same-len-mid}
 use lib.ListN.{length, getD, take, drop, set, replicate, length-set, length-take, length-drop, drop-of-length-le, List·getD-append}
-use lib.Seq.{ext-getD, getD-take, getD-drop, getD-set-same, getD-set-other, drop-set-lt, take-set-le, drop-set-add, take-set-lt, take-suc, take-at, drop-at, drop-drop, length-take-le}
+use lib.Seq.{ext-getD, getD-take, getD-drop, getD-set-same, getD-set-other, drop-set-add, take-set-lt, take-suc, take-at, drop-at, drop-drop, length-take-le}
 use Rattle.words.specs.Words.{part, tabulate, at}
 
 -- a list that is filled to its end

@@ -6,7 +6,7 @@ use mathlib.Core.List.{List, [], _∷_, _++_, append-assoc, append-nil}
 use native.Mathlib.Omega.{arith}
 use native.Mathlib.Nat.{pow-suc, add-zero, add-suc, suc-add, zero-add, pow-succ', mul-assoc, mul-le-mul-right}
 use lib.ListN.{length, length-append}
-use Rattle.words.specs.Lists.{All, all-append, Bytes}
+use Rattle.words.specs.Lists.{all-append, Bytes}
 
 -- The last k bytes of n, the highest first.
 unfoldable pub big-endian : ℕ → ℕ → List ℕ

@@ -1,9 +1,8 @@
 -- `parse_atom::leading_ones` meets its contract. The invariant: as many ones are counted off as bits are gone, and `rest` is what is left of the byte.
 -- Assumes nothing.
-use Prim.Native.Nat.{ℕ, _≤_, _<_, _-_, _+_, _/_, _^_}
-use mathlib.Core.Path.{_≡_, refl, _∙_, ap}
+use Prim.Native.Nat.{_≤_, _-_, _+_, _/_, _^_}
+use mathlib.Core.Path.{_≡_, refl}
 use native.Mathlib.Omega.{arith}
-use borrow.Author.Needs.{needs}
 use Rattle.atom.specs.Parse.{ones}
 use Rattle.parse_atom.proofs.LeadingOnes.{ones-turn, ones-end, ones-all}
 use Rattle.parse_atom.proofs.leading_ones.Statement.{statement}

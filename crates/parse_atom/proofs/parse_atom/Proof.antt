@@ -2,11 +2,10 @@ use Rattle.parse_atom.specs.Answers.{sizeOf}
 use Rattle.parse_atom.proofs.Parsing.{parsed-refused, parsed-there, parsed-sized}
 -- `parse_atom::parse_atom` meets its contract.
 -- Assumes nothing.
-use mathlib.Core.Path.{_≡_, sym, ap, _∙_}
+use mathlib.Core.Path.{sym, ap, _∙_}
 use native.Mathlib.Omega.{arith}
 use native.Mathlib.Nat.{add-zero}
-use Rattle.atom.specs.Parse.{blob}
-use Rattle.atom.specs.ParseLaws.{at-end, at-single, at-prefixed}
+use Rattle.atom.specs.ParseLaws.{at-end, at-single}
 use borrow.Author.Needs.{needs}
 use Rattle.parse_atom.proofs.parse_atom.Statement.{statement}
 use Rattle.parse_atom.proofs.parse_atom.Tie as tie

@@ -1,8 +1,6 @@
 -- `parse_atom::parse_atom_ptr` meets its contract.
 -- Assumes nothing.
-use mathlib.Core.Path.{_≡_, sym, ap, _∙_}
-use Rattle.atom.specs.Parse.{blob-of}
-use Rattle.parse_atom.specs.Answers.{parseOf}
+use mathlib.Core.Path.{sym}
 use Rattle.atom.specs.ParseLaws.{blob-refused}
 use borrow.Author.Needs.{needs}
 use Rattle.parse_atom.proofs.parse_atom_ptr.Statement.{statement}

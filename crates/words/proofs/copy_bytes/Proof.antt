@@ -1,13 +1,11 @@
 -- `words::copy_bytes` meets its contract. The invariant: the first `copied` bytes of `from` stand in `to`.
 -- Assumes nothing.
 use mathlib.Core.Path.{_≡_, refl, _∙_, ap}
-use mathlib.Core.List.{List, _++_}
+use mathlib.Core.List.{List}
 use Prim.Native.Nat.{ℕ, _≤_, _-_, _+_}
 use native.Mathlib.Omega.{arith}
-use native.Mathlib.Nat.{le-antisymm}
 use lib.ListN.{length, set, getD, length-set}
 use lib.Seq.{paste, paste-zero}
-use borrow.Author.Needs.{needs}
 use Rattle.words.proofs.Copies.{paste-more}
 use Rattle.words.proofs.copy_bytes.Statement.{statement}
 use Rattle.words.proofs.copy_bytes.Tie as tie

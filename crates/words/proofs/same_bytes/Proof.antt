@@ -1,10 +1,9 @@
 -- `words::same_bytes` meets its contract. The invariant: the slices are the same where what is left of them is.
 -- Assumes nothing.
-use mathlib.Core.Path.{_≡_, refl, sym, _∙_, ap}
-use Prim.Native.Nat.{ℕ, _≤_, _-_, _+_}
+use mathlib.Core.Path.{_≡_, refl, sym, _∙_}
+use Prim.Native.Nat.{_≤_, _-_}
 use native.Mathlib.Omega.{arith}
-use lib.ListN.{length, getD, drop}
-use borrow.Author.Needs.{needs}
+use lib.ListN.{length, drop}
 use Rattle.words.specs.Lists.{same}
 use Rattle.words.proofs.Copies as copies
 use Rattle.words.proofs.same_bytes.Statement.{statement}
