@@ -1,6 +1,6 @@
 -- `cache_update::enter` meets its contract. The measure: one more than the number of the pair, or 0 for an atom.
 -- Assumes nothing.
-use Prim.Native.Nat.{ℕ}
+use Prim.Native.Nat.{ℕ, _<_}
 use mathlib.Core.Path.{sym, _∙_}
 use native.Mathlib.Omega.{arith}
 use borrow.Author.Needs.{needs}
