@@ -1,15 +1,11 @@
 # What stands around the walk in the proof of round_trip::round_trip.
-from context import sub as S
+from terms import *
+from terms import sub as S
 ELEM=['u8','u32','u32','T.the-row','u8','u32','u32','u8']
-def nest(xs,end='tt'):
-    r=end
-    for x in reversed(xs): r='(%s, %s)'%(x,r)
-    return r
 KS8=nest(['κ'+S(i) for i in range(8)]); QS8=nest(['q'+S(i) for i in range(8)])
-VS=' ∷ '.join('v'+S(i) for i in range(8))+' ∷ []'
+VS=items('v'+S(i) for i in range(8))
 sp=lambda f: ' '.join(f(i) for i in range(8))
 def path(i,base): return base+' .1'*i+' .0'
-vdefs='\n\n'.join('  abbrev v%s : Val\n  v%s = sliceVal (x%s .ptr) (length (x%s .now))'%((S(i),)*4) for i in range(8))
 stay=nest(['stay-none-slice (0 ∷ []) tt (plain (λ _. u8)) yes' if i==0 else ('stay-slice' if i==4 else 'gave-slice')+' (%d ∷ []) tt (plain (λ _. %s))'%(i,ELEM[i]) for i in range(8)])
 goes=nest(['goes-none-slice 𝓤 H A W 8 (0 ∷ []) tt (plain (λ _. u8)) yes' if i==0 else ('goes-slice' if i==4 else 'goes-gave-slice')+' 𝓤 H A W 8 %d tt (plain (λ _. %s))'%(i,ELEM[i]) for i in range(8)])
 tells=nest([('shr' if i==0 else 'mut')+'-slice-tells (named %d) (%s) %s'%(i,path(i,'κs'),ELEM[i]) for i in range(8)])
@@ -136,7 +132,7 @@ module _ {{M : Type 1}} (𝓤 : URA M) (H : Heap 𝓤) (A : Atoms 𝓤) (W : Giv
   abbrev a : Arg
   a = {nest(['x'+S(i) for i in range(8)])}
 
-{vdefs}
+{values(8)}
 
   abbrev vals : {VAL}
   vals = {nest(['v%s ∷ []'%S(i) for i in range(8)])}

@@ -1,8 +1,7 @@
 # Writes the proof of run_steps::run_steps to the file that it is given.
-import re,sys
-def sub(i): return ''.join('₀₁₂₃₄₅₆₇₈₉'[int(c)] for c in str(i))
+import sys
+from chains import *
 N=22
-def P(base,i): return str(base+2*(N-1-i))
 HEAD=r'''-- `run_steps::run_steps` meets its contract: a walk of its MIR, by hand, with a loop. The records' borrow is opened once, before the loop, and closed once, after it; in each turn a record is read and one is stored, and between the two `work`, `words` and `output` are lent again for lifetimes of the call of `bounded_step`, and come back at the lists that its contract says.
 -- The loop's state is the values of the slices and the progress, with facts: each list is as long as it was, the progress is one, and what `Between` says. It falls by `ahead`.
 -- Assumes nothing.
@@ -122,20 +121,7 @@ module _ {M : Type 1} (𝓤 : URA M) (H : Heap 𝓤) (A : Atoms 𝓤) (W : Given
   abbrev mach : Progress → Val
   mach t = LL.val S.the-type S′.the-laws t
 
-  abbrev v₀ : Val
-  v₀ = sliceVal (x₀ .ptr) (length (x₀ .now))
-
-  abbrev v₁ : Val
-  v₁ = sliceVal (x₁ .ptr) (length (x₁ .now))
-
-  abbrev v₂ : Val
-  v₂ = sliceVal (x₂ .ptr) (length (x₂ .now))
-
-  abbrev v₃ : Val
-  v₃ = sliceVal (x₃ .ptr) (length (x₃ .now))
-
-  abbrev v₄ : Val
-  v₄ = sliceVal (x₄ .ptr) (length (x₄ .now))
+@VALUES@
 
   abbrev vals : List Val × (List Val × (List Val × (List Val × (List Val × (List Val × Unit {0})))))
   vals = (v₀ ∷ [], (v₁ ∷ [], (v₂ ∷ [], (v₃ ∷ [], (v₄ ∷ [], (mach s ∷ [], tt))))))
@@ -270,7 +256,7 @@ module _ {M : Type 1} (𝓤 : URA M) (H : Heap 𝓤) (A : Atoms 𝓤) (W : Given
         first ! $ branches ! (load ! (from ! (stop !)) (look ! @12,11@ refl))
         (λ go. skips ! $ exec ! C Λ En (after (after body.turn-1)) (anyQ (Turned i)) $
         -- `slot_of`, with a copy of `file`: [what it asks; file; the row; the open borrow; obs; auth; work; its token; words; its token; output; its token; _21; …]
-        move ! (10 ∷ []) $ use1 W (@FILE@ ⊛ @FILE@) (shr-slice-copy 𝓤 H A W (named 4) κ₄ u8 .twice x₄ (v₄ ∷ [])) $ split ! $
+        move ! (10 ∷ []) $ @COPIED@ $
         move ! (0 ∷ 12 ∷ []) $ group ! 2 $ use1 W (raw (SlotOf 𝓤 H A mem run .pre (to-slot m f))) (goes-slot m f) $
         calls-at ! fm (SlotOf 𝓤 H A mem run) known-slot (to-slot m f) (and-then ! (load ! (from ! (stop !)) (look ! @12,5@ refl)) (and-then ! (load ! (from ! (fld ! refl (stop !))) (look-in ! @12,7@ (sub ! 0 refl (whole !)))) (and-then ! (load ! (from ! (fld ! refl (stop !))) (look-in ! @12,7@ (sub ! 2 refl (whole !)))) (no-more !)))) (λ u.
         use1 W (later (some (λ (r : ℕ). ((‵ (flft κ₄ q₄) ⊛ ‵ ftrue) ⊛ ‵ (usize .own r (u ∷ []))) ⊛ raw (ensured 𝓤 H A slot-of.ended (slot-of.clauses 𝓤 H A mem run) (κ₄, tt) (x₄, (m .progress .at, (m .progress .adds, tt))) tt r)))) (id⊢ 𝓤 _) $ await ! tt $ pick ! (λ k.
@@ -289,13 +275,13 @@ module _ {M : Type 1} (𝓤 : URA M) (H : Heap 𝓤) (A : Atoms 𝓤) (W : Given
         -- `work`, `words` and `output` as the call takes them, each lent again for a lifetime of the call
 @AGGS@
         lft-new ! tt (λ ν₁. move ! (5 ∷ 6 ∷ []) $
-        use2 W (@LENDS1@ $ await ! tt $ pick ! (λ δ₁. split ! $
+        @LENDS1@ (λ δ₁. split ! $
         lft-new ! tt (λ ν₂. move ! (8 ∷ 9 ∷ []) $
-        use2 W (@LENDS2@ $ await ! tt $ pick ! (λ δ₂. split ! $
+        @LENDS2@ (λ δ₂. split ! $
         lft-new ! tt (λ ν₃. move ! (11 ∷ 12 ∷ []) $
-        use2 W (@LENDS3@ $ await ! tt $ pick ! (λ δ₃. split ! $
+        @LENDS3@ (λ δ₃. split ! $
         -- [output; lent₃; ν₃; words; lent₂; ν₂; work; lent₁; ν₁; the row; the open borrow; obs; auth; file; its token; _21; …]: a copy of `file` is kept
-        move ! (13 ∷ []) $ use1 W (@FILE@ ⊛ @FILE@) (shr-slice-copy 𝓤 H A W (named 4) κ₄ u8 .twice x₄ (v₄ ∷ [])) $ split ! $
+        move ! (13 ∷ []) $ @COPIED@ $
         move ! (8 ∷ 10 ∷ 5 ∷ 7 ∷ 2 ∷ 4 ∷ 0 ∷ 15 ∷ []) $ group ! 8 $ use1 W (raw (StepOf 𝓤 H A mem run .pre (to-step m f @NDS@ (rec k)))) (goes-step m f @NDS@ (rec k) c-is (ready file start m (f .stands) (goes (m .progress .done) go) k ek)) $
         -- `bounded_step`: [what it asks; file; lent₃; lent₂; lent₁; the row; the open borrow; obs; auth; _21; …]
         calls-at ! fm (StepOf 𝓤 H A mem run) known-step (to-step m f @NDS@ (rec k)) (and-then ! (load ! (from ! (stop !)) (look ! @9,16@ refl)) (and-then ! (load ! (from ! (stop !)) (look ! @9,18@ refl)) (and-then ! (load ! (from ! (stop !)) (look ! @9,20@ refl)) (and-then ! (load ! (from ! (stop !)) (look ! @9,5@ refl)) (and-then ! (load ! (from ! (stop !)) (look ! @9,7@ refl)) (and-then ! (load ! (from ! (stop !)) (look ! @9,9@ refl)) (no-more !))))))) (λ w.
@@ -305,9 +291,9 @@ module _ {M : Type 1} (𝓤 : URA M) (H : Heap 𝓤) (A : Atoms 𝓤) (W : Given
         fsplit ! $ fsplit ! $ move ! (1 ∷ []) $ feqL ! (λ e₁. move ! (1 ∷ []) $ fsplit ! $ fsplit ! $ move ! (1 ∷ []) $ feqL ! (λ e₂. move ! (1 ∷ []) $ fsplit ! $ fsplit ! $ move ! (1 ∷ []) $ feqL ! (λ e₃. move ! (1 ∷ []) $ drop ! $
         move ! (3 ∷ []) $ split ! $ move ! (1 ∷ []) $ facts ! R.the-row (Is R.the-row) (shows 𝓤 H A R.the-row) r (w ∷ []) (λ r-is.
         -- [the tokens; output's last list; words'; work's; file; lent₃; lent₂; lent₁; the row; …; _21; …]: each lifetime is ended, and its slice comes back
-        split ! $ lft-end ! tt $ move ! (0 ∷ 8 ∷ 4 ∷ []) $ use3 W (@COMES1@ $ await ! tt $ split ! $
-        move ! (2 ∷ []) $ split ! $ lft-end ! tt $ move ! (0 ∷ 8 ∷ 5 ∷ []) $ use3 W (@COMES2@ $ await ! tt $ split ! $
-        move ! (2 ∷ []) $ split ! $ lft-end ! tt $ move ! (0 ∷ 8 ∷ 6 ∷ []) $ use3 W (@COMES3@ $ await ! tt $ split ! $
+        split ! $ lft-end ! tt $ move ! (0 ∷ 8 ∷ 4 ∷ []) $ @COMES1@ $
+        move ! (2 ∷ []) $ split ! $ lft-end ! tt $ move ! (0 ∷ 8 ∷ 5 ∷ []) $ @COMES2@ $
+        move ! (2 ∷ []) $ split ! $ lft-end ! tt $ move ! (0 ∷ 8 ∷ 6 ∷ []) $ @COMES3@ $
         move ! (2 ∷ []) $ split ! $ move ! (1 ∷ []) $ drop ! $ move ! (8 ∷ 9 ∷ 10 ∷ 11 ∷ 5 ∷ 6 ∷ 3 ∷ 4 ∷ 1 ∷ 2 ∷ 7 ∷ 0 ∷ []) $
         land ! (from ! (stop !)) (init ! @12,10@ refl (LL.lawful R.the-type R′.the-laws 𝓤 H A W .typed r _ r-is .0)) $ rewrite ! @12,10@ (λ (z : Val). ‵ (fat fullShare R′.mir l₁₀ 0 z)) (ap only (LL.tells R.the-type R′.the-laws r _ r-is)) refl $
         -- the record that came back is stored at k
@@ -402,28 +388,14 @@ T=HEAD
 T=T.replace("use lib.ListN.{length, set, getD, length-set}","use lib.ListN.{length, set, getD, take, length-set}")
 T=T.replace("use Rattle.progress.specs.declared.StepAnswer.{StepAnswer}\n","use Rattle.progress.specs.declared.StepAnswer.{StepAnswer}\nuse Rattle.steps.specs.State.{the-file}\nuse Rattle.steps.specs.Steps.{Ready}\n")
 rows={1:('u32','work','work-len','zs .0'),2:('u32','words','words-len','zs .1 .0'),3:('u8','out','out-len','zs .1 .1 .0')}
-def lends(j):
-    R,fld,ln,z=rows[j]; s=sub(j)
-    args=f"{R} κ{s} (ν{s} ∷ []) q{s} 𝓤 H A W (named {j}) (named {j}) x{s} n{s} (m .{fld}) (f .{ln})"
-    return f"later (some (λ (δ : GName). ‵ (MutSlice (named {j}) (ν{s} ∷ []) {R} .own (under {args} δ) (v{s} ∷ [])) ⊛ ‵ (Lent {args} δ)))) (lends-at {args})"
-def comes(j):
-    R,fld,ln,z=rows[j]; s=sub(j)
-    args=f"{R} κ{s} (ν{s} ∷ []) q{s} 𝓤 H A W (named {j}) (named {j}) x{s} n{s} (m .{fld}) (f .{ln})"
-    return f"later (‵ (MutSlice (named {j}) κ{s} {R} .own (at-last x{s} ({z})) (v{s} ∷ [])) ⊛ ‵ (flft κ{s} q{s}))) (comes-at {args} δ{s} ({z}) room{s} e{s})"
-def aggs():
-    L=[]
-    for j in (1,2,3):
-        r=13+2*j; a=14+2*j
-        L.append(f"        assigns ! (addr ! (from ! (fld ! refl (hop ! (look-in ! @12,{j+1}@ (sub ! 0 refl (whole !))) (stop !))))) (from ! (stop !)) (init ! @12,{r}@ refl (tt, tt)) $")
-        L.append(f"        assigns ! (agg ! (and-then ! (load ! (from ! (stop !)) (look ! @12,{r}@ refl)) (and-then ! (load ! (from ! (fld ! refl (stop !))) (look-in ! @12,{j+1}@ (sub ! 1 refl (whole !)))) (no-more !)))) (from ! (stop !)) (init ! @12,{a}@ refl (tt, (tt, (record {{ fits = room{sub(j)} .0 }}, tt)))) $")
-    return '\n'.join(L)
-for j in (1,2,3): T=T.replace(f'@LENDS{j}@',lends(j)).replace(f'@COMES{j}@',comes(j))
-T=T.replace('@AGGS@',aggs())
-T=T.replace('@FILE@','‵ (ShrSlice (named 4) κ₄ u8 .own x₄ (v₄ ∷ []))').replace('@NDS@','ν₁ ν₂ ν₃ δ₁ δ₂ δ₃').replace('@KS@','(ν₁ ∷ [], (ν₂ ∷ [], (ν₃ ∷ [], (κ₄, tt))))').replace('@STEPPED@','Stepped file m k (zs .0) (zs .1 .0) (zs .1 .1 .0) r')
+for j,(R,fld,ln,z) in rows.items():
+    args=lent(R,j,'ν'+sub(j),'n'+sub(j),'(m .%s)'%fld,'(f .%s)'%ln)
+    T=T.replace('@LENDS%d@'%j,lends(R,j,'ν'+sub(j),args)).replace('@COMES%d@'%j,comes(R,j,args,'δ'+sub(j),'(%s)'%z,'e'+sub(j)))
+T=T.replace('@AGGS@','\n'.join('        '+t for j in rows for t in again('@12,%d@'%(j+1),'@12,%d@'%(13+2*j),'@12,%d@'%(14+2*j),'room'+sub(j))))
+T=T.replace('@VALUES@',values(5)).replace('@COPIED@',copied(4)).replace('@NDS@','ν₁ ν₂ ν₃ δ₁ δ₂ δ₃').replace('@KS@','(ν₁ ∷ [], (ν₂ ∷ [], (ν₃ ∷ [], (κ₄, tt))))').replace('@STEPPED@','Stepped file m k (zs .0) (zs .1 .0) (zs .1 .1 .0) r')
 def isu(fl,w='w64',R='usize'): return f"Is {R} (m .progress .{fl}) (vint {w} (m .progress .{fl}) ∷ [])"
 # the first three fields are told; the rest is as it is
 T=T.replace('@SI@','LL.makes S.the-type S′.the-plain 𝓤 H A')
-fields="at-is"
 T=T.replace("    fields : @FIELDS@\n    fields = LL.owed S.the-type S′.the-laws (m .progress) _ (f .progress-is)\n",
 "    at-is : "+isu('at')+"\n    at-is = LL.owed S.the-type S′.the-laws (m .progress) _ (f .progress-is) .0\n\n    adds-is : "+isu('adds')+"\n    adds-is = LL.owed S.the-type S′.the-laws (m .progress) _ (f .progress-is) .1 .1 .0\n")
 T=T.replace('(fields .1 .1 .0)','adds-is').replace('(fields .0)','at-is')
@@ -432,27 +404,17 @@ def sl(n,k,r): return 'sliceTy (tyRef %s %s (pointee (%s .written)))'%(n,k,r)
 def rf(r): return 'tyRef erased mut (pointee (%s .written))'%r
 tys={0:'S′.mir',1:sl('(named 0)','mut','T.the-row'),2:sl('(named 1)','mut','u32'),3:sl('(named 2)','mut','u32'),4:sl('(named 3)','mut','u8'),5:sl('(named 4)','imm','u8'),6:'S′.mir',7:'S′.mir',8:W64,9:'T′.mir',10:'R′.mir',11:'tyBool',12:W64,13:'tyPtr',14:'T′.mir',15:rf('u32'),16:sl('erased','mut','u32'),17:rf('u32'),18:sl('erased','mut','u32'),19:rf('u8'),20:sl('erased','mut','u8'),21:'tyPtr'}
 vals={1:'v₀',2:'v₁',3:'v₂',4:'v₃',5:'v₄',6:'(mach s)',7:'(mach (i .0 .progress))'}
-def par(t): return '('+t+')' if ' ' in t else t
-EN=' ∷ '.join('(%s, l%s)'%(tys[i],sub(i)) for i in range(N))+' ∷ []'
 def loc(vs):
     L=[]
     for i in reversed(range(N)):
         if i in vs: L.append('‵ (fat fullShare %s l%s 0 %s)'%(par(tys[i]),sub(i),vs[i]))
         else: L.append('‵ (froom %s l%s 0)'%(par(tys[i]),sub(i)))
         L.append('‵ (fdies %s l%s)'%(par(tys[i]),sub(i)))
-    return ' ∷ '.join(L)+' ∷ []'
+    return items(L)
 v0={k:v for k,v in vals.items() if k!=7}
-T=re.sub(r'@(\d+),(\d+)@',lambda m:P(int(m[1]),int(m[2])),T)
-T=T.replace('@LOCALS0@',loc(v0)).replace('@EN@',EN).replace('@LOCALS@',loc(vals)).replace('@LS@',' '.join('l'+sub(i) for i in range(N)))
-allocs=' '.join('alloc1 ! (λ l%s.'%sub(i) for i in range(N))+' alloc0 !'
-frees=' $ '.join('move ! (%d ∷ %d ∷ []) $ free1 !'%(11+2*j,11+2*j+1) for j in reversed(range(N)))+' $ free0 !'
-T=T.replace('@ALLOC@',allocs).replace('@FORGET1@',' $ '.join('forget ! %s refl'%P(12,i) for i in range(8,22))).replace('@FORGET@',' $ '.join('forget ! %s refl'%P(11,i) for i in [11,7,6,5,4,3,2,1,0])).replace('@FREE@',frees)
-def close(T,start,mark):
-    i=T.index(start); j=T.index(mark)
-    seg='\n'.join(l for l in T[i:j].split('\n') if not l.strip().startswith('--'))
-    n=seg.count('(')-seg.count(')')
-    return T.replace(mark,')'*n)
+T=positions(T,N)
+T=T.replace('@LOCALS0@',loc(v0)).replace('@EN@',typed(tys)).replace('@LOCALS@',loc(vals)).replace('@LS@',names(N))
+T=T.replace('@ALLOC@',allocs(N)).replace('@FORGET1@',forgets(12,N,range(8,22))).replace('@FORGET@',forgets(11,N,[11,7,6,5,4,3,2,1,0])).replace('@FREE@',frees(11,N))
 T=close(T,'        (λ go. skips','@CLOSE1@')
 T=close(T,'  walk 𝓣 fm known-slot known-step =\n','@CLOSE2@')
-assert '@' not in T, [l for l in T.split('\n') if '@' in l][:3]
-open(sys.argv[1],'w').write(T)
+write(T,sys.argv[1])

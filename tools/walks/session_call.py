@@ -493,41 +493,28 @@ B1='b w₁ lw₁ began start-is records-fit'
 P1=B1+' p w₂ ws₂ cs₂ o₂ lw₂ lws₂ lcs₂ lo₂ drove p-is'
 D1=B1+' νc νw νs νo δc δw δs δo'
 for k,v in {'TOFINISH':'to-finish '+P1,'GOESFINISH':'goes-finish '+P1,'GIVENFINISH':'given-finish '+P1,'TOCLEAR':'to-clear '+P1,'GOESCLEAR':'goes-clear '+P1,'GIVENCLEAR':'given-clear '+P1,'TODRIVE':'to-drive '+D1,'GOESDRIVE':'goes-drive '+D1,'GIVENDRIVE':'given-drive '+D1}.items(): T=T.replace('@'+k+'@',v)
-# addr of a parameter's slice into local l, the slice into l + 1 (base 10)
+# The slice of local src again, to local l + 1.
 def borrow(m):
     l,src,room=int(m[1]),int(m[2]),int(m[3])
-    ind=m[0]
-    a=P(10,l); b=P(10,l+1); s=P(10,src)
-    return ('assigns ! (addr ! (from ! (fld ! refl (hop ! (look-in ! %s (sub ! 0 refl (whole !))) (stop !))))) (from ! (stop !)) (init ! %s refl (tt, tt)) $ '%(s,a)
-     +'assigns ! (agg ! (and-then ! (load ! (from ! (stop !)) (look ! %s refl)) (and-then ! (load ! (from ! (fld ! refl (stop !))) (look-in ! %s (sub ! 1 refl (whole !)))) (no-more !)))) (from ! (stop !)) (init ! %s refl (tt, (tt, (record { fits = room%s .0 }, tt))))'%(a,s,b,sub(room)))
-T=re.sub(r'@BORROW:(\d+),(\d+),(\d+)@',borrow,T)
-def args(R,i,nu,ys,e): return '%s κ%s (%s ∷ []) q%s 𝓤 H A W (named %s) (named %s) x%s n%s %s %s'%(R,sub(int(i)),nu,sub(int(i)),i,i,sub(int(i)),sub(int(i)),ys,e)
+    return ' '.join(again(P(10,src),P(10,l),P(10,l+1),'room'+sub(room)))
+T=re.sub(r'@BORROW:(\d+),(\d+),(\d+)@ \$',borrow,T)
+def args(R,i,nu,ys,e): return lent(R,i,nu,'n'+sub(i),ys,e)
 def lend(m):
-    R,i,nu,ys,e=m[1],m[2],m[3],m[4],m[5]; x=args(R,i,nu,ys,e); s=sub(int(i))
-    return 'use2 W (later (some (λ (δ : GName). ‵ (MutSlice (named %s) (%s ∷ []) %s .own (under %s δ) (v%s ∷ [])) ⊛ ‵ (Lent %s δ)))) (lends-at %s) $ await ! tt $ pick !'%(i,nu,R,x,s,x,x)
+    R,i,nu,ys,e=m[1],int(m[2]),m[3],m[4],m[5]
+    return lends(R,i,nu,args(R,i,nu,ys,e))
 T=re.sub(r'@LEND:([^,@]+),(\d),([^,@]+),([^,@]+),([^,@]+)@',lend,T)
 def back(m):
-    R,i,nu,ys,e,d,zs,l=[m[k] for k in range(1,9)]; x=args(R,i,nu,ys,e); s=sub(int(i))
-    return 'use3 W (later (‵ (MutSlice (named %s) κ%s %s .own (at-last x%s %s) (v%s ∷ [])) ⊛ ‵ (flft κ%s q%s))) (comes-at %s %s %s room%s %s) $ await ! tt $ split !'%(i,s,R,s,zs,s,s,s,x,d,zs,s,l)
+    R,i,nu,ys,e,d,zs,l=m[1],int(m[2]),*[m[k] for k in range(3,9)]
+    return comes(R,i,args(R,i,nu,ys,e),d,zs,l)
 T=re.sub(r'@BACK:([^,@]+),(\d),([^,@]+),([^,@]+),([^,@]+),([^,@]+),([^,@]+),([^,@]+)@',back,T)
 W64='word'
-def sl(n,k,r): return 'sliceTy (tyRef %s %s (pointee (%s .written)))'%(n,k,r)
 def rf(r): return 'ref-again %s'%r
 def sle(r): return 'slice-again %s'%r
 def slp(n,r): return 'slice %d %s'%(n,r)
 tys={0:'R′.mir',1:'file-slice',2:slp(1,'u32'),3:slp(2,'u32'),4:slp(3,'T.the-row'),5:slp(4,'u8'),
 6:W64,7:W64,8:'B′.mir',9:'S′.mir',10:W64,11:'S′.mir',12:rf('u32'),13:sle('u32'),14:rf('T.the-row'),15:sle('T.the-row'),16:rf('u32'),17:sle('u32'),18:rf('u32'),19:sle('u32'),20:rf('u8'),21:sle('u8'),22:'tyUnit',23:rf('T.the-row'),24:sle('T.the-row'),25:rf('u32'),26:sle('u32'),27:rf('u32'),28:sle('u32'),29:rf('u8'),30:sle('u8')}
 pv={1:'v₀',2:'v₁',3:'v₂',4:'v₃',5:'v₄'}
-def par(t): return '('+t+')' if ' ' in t else t
-def loc(vs):
-    L=[]
-    for i in reversed(range(N)):
-        if i in vs: L.append('‵ (fat fullShare %s l%s 0 %s)'%(par(tys[i]),sub(i),vs[i]))
-        else: L.append('‵ (froom %s l%s 0)'%(par(tys[i]),sub(i)))
-        L.append('‵ (fdies %s l%s)'%(par(tys[i]),sub(i)))
-    return ' ∷ '.join(L)+' ∷ []'
-EN=' ∷ '.join('(%s, l%s)'%(tys[i],sub(i)) for i in range(N))+' ∷ []'
-T=T.replace('@EN@',EN)
+T=T.replace('@EN@',typed(tys))
 def chain(ids,vs,end):
     s=''
     for i in ids:
@@ -535,23 +522,15 @@ def chain(ids,vs,end):
     s=s[:-1]+end
     return s+')'*(s.count('(')-s.count(')'))
 def mid(vs): return 'Temps ('+chain(range(11,5,-1),vs,'Params')+')'
-def wrapped(ids,vs,end): return chain(ids,vs,end)
 T=T.replace('@TEMPS@',chain(range(30,11,-1),{},'Γ')).replace('@PARAMS@',chain(range(5,-1,-1),pv,'[]'))
 T=T.replace('@LOCA@',mid({})).replace('@LOCB@',mid({8:'(mach-b b)'})).replace('@LOCC@',mid({9:'(mach-p (b .start))',10:'(vint w64 (b .records))',11:'(mach-p p)'})).replace('@LOCD@',mid({9:'(mach-p (b .start))',11:'(mach-p p)'}))
-T=T.replace('@FORGET@',' $ '.join('forget ! %s refl'%P(10,i) for i in [0,1,2,3,4,5,9,11]+list(range(25,31))))
-T=T.replace('@FORGETB@',' $ '.join('forget ! %s refl'%P(10,i) for i in range(14,22)))
+T=T.replace('@FORGET@',forgets(10,N,[0,1,2,3,4,5,9,11,*range(25,31)]))
+T=T.replace('@FORGETB@',forgets(10,N,range(14,22)))
 T=T.replace('@FREE@',frees(10,N)).replace('@ALLOC@',allocs(N)).replace('@OWN@',str(2*N+1)).replace('@TOK@',str(2*N))
-T=T.replace('@LS@',' '.join('l'+sub(i) for i in range(N)))
-T=re.sub(r'@(\d+),(\d+)@',lambda m:P(int(m[1]),int(m[2])),T)
-def close(T,start,mark):
-    i=T.index(start); j=T.index(mark)
-    seg='\n'.join(l for l in T[i:j].split('\n') if not l.strip().startswith('--'))
-    n=seg.count('(')-seg.count(')')
-    return T.replace(mark,')'*n)
+T=positions(T.replace('@LS@',names(N)),N)
 T=close(T,'        last cs₃ lcs₃ cleared =\n','@CLOSE1@')
 T=close(T,'        third =\n','@CLOSE2@')
 T=close(T,'      second =\n','@CLOSE3@')
 T=close(T,'    begins =\n','@CLOSE4@')
 T=close(T,'  walk C Λ fm known-begin known-drive known-clear known-finish =\n','@CLOSE5@')
-assert '@' not in T, re.findall(r'@[^@ ]*@?',T)[:5]
-open(sys.argv[1],'w').write(T)
+write(T,sys.argv[1])

@@ -1,9 +1,7 @@
 # Writes the proof of run, of the program session, to the file that it is given.
 import sys
 from context import *
-CALL='Rattle.session_call.proofs.nikvoldra_session'
-KEY='session-call·nikvoldra-session'
-OUT=sys.argv[1]
+ELEM=['u8','u32','u32','u8']
 HEAD='''-- `session::run` is safe and ends: a walk of its MIR, by hand. It knows of `nikvoldra_session` that it meets its contract.
 -- The sixteen records are a local array, which is lent whole for a lifetime of the call (`Lent`) and comes back as room; `work`, `words` and `output` go to the call for good (`gave-slice`).
 -- Assumes nothing.
@@ -93,17 +91,7 @@ module _ {M : Type 1} (𝓤 : URA M) (H : Heap 𝓤) (A : Atoms 𝓤) (W : Given
   abbrev a : Arg
   a = (x₀, (x₁, (x₂, (x₃, tt))))
 
-  abbrev v₀ : Val
-  v₀ = sliceVal (x₀ .ptr) (length (x₀ .now))
-
-  abbrev v₁ : Val
-  v₁ = sliceVal (x₁ .ptr) (length (x₁ .now))
-
-  abbrev v₂ : Val
-  v₂ = sliceVal (x₂ .ptr) (length (x₂ .now))
-
-  abbrev v₃ : Val
-  v₃ = sliceVal (x₃ .ptr) (length (x₃ .now))
+@VALUES@
 
   abbrev vals : List Val × (List Val × (List Val × (List Val × Unit {0})))
   vals = (v₀ ∷ [], (v₁ ∷ [], (v₂ ∷ [], (v₃ ∷ [], tt))))
@@ -155,58 +143,28 @@ run-spec 𝓤 H 𝓜 𝓖 𝓡 =
     (run-meets 𝓤 H (𝓖 .A) (givenOf 𝓤 H 𝓜 𝓖) (𝓜 .mem) (𝓡 .run) (tablesOf 𝓤 H 𝓜 (tables 𝓤 H 𝓜 𝓡 code.env))
     (cited 𝓤 H (Call 𝓤 H (𝓖 .A) (𝓜 .mem) (𝓡 .run)) 𝓜 𝓡 code.env #call call-def.routine code.calls-@KEY@ (call-thm.met 𝓤 H 𝓜 𝓖 𝓡)))
 '''
-FILE='‵ (ShrSlice (named 0) κ₀ u8 .own x₀ (v₀ ∷ []))'
+FILE=own('u8',0,kind='ShrSlice')
 SL='‵ (MutSlice (named 3) (ν ∷ []) T.the-row .own (records l γ) (sliceVal (l, 0) 16 ∷ []))'
-def mut(i,ty): return '‵ (MutSlice (named %d) κ%s %s .own x%s (v%s ∷ []))'%(i,sub(i),ty,sub(i),sub(i))
-def tok(i): return '‵ (flft κ%s q%s)'%(sub(i),sub(i))
+NEW='‵ (flft (ν ∷ []) fullShare)'
 # what the call asks
-items=[FILE,tok(0),mut(1,'u32'),tok(1),mut(2,'u32'),tok(2),SL,'‵ (flft (ν ∷ []) fullShare)',mut(3,'u8'),tok(3)]
-# as the callee labels output
+asked=[FILE,tok(0),own('u32',1),tok(1),own('u32',2),tok(2),SL,NEW,own('u8',3),tok(3)]
 g=Walk(['F','t0','W','t1','D','t2','S','tn','O','t3'])
-g.e('qed W ('+' ∷ '.join(items)+' ∷ []) ∵')
-g.comment('what the parameters own')
-g.e('nothing ! $'); g.ctx=['X']+g.ctx
-for n in ['O','S','D','W','F']:
-    g.move(n,'X'); g.e('fjoin ! $'); g.head(2,'X')
-g.comment('[what they own; the tokens]')
-g.e('nothing ! $'); g.ctx=['Y']+g.ctx
-for n in ['t3','tn','t2','t1','t0']:
-    g.move(n,'Y'); g.e('join ! $'); g.head(2,'Y')
-g.e('join ! $ frame ! $ done !')
-goes='  goes-call : (l ν : ℕ) (γ : GName) → ent 𝓤 (⋆ 𝓤 H A ('+' ∷ '.join(items)+' ∷ [])) (Call 𝓤 H A mem run .pre (to-call l ν γ))\n  goes-call l ν γ =\n'+g.text(6)
+g.e('qed W ('+items(asked)+') ∵')
+g.asks(['O','S','D','W','F'],['t3','tn','t2','t1','t0'])
+goes='  goes-call : (l ν : ℕ) (γ : GName) → ent 𝓤 (⋆ 𝓤 H A ('+items(asked)+')) (Call 𝓤 H A mem run .pre (to-call l ν γ))\n  goes-call l ν γ =\n'+g.text(6)
 
-exitems=[FILE,'‵ (flft κ₀ q₀)','‵ (flft κ₁ q₁)','‵ (flft κ₂ q₂)','‵ (flft κ₃ q₃)','‵ (finally u32 (x₁ .name) w₁)','‵ (finally u32 (x₂ .name) w₂)','‵ (finally u8 (x₃ .name) w₃)','‵ (R.the-row .own r (w ∷ []))']
-x=Walk(['F','t0','t1','t2','t3','f1','f2','f3','R'])
-x.e('qed W ('+' ∷ '.join(exitems)+' ∷ []) ∵')
+had=[FILE]+[tok(i) for i in range(4)]+[finally_(ELEM[i],i,'w'+sub(i)) for i in (1,2,3)]+['‵ (R.the-row .own r (w ∷ []))']
+order=['t0','t1','t2','t3','f1','f2','f3','R']
+x=Walk(['F']+order)
+x.e('qed W ('+items(had)+') ∵')
 x.e('suffices ! _ (ends-at 𝓤 H A run′.ended stayed (run′.clauses 𝓤 H A mem run) W bound w r (tt, (w₁, (w₂, (w₃, tt)))) (tt, (e₁, (e₂, (e₃, tt))))) $')
-x.comment('the tokens')
-x.e('nothing ! $'); x.ctx=['Y']+x.ctx
-for n in ['t3','t2','t1','t0']:
-    x.move(n,'Y'); x.e('join ! $'); x.head(2,'Y')
-x.comment('what is had of the parameters')
-x.e('nothing ! $'); x.ctx=['X']+x.ctx
-for n in ['f3','f2','f1','F']:
-    x.move(n,'X'); x.e('fjoin ! $'); x.head(2,'X')
+x.has(['f3','f2','f1','F'],['t3','t2','t1','t0'])
 x.move('X','R'); x.e('join ! $'); x.head(2,'XR')
 x.move('Y','XR'); x.e('join ! $ frame ! $ done !')
-exits='  exits : (r : SessionAnswer) (w : Val) (w₁ w₂ w₃ : List ℕ) → length w₁ ≡ length (x₁ .now) → length w₂ ≡ length (x₂ .now) → length w₃ ≡ length (x₃ .now)\n      → ent 𝓤 (⋆ 𝓤 H A ('+' ∷ '.join(exitems)+' ∷ [])) (Post w)\n  exits r w w₁ w₂ w₃ e₁ e₂ e₃ =\n'+x.text(6)
+exits='  exits : (r : SessionAnswer) (w : Val) (w₁ w₂ w₃ : List ℕ) → length w₁ ≡ length (x₁ .now) → length w₂ ≡ length (x₂ .now) → length w₃ ≡ length (x₃ .now)\n      → ent 𝓤 (⋆ 𝓤 H A ('+items(had)+')) (Post w)\n  exits r w w₁ w₂ w₃ e₁ e₂ e₃ =\n'+x.text(6)
 
 w=Walk(['toks','owns'])
-w.e('qed W ((‵ (flft κ₀ q₀) ⊛ ‵ (flft κ₁ q₁) ⊛ ‵ (flft κ₂ q₂) ⊛ ‵ (flft κ₃ q₃) ⊛ ‵ ftrue) ∷ ‵ (owns (ShrSlice (named 0) κ₀ u8 ∷ MutSlice (named 1) κ₁ u32 ∷ MutSlice (named 2) κ₂ u32 ∷ MutSlice (named 3) κ₃ u8 ∷ []) a vals) ∷ []) ∵ enter ! C Λ code.function (v₀ ∷ v₁ ∷ v₂ ∷ v₃ ∷ []) _ $')
-w.alloc(15)
-w.e('params1 ! $')
-for i in range(4):
-    w.e('pass1 ! (init ! %d refl (tt, (tt, (record { fits = room%s .0 }, tt)))) $'%(w.at('_%d'%(i+1)),sub(i)))
-w.e('pass0 ! $')
-w.comment('what the parameters own, and the tokens, one by one')
-w.move('owns')
-for n in ['F','W','D','O']:
-    w.e('fsplit ! $'); w.head(1,n,'rest'); w.move('rest')
-w.e('drop ! $'); w.ctx=w.ctx[1:]
-w.move('toks')
-for n in ['t0','t1','t2','t3']:
-    w.e('split ! $'); w.head(1,n,'rest'); w.move('rest')
-w.e('drop ! $'); w.ctx=w.ctx[1:]
+w.enter(ELEM,'FWDO',15)
 w.comment('the sixteen records')
 w.assign('agg ! '+w.ops(['(lit ! tt)']*4),6,'(LL.lawful T.the-type T′.the-laws 𝓤 H A W .typed blank _ blank-is .0)')
 w.e('owned ! T.the-row (Is T.the-row) (LL.makes T.the-type T′.the-plain 𝓤 H A) blank _ blank-is $ use1 W (‵ (Array T.the-row 16 .own blanks (zeros ∷ []))) (array-repeat 𝓤 H A W T.the-row (LL.copy T.the-type T′.the-copy 𝓤 H A W) 16 blank (LL.val T.the-type T′.the-laws blank)) $')
@@ -224,51 +182,36 @@ w.e('lft-new ! tt (λ ν.'); w.ctx=['tn']+w.ctx
 w.move('_5','arr')
 w.e('use2 W (later (some (λ (γ : GName). ‵ (MutSlice (named 3) (ν ∷ []) T.the-row .own (records l₅ γ) (sliceVal (l₅, 0) 16 ∷ [])) ⊛ ‵ (flent (ν ∷ []) (Held T.the-row 16 l₅ 0 γ))))) (lends-array 𝓤 H A W T.the-row (named 3) (ν ∷ []) 16 l₅ tt room blanks zeros) $ await ! tt $ pick ! (λ γ. split ! $')
 w.head(2,'S','lent')
-w.comment('a copy of `file` is kept')
-w.move('F')
-w.e('use1 W (%s ⊛ %s) (shr-slice-copy 𝓤 H A W (named 0) κ₀ u8 .twice x₀ (v₀ ∷ [])) $ split ! $'%(FILE,FILE))
-w.head(1,'F','F2')
+w.copy_file()
 w.move('F','t0','W','t1','D','t2','S','tn','O','t3')
 w.e('group ! 10 $ use1 W (raw (Call 𝓤 H A mem run .pre (to-call l₅ ν γ))) (goes-call l₅ ν γ) $')
 w.head(10,'pre')
 w.comment('[what the call asks; a copy of `file`; what the lender keeps; _14; …; _0]')
 w.e('calls-at ! fm (Call 𝓤 H A mem run) known (to-call l₅ ν γ) '+w.ops([w.ld(i) for i in (1,8,10,12,14)])+' (λ w.')
 KS='(κ₀, (κ₁, (κ₂, (ν ∷ [], (κ₃, tt)))))'
-w.e('use1 W (later (some (λ (r : SessionAnswer). ((‵ (flft κ₀ q₀) ⊛ ‵ (flft κ₁ q₁) ⊛ ‵ (flft κ₂ q₂) ⊛ ‵ (flft (ν ∷ []) fullShare) ⊛ ‵ (flft κ₃ q₃) ⊛ ‵ ftrue) ⊛ ‵ (R.the-row .own r (w ∷ []))) ⊛ raw (ensured 𝓤 H A call.ended (call.clauses 𝓤 H A mem run) %s (given-call l₅ γ) tt r)))) (id⊢ 𝓤 _) $ await ! tt $ pick ! (λ r. split ! $'%KS)
-w.head(1,'tr','ens')
-w.move('ens')
+w.answer('r','SessionAnswer','R','w',[tok(0),tok(1),tok(2),NEW,tok(3)],'call',KS+' (given-call l₅ γ)')
 LAST='Unit {0} × (List ℕ × (List ℕ × (List Checkpoint × (List ℕ × Unit {0}))))'
 w.e('use1 W (some (λ (zs : %s). ‵ (lasts call.ended %s (given-call l₅ γ) zs) ⊛ raw (call.clauses 𝓤 H A mem run %s (given-call l₅ γ) .ensures tt r (atExit call.ended %s (given-call l₅ γ) zs)))) (id⊢ 𝓤 _) $ pick ! (λ zs. split ! $'%(LAST,KS,KS,KS))
 w.head(1,'lasts','facts')
 w.drop('facts')
 w.comment('each last list, and its length')
-w.move('lasts')
-w.e('fsplit ! $'); w.head(1,'n0','rest'); w.drop('n0')
-for k,n in enumerate(['f1','f2','fs','f3']):
-    w.move('rest'); w.e('fsplit ! $'); w.head(1,'one','rest')
-    w.e('fsplit ! $'); w.head(1,n,'len'); w.move('len'); w.e('feqL ! (λ e%s.'%sub(k+1)); w.ctx=w.ctx[1:]
-w.move('rest'); w.drop('rest')
+w.lasts(1,['f1','f2','fs','f3'],['e₁','e₂','e₃','e₄'])
 w.move('tr'); w.e('split ! $'); w.head(1,'toks','R')
 w.comment('the lifetime is ended, and the room of the array comes back')
-w.move('toks')
-for n in ['t0','t1','t2','tn','t3']:
-    w.e('split ! $'); w.head(1,n,'rest'); w.move('rest')
-w.e('drop ! $'); w.ctx=w.ctx[1:]
-w.move('tn'); w.e('lft-end ! tt $'); w.head(1,'dead')
+w.scatter('toks',['t0','t1','t2','tn','t3'],'split')
+w.dies('tn')
 w.move('dead','lent','fs')
 w.e('use3 W (later (‵ (froom (tyArray T′.mir 16) l₅ 0))) (array-back 𝓤 H A W T.the-row (named 3) (ν ∷ []) 16 l₅ γ (zs .1 .1 .1 .0)) $ await ! tt $')
 w.head(3,'_5')
 w.comment('[the room of _5; the tokens; the answer; the last lists; `file`; _14; …; _0]')
 w.move('R')
 w.e('peeks ! R.the-row (Is R.the-row) (shows 𝓤 H A R.the-row) r (w ∷ []) (λ r-is.')
-w.e('land ! (from ! (stop !)) (init ! %d refl (LL.lawful R.the-type R′.the-laws 𝓤 H A W .typed r _ r-is .0)) $'%w.at('_0'))
+w.land(0,'R','r','r-is')
 w.e('returns ! (%s) $'%w.look(0))
 w.forget(skip=(5,))
 w.free()
-w.drop(*[c for c in w.ctx if c not in ('F2','t0','t1','t2','t3','f1','f2','f3','R')])
-order=['F2','t0','t1','t2','t3','f1','f2','f3','R']
-w.move(*order)
+w.leave('F2',*order)
 w.e('by ! (exits r w (zs .1 .0) (zs .1 .1 .0) (zs .1 .1 .1 .1 .0) e₁ e₂ e₄)')
 walk=w.text(8)
-T=HEAD.replace('@GOES@',goes).replace('@EXITS@',exits).replace('@WALK@',walk).replace('@CALL@',CALL).replace('@KEY@',KEY)
-open(OUT,'w').write(T)
+T=HEAD.replace('@VALUES@',values(4)).replace('@GOES@',goes).replace('@EXITS@',exits).replace('@WALK@',walk).replace('@CALL@',CALL).replace('@KEY@',KEY)
+open(sys.argv[1],'w').write(T)

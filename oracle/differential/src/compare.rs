@@ -1,225 +1,141 @@
 //! The call on an input, compared with the Rust's reader.
 
-use crate::inputs::{Set, sets};
-use crate::lent::{Lent, long, short};
-use crate::share::{self, Part};
+use crate::inputs::{self, Input};
+use crate::lent::{lengths, shorten};
+use crate::numbers::Numbers;
+use crate::sets::{self, Compare, Count, Set};
+use crate::trial::{Call, Expected, Trial};
 use nikvoldra::call::{ATOMS_LENGTH, BYTES_LENGTH, PAIRS_LENGTH, ReadAnswer, WORK_LENGTH};
-use oracle::rng::Rng;
 use oracle::{hex, reading};
-use std::time::Instant;
 
 /// `nikvoldra::call::read`, or what a test has in its place.
-pub type ReadCall = fn(
-    input: &[u8],
-    work: &mut [u32],
-    pairs: &mut [u32],
-    atoms: &mut [u32],
-    bytes: &mut [u8],
-) -> ReadAnswer;
+pub type ReadCall = Call<u32, ReadAnswer>;
 
-/// Bytes of rubbish after the input.
-const AFTER: usize = 16;
+/// The least lengths of work, pairs, atoms and bytes.
+const LEAST: [usize; 4] = [WORK_LENGTH, PAIRS_LENGTH, ATOMS_LENGTH, BYTES_LENGTH];
 /// Of so many inputs one is also tried with slices that are too short.
 const SHORT_EACH: usize = 16;
 
 /// How many inputs got each number, and how many further calls had slices too
 /// short.
-#[derive(Default, Clone)]
+#[derive(Default)]
 pub struct Tally {
-    pub inputs: u64,
-    pub numbers: [u64; 17],
-    pub short: u64,
+    inputs: u64,
+    numbers: Numbers<17>,
+    short: u64,
 }
 
-impl Tally {
-    fn add(&mut self, other: &Tally) {
+impl Count for Tally {
+    fn add(&mut self, other: &Self) {
         self.inputs += other.inputs;
+        self.numbers.add(&other.numbers);
         self.short += other.short;
-        for (mine, theirs) in self.numbers.iter_mut().zip(other.numbers) {
-            *mine += theirs;
-        }
-    }
-
-    fn numbers(&self) -> String {
-        (0..17)
-            .filter(|n| self.numbers[*n] > 0)
-            .map(|n| format!("{n}: {}", self.numbers[n]))
-            .collect::<Vec<_>>()
-            .join(", ")
     }
 }
 
-/// The call, the slices that it is lent, and a tally.
-pub struct Comparison {
-    call: ReadCall,
-    rng: Rng,
-    work: Lent<u32>,
-    pairs: Lent<u32>,
-    atoms: Lent<u32>,
-    bytes: Lent<u8>,
-    input: Vec<u8>,
+/// The call with the slices that it is lent, and a tally.
+struct Comparison {
+    trial: Trial<u32, ReadAnswer>,
     /// the slices have their least lengths and hold what an answer past question 2 left
     settled: bool,
-    pub tally: Tally,
+    tally: Tally,
 }
 
 fn flat(pairs: &[(u32, u32)]) -> Vec<u32> {
     pairs.iter().flat_map(|(a, b)| [*a, *b]).collect()
 }
 
+/// The answer as the call gives it, and the slices: untouched with 1 and 2.
+fn expected(r: reading::ReadAnswer) -> Expected<u32, ReadAnswer> {
+    let answer = ReadAnswer {
+        number: r.number,
+        root: r.root,
+        pairs: r.pairs.len() as u32,
+        atoms: r.atoms.len() as u32,
+        bytes: r.bytes.len() as u32,
+        ghosts: r.ghosts,
+    };
+    let left = match r.number {
+        1 | 2 => None,
+        _ => Some((flat(&r.pairs), flat(&r.atoms), r.bytes)),
+    };
+    Expected { answer, left }
+}
+
 impl Comparison {
-    pub fn new(call: ReadCall, seed: u64) -> Self {
-        let mut rng = Rng::new(seed);
+    fn new(call: ReadCall, seed: u64) -> Self {
+        let slices = [
+            ("work", WORK_LENGTH),
+            ("pairs", PAIRS_LENGTH),
+            ("atoms", ATOMS_LENGTH),
+            ("bytes", BYTES_LENGTH),
+        ];
         Self {
-            call,
-            work: Lent::new("work", WORK_LENGTH, &mut rng),
-            pairs: Lent::new("pairs", PAIRS_LENGTH, &mut rng),
-            atoms: Lent::new("atoms", ATOMS_LENGTH, &mut rng),
-            bytes: Lent::new("bytes", BYTES_LENGTH, &mut rng),
-            input: vec![],
+            trial: Trial::new(call, slices, seed),
             settled: false,
             tally: Tally::default(),
-            rng,
         }
-    }
-
-    fn minimums(&self) -> [usize; 4] {
-        [
-            self.work.minimum(),
-            self.pairs.minimum(),
-            self.atoms.minimum(),
-            self.bytes.minimum(),
-        ]
-    }
-
-    fn fill(&mut self, lengths: [usize; 4]) {
-        self.work.fill(lengths[0], &mut self.rng);
-        self.pairs.fill(lengths[1], &mut self.rng);
-        self.atoms.fill(lengths[2], &mut self.rng);
-        self.bytes.fill(lengths[3], &mut self.rng);
-    }
-
-    /// Each at its minimum, or each at or above it.
-    fn lengths(&mut self) -> [usize; 4] {
-        let least = self.minimums();
-        if self.rng.percent(50) {
-            return least;
-        }
-        least.map(|n| long(&mut self.rng, n))
-    }
-
-    /// One slice, or each with some chance, one below its minimum or far below.
-    fn short_lengths(&mut self) -> [usize; 4] {
-        let mut lengths = self.lengths();
-        let least = self.minimums();
-        let one = self.rng.below(4);
-        let more = self.rng.percent(30);
-        for i in 0..4 {
-            if i == one || more && self.rng.percent(50) {
-                lengths[i] = short(&mut self.rng, least[i]);
-            }
-        }
-        lengths
-    }
-
-    fn run(&mut self, input: &[u8]) -> ReadAnswer {
-        self.input.clear();
-        self.input.extend(input);
-        self.input.extend(self.rng.bytes(AFTER));
-        self.run_on(input.len())
-    }
-
-    /// The call on so many bytes of the input and the rubbish after it.
-    fn run_on(&mut self, length: usize) -> ReadAnswer {
-        (self.call)(
-            &self.input[..length],
-            self.work.slice(),
-            self.pairs.slice(),
-            self.atoms.slice(),
-            self.bytes.slice(),
-        )
-    }
-
-    fn untouched(&self) -> Result<(), String> {
-        self.work.untouched()?;
-        self.pairs.untouched()?;
-        self.atoms.untouched()?;
-        self.bytes.untouched()
-    }
-
-    /// The answer and the slices are as `expected` has them.
-    fn agrees(&self, now: ReadAnswer, expected: &reading::ReadAnswer) -> Result<(), String> {
-        let answer = ReadAnswer {
-            number: expected.number,
-            root: expected.root,
-            pairs: expected.pairs.len() as u32,
-            atoms: expected.atoms.len() as u32,
-            bytes: expected.bytes.len() as u32,
-            ghosts: expected.ghosts,
-        };
-        if now != answer {
-            return Err(format!("the port: {now:?}\nexpected: {answer:?}"));
-        }
-        if matches!(answer.number, 1 | 2) {
-            return self.untouched();
-        }
-        self.work.holds(&[])?;
-        self.pairs.holds(&flat(&expected.pairs))?;
-        self.atoms.holds(&flat(&expected.atoms))?;
-        self.bytes.holds(&expected.bytes)
     }
 
     /// One call; `whole`: with all words of the slices rubbish before it, and
     /// compared after it.
-    pub fn compare(&mut self, input: &[u8], whole: bool) -> Result<(), String> {
-        let expected = reading::read(input);
-        if whole || !self.settled {
-            let lengths = if whole {
-                self.lengths()
-            } else {
-                self.minimums()
-            };
-            self.fill(lengths);
-            self.settled = !whole && expected.number != 2;
+    fn compare(&mut self, input: &[u8], whole: bool) -> Result<(), String> {
+        let expected = expected(reading::read(input));
+        let number = expected.answer.number;
+        if whole {
+            let lengths = lengths(&mut self.trial.rng, LEAST);
+            self.trial.fill(lengths);
+            self.settled = false;
+        } else if !self.settled {
+            self.trial.fill(LEAST);
+            self.settled = number != 2;
         } else {
-            self.work.sprinkle(&mut self.rng);
-            self.pairs.sprinkle(&mut self.rng);
-            self.atoms.sprinkle(&mut self.rng);
-            self.bytes.sprinkle(&mut self.rng);
+            self.trial.sprinkle();
         }
-        let now = self.run(input);
-        self.agrees(now, &expected)?;
+        let now = self.trial.run(input);
+        self.trial.agrees(&now, &expected)?;
         self.tally.inputs += 1;
-        self.tally.numbers[expected.number as usize] += 1;
+        self.tally.numbers.count(number);
         Ok(())
     }
 
     /// One call with slices that are too short.
-    pub fn compare_short(&mut self, input: &[u8]) -> Result<(), String> {
-        let lengths = self.short_lengths();
-        self.fill(lengths);
+    fn compare_short(&mut self, input: &[u8]) -> Result<(), String> {
+        let rng = &mut self.trial.rng;
+        let lengths = lengths(rng, LEAST);
+        let one = rng.below(4);
+        let lengths = shorten(rng, lengths, LEAST, one);
+        self.trial.fill(lengths);
         self.settled = false;
-        let now = self.run(input);
-        self.agrees(now, &reading::ReadAnswer::refused(1))?;
+        let now = self.trial.run(input);
+        let refused = expected(reading::ReadAnswer::refused(1));
+        self.trial.agrees(&now, &refused)?;
         self.tally.short += 1;
         Ok(())
     }
 }
 
-/// One input of a set.
-fn run_one(c: &mut Comparison, set: &Set, turn: usize, i: usize) -> Result<(), String> {
-    let input = (set.get)(i);
-    let mut result = c.compare(&input, turn.is_multiple_of(set.whole_each));
-    if result.is_ok() && turn % SHORT_EACH == 1 && set.whole_each == 1 {
-        result = c.compare_short(&input);
+impl Compare for Comparison {
+    type Input = Input;
+    type Tally = Tally;
+
+    fn one(&mut self, input: &Input, turn: usize, i: usize) -> Result<(), String> {
+        let Input { bytes, whole_each } = input;
+        let mut result = self.compare(bytes, turn.is_multiple_of(*whole_each));
+        if result.is_ok() && turn % SHORT_EACH == 1 && *whole_each == 1 {
+            result = self.compare_short(bytes);
+        }
+        result.map_err(|text| {
+            format!(
+                "input {i}: the port and the Rust differ\n{text}\ninput: {}",
+                hex::encode(bytes)
+            )
+        })
     }
-    result.map_err(|text| {
-        format!(
-            "{}, input {i}: the port and the Rust differ\n{text}\ninput: {}",
-            set.name,
-            hex::encode(&input)
-        )
-    })
+
+    fn tally(&mut self) -> &mut Tally {
+        &mut self.tally
+    }
 }
 
 /// All sets, at most `most` inputs of each but the generated ones; `say` gets a
@@ -231,49 +147,26 @@ pub fn run(
     most: usize,
     say: impl FnMut(&str),
 ) -> Result<Tally, String> {
-    run_sets(call, sets(generated, seed), seed, most, say)
+    run_sets(call, inputs::sets(generated, seed), seed, most, say)
 }
 
 /// The sets one after the other.
 pub fn run_sets(
     call: ReadCall,
-    sets: Vec<Set>,
+    sets: Vec<Set<Input>>,
     seed: u64,
     most: usize,
     mut say: impl FnMut(&str),
 ) -> Result<Tally, String> {
-    let threads = std::thread::available_parallelism().map_or(1, usize::from);
-    let mut cs: Vec<Comparison> = (0..threads)
-        .map(|t| Comparison::new(call, seed.wrapping_add(t as u64)))
-        .collect();
-    let mut total = Tally::default();
+    let new = |seed| Comparison::new(call, seed);
     let mut names = vec![];
-    for set in sets {
-        let began = Instant::now();
-        let most = if set.name == "generated" {
-            set.size
-        } else {
-            most
-        };
-        share::run(&mut cs, &Part::of(set.size, most, seed), |c, turn, i| {
-            run_one(c, &set, turn, i)
-        })?;
-        let mut tally = Tally::default();
-        for c in &mut cs {
-            tally.add(&c.tally);
-            c.tally = Tally::default();
-        }
+    let total = sets::run(new, sets, seed, most, |name, tally, seconds| {
         say(&format!(
-            "{} {}; by number {}; {} calls with slices too short; {:.1} s",
-            tally.inputs,
-            set.name,
-            tally.numbers(),
-            tally.short,
-            began.elapsed().as_secs_f64()
+            "{} {name}; by number {}; {} calls with slices too short; {seconds:.1} s",
+            tally.inputs, tally.numbers, tally.short
         ));
-        names.push(format!("{} {}", tally.inputs, set.name));
-        total.add(&tally);
-    }
+        names.push(format!("{} {name}", tally.inputs));
+    })?;
     say(&format!(
         "{} inputs agreed ({}), and {} calls with slices too short",
         total.inputs,
@@ -285,7 +178,8 @@ pub fn run_sets(
 
 #[cfg(test)]
 mod tests {
-    use super::{Comparison, ReadCall, run};
+    use super::{Comparison, LEAST, ReadCall, expected, run};
+    use crate::lent::lengths;
     use crate::stand_in::{Fault, with_fault};
     use oracle::reading;
 
@@ -320,25 +214,10 @@ mod tests {
     /// Both where the slices are cleared and where they are untouched.
     #[test]
     fn a_word_outside_a_slice_is_noticed() {
-        let outside: [fn(&mut Comparison, bool); 4] = [
-            |c, after| c.work.write_outside(after),
-            |c, after| c.pairs.write_outside(after),
-            |c, after| c.atoms.write_outside(after),
-            |c, after| c.bytes.write_outside(after),
-        ];
-        let mut c = Comparison::new(RIGHT, 1);
+        let mut trial = Comparison::new(RIGHT, 1).trial;
         for input in [vec![0x80], vec![0x80; reading::MAX_INPUT + 1]] {
-            let expected = reading::read(&input);
-            for (i, write) in outside.into_iter().enumerate() {
-                for after in [false, true] {
-                    let lengths = c.lengths();
-                    c.fill(lengths);
-                    let now = c.run(&input);
-                    assert_eq!(c.agrees(now, &expected), Ok(()));
-                    write(&mut c, after);
-                    assert!(c.agrees(now, &expected).is_err(), "slice {i}, {after}");
-                }
-            }
+            let expected = expected(reading::read(&input));
+            trial.notices_outside(&input, |rng| lengths(rng, LEAST), &expected);
         }
     }
 
@@ -346,13 +225,9 @@ mod tests {
     #[test]
     fn a_byte_past_the_input_is_noticed() {
         let input = [0x82, 0x61];
-        let expected = reading::read(&input);
-        let mut c = Comparison::new(RIGHT, 1);
-        let lengths = c.lengths();
-        c.fill(lengths);
-        let now = c.run(&input);
-        assert_eq!(c.agrees(now, &expected), Ok(()));
-        let now = c.run_on(input.len() + 1);
-        assert!(c.agrees(now, &expected).is_err());
+        let expected = expected(reading::read(&input));
+        let mut trial = Comparison::new(RIGHT, 1).trial;
+        let lengths = lengths(&mut trial.rng, LEAST);
+        trial.notices_a_byte_past(&input, lengths, &expected);
     }
 }

@@ -1,18 +1,16 @@
-//! The inputs that are compared, in sets. A set gives its inputs by number, so
-//! that threads can share it and a run can take a part of it.
+//! The inputs that are compared, in sets.
 
+use crate::sets::Set;
 use oracle::generate::exhaustive::LETTERS;
 use oracle::generate::trees::{encode_atom, path_bytes};
 use oracle::generate::{any_tree, damage, tree};
 use oracle::reading::MAX_INPUT;
 use oracle::rng::Rng;
 
-pub struct Set {
-    pub name: &'static str,
-    pub size: usize,
-    /// in how many calls of this set one has the slices filled with rubbish and compared whole
+pub struct Input {
+    pub bytes: Vec<u8>,
+    /// In how many calls of its set one has the slices filled with rubbish and compared whole.
     pub whole_each: usize,
-    pub get: Box<dyn Fn(usize) -> Vec<u8> + Sync>,
 }
 
 fn set(
@@ -20,17 +18,15 @@ fn set(
     size: usize,
     whole_each: usize,
     get: impl Fn(usize) -> Vec<u8> + Sync + 'static,
-) -> Set {
-    Set {
-        name,
-        size,
+) -> Set<Input> {
+    Set::new(name, size, move |i| Input {
+        bytes: get(i),
         whole_each,
-        get: Box::new(get),
-    }
+    })
 }
 
 /// The sets, the small ones first.
-pub fn sets(generated: usize, seed: u64) -> Vec<Set> {
+pub fn sets(generated: usize, seed: u64) -> Vec<Set<Input>> {
     let boundaries = boundaries();
     vec![
         set("at the boundaries of prefixes", boundaries.len(), 1, {
@@ -57,7 +53,7 @@ pub fn sets(generated: usize, seed: u64) -> Vec<Set> {
 }
 
 /// The inputs of 3 bytes whose first byte is one of these.
-pub fn three(first: u8, last: u8) -> Set {
+pub fn three(first: u8, last: u8) -> Set<Input> {
     let (first, last) = (first as usize, last as usize);
     let size = (last + 1).saturating_sub(first) << 16;
     set("of 3 bytes", size, 16, move |i| {

@@ -59,7 +59,7 @@ impl Word for Checkpoint {
 }
 
 /// A length at or above the minimum.
-pub fn long(rng: &mut Rng, minimum: usize) -> usize {
+fn long(rng: &mut Rng, minimum: usize) -> usize {
     match rng.below(4) {
         0 => minimum,
         1 => minimum + 1,
@@ -69,7 +69,7 @@ pub fn long(rng: &mut Rng, minimum: usize) -> usize {
 }
 
 /// A length one below the minimum or far below.
-pub fn short(rng: &mut Rng, minimum: usize) -> usize {
+fn short(rng: &mut Rng, minimum: usize) -> usize {
     if rng.percent(70) {
         minimum - 1
     } else {
@@ -77,9 +77,33 @@ pub fn short(rng: &mut Rng, minimum: usize) -> usize {
     }
 }
 
+/// Each at its minimum, or each at or above it.
+pub fn lengths<const N: usize>(rng: &mut Rng, minimums: [usize; N]) -> [usize; N] {
+    if rng.percent(50) {
+        return minimums;
+    }
+    minimums.map(|n| long(rng, n))
+}
+
+/// `one` of the lengths, and with some chance others, one below its minimum or far
+/// below.
+pub fn shorten<const N: usize>(
+    rng: &mut Rng,
+    mut lengths: [usize; N],
+    minimums: [usize; N],
+    one: usize,
+) -> [usize; N] {
+    let more = rng.percent(30);
+    for (i, minimum) in minimums.into_iter().enumerate() {
+        if i == one || more && rng.percent(50) {
+            lengths[i] = short(rng, minimum);
+        }
+    }
+    lengths
+}
+
 pub struct Lent<T> {
     name: &'static str,
-    minimum: usize,
     /// a guard, the slice, a guard
     memory: Vec<T>,
     length: usize,
@@ -93,17 +117,12 @@ impl<T: Word> Lent<T> {
         let size = GUARD + minimum + ABOVE + GUARD;
         Self {
             name,
-            minimum,
             memory: vec![T::default(); size],
             length: minimum,
             rubbish: (0..size + SHIFT).map(|_| T::rubbish(rng)).collect(),
             shift: 0,
             sampled: vec![],
         }
-    }
-
-    pub fn minimum(&self) -> usize {
-        self.minimum
     }
 
     /// Rubbish everywhere, guards included; the slice has `length` words.

@@ -8,13 +8,16 @@ pub mod cache_benchmark;
 pub mod compare;
 pub mod inputs;
 pub mod lent;
+pub mod numbers;
 pub mod one_atom;
 pub mod session_benchmark;
 pub mod session_compare;
 pub mod session_inputs;
 #[cfg(test)]
 mod session_stand_in;
+pub mod sets;
 pub mod share;
 #[cfg(test)]
 mod stand_in;
 pub mod times;
+pub mod trial;

@@ -1,72 +1,59 @@
 //! The session call on a file, compared with the unchanged Rust's `Serializer`.
 
-use crate::lent::{ABOVE, Lent, long, short};
-use crate::session_inputs::{Set, sets};
-use crate::share::{self, Part};
+use crate::lent::{ABOVE, lengths, shorten};
+use crate::numbers::Numbers;
+use crate::session_inputs::{self, Input};
+use crate::sets::{self, Compare, Count};
+use crate::trial::{Call, Expected, Trial};
 use nikvoldra::call::{self, CHECKPOINTS_LENGTH, Checkpoint, WORDS_LENGTH, WORK_LENGTH};
 use oracle::plain::{self, Interner};
-use oracle::rng::Rng;
 use oracle::session::{self, MAX_OUTPUT, SessionAnswer};
 use oracle::{hex, reading};
 use std::collections::BTreeMap;
-use std::time::Instant;
 
 /// `nikvoldra::call::session`, or what a test has in its place.
-pub type SessionCall = fn(
-    file: &[u8],
-    work: &mut [u32],
-    words: &mut [u32],
-    checkpoints: &mut [Checkpoint],
-    output: &mut [u8],
-) -> call::SessionAnswer;
+pub type SessionCall = Call<Checkpoint, call::SessionAnswer>;
 
 /// The least lengths of work, words and checkpoints.
 const LEAST: [usize; 3] = [WORK_LENGTH, WORDS_LENGTH, CHECKPOINTS_LENGTH];
-/// Bytes of rubbish after the file.
-const AFTER: usize = 16;
 /// Of so many files one is also tried with slices that are too short.
 const SHORT_EACH: usize = 8;
 
-/// How many calls got each number.
-type Numbers = [u64; 14];
-
-fn text(numbers: &Numbers) -> String {
-    (0..14)
-        .filter(|n| numbers[*n] > 0)
-        .map(|n| format!("{n}: {}", numbers[n]))
-        .collect::<Vec<_>>()
-        .join(", ")
-}
-
 /// Files and calls by kind, and what else was met.
-#[derive(Default, Clone)]
+#[derive(Default)]
 pub struct Tally {
-    pub files: u64,
-    pub calls: u64,
-    pub finished: u64,
-    pub read_back: u64,
-    pub kinds: BTreeMap<&'static str, Numbers>,
+    files: u64,
+    calls: u64,
+    finished: u64,
+    read_back: u64,
+    kinds: BTreeMap<&'static str, Numbers<14>>,
 }
 
-impl Tally {
-    fn add(&mut self, other: &Tally) {
+impl Count for Tally {
+    fn add(&mut self, other: &Self) {
         self.files += other.files;
         self.calls += other.calls;
         self.finished += other.finished;
         self.read_back += other.read_back;
         for (kind, numbers) in &other.kinds {
-            let mine = self.kinds.entry(kind).or_default();
-            (0..14).for_each(|n| mine[n] += numbers[n]);
+            self.kinds.entry(kind).or_default().add(numbers);
         }
     }
+}
 
-    fn numbers(&self) -> String {
+impl Tally {
+    fn numbers(&self) -> Numbers<14> {
         let mut all = Numbers::default();
         for numbers in self.kinds.values() {
-            (0..14).for_each(|n| all[n] += numbers[n]);
+            all.add(numbers);
         }
-        text(&all)
+        all
     }
+}
+
+/// The lengths of all four slices.
+fn and_output([work, words, checkpoints]: [usize; 3], output: usize) -> [usize; 4] {
+    [work, words, checkpoints, output]
 }
 
 /// The most bytes that the output had: undo may have taken some back.
@@ -75,73 +62,38 @@ fn needed(full: &SessionAnswer) -> usize {
     full.output.len().max(most.unwrap_or(0))
 }
 
-/// The call, the slices that it is lent, and a tally.
-pub struct Comparison {
-    call: SessionCall,
-    rng: Rng,
-    work: Lent<u32>,
-    words: Lent<u32>,
-    checkpoints: Lent<Checkpoint>,
-    output: Lent<u8>,
-    file: Vec<u8>,
-    pub tally: Tally,
+/// The answer as the call gives it, and the slices: untouched with 1 to 8.
+fn expected(r: &SessionAnswer) -> Expected<Checkpoint, call::SessionAnswer> {
+    let answer = call::SessionAnswer {
+        number: r.number,
+        steps: r.words.len() as u32,
+        size: r.output.len() as u32,
+    };
+    let left = match r.number {
+        1..=8 => None,
+        _ => Some((r.words.clone(), vec![], r.output.clone())),
+    };
+    Expected { answer, left }
+}
+
+/// The call with the slices that it is lent, and a tally.
+struct Comparison {
+    trial: Trial<Checkpoint, call::SessionAnswer>,
+    tally: Tally,
 }
 
 impl Comparison {
-    pub fn new(call: SessionCall, seed: u64) -> Self {
-        let mut rng = Rng::new(seed);
+    fn new(call: SessionCall, seed: u64) -> Self {
+        let slices = [
+            ("work", WORK_LENGTH),
+            ("words", WORDS_LENGTH),
+            ("checkpoints", CHECKPOINTS_LENGTH),
+            ("output", MAX_OUTPUT),
+        ];
         Self {
-            call,
-            work: Lent::new("work", WORK_LENGTH, &mut rng),
-            words: Lent::new("words", WORDS_LENGTH, &mut rng),
-            checkpoints: Lent::new("checkpoints", CHECKPOINTS_LENGTH, &mut rng),
-            output: Lent::new("output", MAX_OUTPUT, &mut rng),
-            file: vec![],
+            trial: Trial::new(call, slices, seed),
             tally: Tally::default(),
-            rng,
         }
-    }
-
-    /// Work, words and checkpoints each at its minimum, or each at or above it.
-    fn lengths(&mut self) -> [usize; 3] {
-        if self.rng.percent(50) {
-            return LEAST;
-        }
-        LEAST.map(|n| long(&mut self.rng, n))
-    }
-
-    /// `one` is one below its minimum or further below, and with some chance others.
-    fn short_lengths(&mut self, one: usize) -> [usize; 3] {
-        let mut lengths = self.lengths();
-        let more = self.rng.percent(30);
-        for (i, least) in LEAST.into_iter().enumerate() {
-            if i == one || more && self.rng.percent(50) {
-                lengths[i] = short(&mut self.rng, least);
-            }
-        }
-        lengths
-    }
-
-    /// Rubbish in all slices, and after the file.
-    fn fill(&mut self, file: &[u8], lengths: [usize; 3], output: usize) {
-        self.work.fill(lengths[0], &mut self.rng);
-        self.words.fill(lengths[1], &mut self.rng);
-        self.checkpoints.fill(lengths[2], &mut self.rng);
-        self.output.fill(output, &mut self.rng);
-        self.file.clear();
-        self.file.extend(file);
-        self.file.extend(self.rng.bytes(AFTER));
-    }
-
-    /// The call on so many bytes of the file and the rubbish after it.
-    fn run_on(&mut self, length: usize) -> call::SessionAnswer {
-        (self.call)(
-            &self.file[..length],
-            self.work.slice(),
-            self.words.slice(),
-            self.checkpoints.slice(),
-            self.output.slice(),
-        )
     }
 
     /// One call, with rubbish in all slices before it, and all of it compared.
@@ -150,39 +102,18 @@ impl Comparison {
         file: &[u8],
         lengths: [usize; 3],
         output: usize,
-        expected: &SessionAnswer,
+        answer: &SessionAnswer,
     ) -> Result<(), String> {
-        self.fill(file, lengths, output);
-        let now = self.run_on(file.len());
+        self.trial.fill(and_output(lengths, output));
+        let now = self.trial.run(file);
         self.tally.calls += 1;
-        self.agrees(now, expected)
+        self.trial
+            .agrees(&now, &expected(answer))
             .map_err(|text| format!("{text}\nlengths: {lengths:?}, output {output}"))
     }
 
-    /// The answer and the slices are as `expected` has them.
-    fn agrees(&self, now: call::SessionAnswer, expected: &SessionAnswer) -> Result<(), String> {
-        let answer = call::SessionAnswer {
-            number: expected.number,
-            steps: expected.words.len() as u32,
-            size: expected.output.len() as u32,
-        };
-        if now != answer {
-            return Err(format!("the port: {now:?}\nexpected: {answer:?}"));
-        }
-        if matches!(answer.number, 1..=8) {
-            self.work.untouched()?;
-            self.words.untouched()?;
-            self.checkpoints.untouched()?;
-            return self.output.untouched();
-        }
-        self.work.holds(&[])?;
-        self.words.holds(&expected.words)?;
-        self.checkpoints.holds(&[])?;
-        self.output.holds(&expected.output)
-    }
-
     /// What the Rust gives with so long an output; `full` with the longest.
-    fn expected(file: &[u8], full: &SessionAnswer, output: usize) -> SessionAnswer {
+    fn rust_gives(file: &[u8], full: &SessionAnswer, output: usize) -> SessionAnswer {
         if output >= MAX_OUTPUT || full.number != 13 && output >= needed(full) {
             full.clone()
         } else {
@@ -191,40 +122,43 @@ impl Comparison {
     }
 
     fn count(&mut self, kind: &'static str, number: u32) {
-        self.tally.kinds.entry(kind).or_default()[number as usize] += 1;
+        self.tally.kinds.entry(kind).or_default().count(number);
     }
 
     /// Lengths of the output: enough, at times more than may be used, and too few.
     fn outputs(&mut self, full: &SessionAnswer, turn: usize) -> Vec<usize> {
         let size = needed(full);
-        let mut outputs = vec![*self.rng.pick(&[size, size, size + 1, MAX_OUTPUT])];
-        if full.number == 13 || self.rng.percent(10) {
-            outputs.push(MAX_OUTPUT + self.rng.range(1, ABOVE));
+        let rng = &mut self.trial.rng;
+        let mut outputs = vec![*rng.pick(&[size, size, size + 1, MAX_OUTPUT])];
+        if full.number == 13 || rng.percent(10) {
+            outputs.push(MAX_OUTPUT + rng.range(1, ABOVE));
         }
         if size > 0 {
             outputs.push(match turn % 2 {
                 0 => size - 1,
-                _ => self.rng.below(size),
+                _ => rng.below(size),
             });
         }
         outputs
     }
 
     /// A call for each of `outputs`, and at times one with slices that are too short.
-    pub fn compare(&mut self, kind: &'static str, file: &[u8], turn: usize) -> Result<(), String> {
+    fn compare(&mut self, kind: &'static str, file: &[u8], turn: usize) -> Result<(), String> {
         // panics where the rig's driver and Serializer differ
         let full = session::run(file, MAX_OUTPUT, true);
         let outputs = self.outputs(&full, turn);
         for output in &outputs {
-            let expected = Self::expected(file, &full, *output);
-            let lengths = self.lengths();
-            self.once(file, lengths, *output, &expected)?;
-            self.count(kind, expected.number);
-            self.read_back(file, &expected)?;
+            let answer = Self::rust_gives(file, &full, *output);
+            let lengths = lengths(&mut self.trial.rng, LEAST);
+            self.once(file, lengths, *output, &answer)?;
+            self.count(kind, answer.number);
+            self.read_back(file, &answer)?;
         }
         self.tally.files += 1;
         if turn % SHORT_EACH == 1 {
-            let lengths = self.short_lengths(turn / SHORT_EACH % 3);
+            let rng = &mut self.trial.rng;
+            let lengths = lengths(rng, LEAST);
+            let lengths = shorten(rng, lengths, LEAST, turn / SHORT_EACH % 3);
             let refused = SessionAnswer {
                 number: 1,
                 ..SessionAnswer::default()
@@ -237,8 +171,8 @@ impl Comparison {
 
     /// A finished session within demand 3's premises: the bytes that the port has
     /// written, read by the Rust, are the plain filling.
-    fn read_back(&mut self, file: &[u8], expected: &SessionAnswer) -> Result<(), String> {
-        if !expected.words.iter().any(|w| w % 2 == 1) {
+    fn read_back(&mut self, file: &[u8], answer: &SessionAnswer) -> Result<(), String> {
+        if !answer.words.iter().any(|w| w % 2 == 1) {
             return Ok(());
         }
         self.tally.finished += 1;
@@ -250,7 +184,7 @@ impl Comparison {
         if !filling.whole {
             return Err("finished, and the plain filling is open".to_string());
         }
-        let back = reading::read(&self.output.slice()[..expected.output.len()]);
+        let back = reading::read(&self.trial.bytes.slice()[..answer.output.len()]);
         if back.number != 0 {
             return Err(format!("the finished bytes are refused: {}", back.number));
         }
@@ -263,16 +197,23 @@ impl Comparison {
     }
 }
 
-/// One file of a set.
-fn run_one(c: &mut Comparison, set: &Set, turn: usize, i: usize) -> Result<(), String> {
-    let (kind, file) = (set.get)(i);
-    c.compare(kind, &file, turn).map_err(|text| {
-        format!(
-            "{}, file {i} ({kind}): the port and the Rust differ\n{text}\nfile: {}",
-            set.name,
-            hex::encode(&file)
-        )
-    })
+impl Compare for Comparison {
+    type Input = Input;
+    type Tally = Tally;
+
+    fn one(&mut self, input: &Input, turn: usize, i: usize) -> Result<(), String> {
+        let (kind, file) = input;
+        self.compare(kind, file, turn).map_err(|text| {
+            format!(
+                "file {i} ({kind}): the port and the Rust differ\n{text}\nfile: {}",
+                hex::encode(file)
+            )
+        })
+    }
+
+    fn tally(&mut self) -> &mut Tally {
+        &mut self.tally
+    }
 }
 
 fn summary(t: &Tally) -> String {
@@ -294,36 +235,17 @@ pub fn run(
     most: usize,
     mut say: impl FnMut(&str),
 ) -> Result<Tally, String> {
-    let threads = std::thread::available_parallelism().map_or(1, usize::from);
-    let mut cs: Vec<Comparison> = (0..threads)
-        .map(|t| Comparison::new(call, seed.wrapping_add(t as u64)))
-        .collect();
-    let mut total = Tally::default();
-    for set in sets(generated, seed) {
-        let began = Instant::now();
-        let most = if set.name == "generated" {
-            set.size
-        } else {
-            most
-        };
-        share::run(&mut cs, &Part::of(set.size, most, seed), |c, turn, i| {
-            run_one(c, &set, turn, i)
-        })?;
-        let mut tally = Tally::default();
-        for c in &mut cs {
-            tally.add(&std::mem::take(&mut c.tally));
-        }
-        let seconds = began.elapsed().as_secs_f64();
+    let new = |seed| Comparison::new(call, seed);
+    let sets = session_inputs::sets(generated, seed);
+    let total = sets::run(new, sets, seed, most, |name, tally, seconds| {
         say(&format!(
-            "{} files {}: {}; {seconds:.1} s",
+            "{} files {name}: {}; {seconds:.1} s",
             tally.files,
-            set.name,
-            summary(&tally)
+            summary(tally)
         ));
-        total.add(&tally);
-    }
+    })?;
     for (kind, numbers) in &total.kinds {
-        say(&format!("calls on files of kind {kind}: {}", text(numbers)));
+        say(&format!("calls on files of kind {kind}: {numbers}"));
     }
     say(&format!(
         "{} files agreed: {}",
@@ -335,7 +257,8 @@ pub fn run(
 
 #[cfg(test)]
 mod tests {
-    use super::{Comparison, SessionCall, run};
+    use super::{Comparison, LEAST, SessionCall, and_output, expected, run};
+    use crate::lent::lengths;
     use crate::session_stand_in::{Fault, with_fault};
     use oracle::session::{self, MAX_OUTPUT};
 
@@ -378,25 +301,11 @@ mod tests {
     /// Both where the slices are cleared and where they are untouched.
     #[test]
     fn a_word_outside_a_slice_is_noticed() {
-        let outside: [fn(&mut Comparison, bool); 4] = [
-            |c, after| c.work.write_outside(after),
-            |c, after| c.words.write_outside(after),
-            |c, after| c.checkpoints.write_outside(after),
-            |c, after| c.output.write_outside(after),
-        ];
-        let mut c = Comparison::new(RIGHT, 1);
+        let mut trial = Comparison::new(RIGHT, 1).trial;
         for file in [FILE, &FILE[1..]] {
-            let expected = session::run(file, MAX_OUTPUT, true);
-            for (i, write) in outside.into_iter().enumerate() {
-                for after in [false, true] {
-                    let lengths = c.lengths();
-                    c.fill(file, lengths, 100);
-                    let now = c.run_on(file.len());
-                    assert_eq!(c.agrees(now, &expected), Ok(()));
-                    write(&mut c, after);
-                    assert!(c.agrees(now, &expected).is_err(), "slice {i}, {after}");
-                }
-            }
+            let expected = expected(&session::run(file, MAX_OUTPUT, true));
+            let lengths = |rng: &mut _| and_output(lengths(rng, LEAST), 100);
+            trial.notices_outside(file, lengths, &expected);
         }
     }
 
@@ -404,13 +313,9 @@ mod tests {
     #[test]
     fn a_byte_past_the_file_is_noticed() {
         let file = &FILE[..FILE.len() - 1];
-        let expected = session::run(file, MAX_OUTPUT, true);
-        let mut c = Comparison::new(RIGHT, 1);
-        let lengths = c.lengths();
-        c.fill(file, lengths, 100);
-        let now = c.run_on(file.len());
-        assert_eq!(c.agrees(now, &expected), Ok(()));
-        let now = c.run_on(file.len() + 1);
-        assert!(c.agrees(now, &expected).is_err());
+        let expected = expected(&session::run(file, MAX_OUTPUT, true));
+        let mut trial = Comparison::new(RIGHT, 1).trial;
+        let lengths = lengths(&mut trial.rng, LEAST);
+        trial.notices_a_byte_past(file, and_output(lengths, 100), &expected);
     }
 }

@@ -1,6 +1,6 @@
-//! The session files that are compared, in sets. A set gives its files by number,
-//! each with its kind.
+//! The session files that are compared, in sets.
 
+use crate::sets::Set;
 use oracle::generate::exhaustive::{SESSIONS, UNDO_SESSIONS, session, undo_session};
 use oracle::generate::sessions::KINDS;
 use oracle::generate::{self, any_session};
@@ -9,41 +9,26 @@ use oracle::rng::Rng;
 /// Files of each kind.
 const OF_EACH: usize = 40;
 
-pub struct Set {
-    pub name: &'static str,
-    pub size: usize,
-    pub get: Box<dyn Fn(usize) -> (&'static str, Vec<u8>) + Sync>,
-}
+/// A file and its kind.
+pub type Input = (&'static str, Vec<u8>);
 
-fn set(
-    name: &'static str,
-    size: usize,
-    get: impl Fn(usize) -> (&'static str, Vec<u8>) + Sync + 'static,
-) -> Set {
-    Set {
-        name,
-        size,
-        get: Box::new(get),
-    }
-}
-
-pub fn sets(generated: usize, seed: u64) -> Vec<Set> {
+pub fn sets(generated: usize, seed: u64) -> Vec<Set<Input>> {
     vec![
-        set("of each kind", KINDS.len() * OF_EACH, move |i| {
+        Set::new("of each kind", KINDS.len() * OF_EACH, move |i| {
             let kind = KINDS[i % KINDS.len()].0;
             let own = seed.wrapping_mul(1_000_003) + (i / KINDS.len()) as u64;
             (kind, generate::session(own, kind).expect("a kind"))
         }),
-        set("generated", generated, move |i| {
+        Set::new("generated", generated, move |i| {
             let own = seed
                 .wrapping_mul(0x9e37_79b9_7f4a_7c15)
                 .wrapping_add(i as u64);
             any_session(&mut Rng::new(own))
         }),
-        set("of two pairs, up to four steps", UNDO_SESSIONS, |i| {
+        Set::new("of two pairs, up to four steps", UNDO_SESSIONS, |i| {
             ("two pairs", undo_session(i))
         }),
-        set("of three pairs, up to three adds", SESSIONS, |i| {
+        Set::new("of three pairs, up to three adds", SESSIONS, |i| {
             ("three pairs", session(i))
         }),
     ]
