@@ -1,4 +1,4 @@
--- Counts that lie within a list: of a part, of the bytes of a path, of the bytes that a write has made.
+-- Counts that lie within a list: of the bytes of a path, of the bytes that a write has made.
 -- Assumes nothing.
 use Prim.Native.Nat.{ℕ, _+_, _≤_}
 use mathlib.Core.Path.{_≡_, refl, sym, ap, _∙_}
@@ -8,8 +8,7 @@ use mathlib.Core.Option.{Option, none, some}
 use native.Mathlib.Omega.{arith}
 use borrow.Author.Tests.{ltb-true, ltb-false}
 use lib.Dec.{ltb}
-use lib.ListN.{length, take, length-take}
-use lib.Seq.{length-take-le}
+use lib.ListN.{length, length-take}
 use Rattle.atom.specs.Write.{Written, next, full, too-long, put}
 use Rattle.atom.specs.WriteLaws.{put-none, put-full, put-room}
 use Rattle.write_atom.specs.Answers.{written}
@@ -17,10 +16,6 @@ use Rattle.write_atom.specs.declared.write_atom.WriteAtom.{WriteAtom}
 use Rattle.write_atom.specs.declared.write_atom.WriteAtom.the-variants.{Next}
 use Rattle.path_builder.specs.Builder.{Finished}
 use Rattle.path_builder.specs.declared.PathBuilder.{PathBuilder}
-
--- What `&s[..n]` asks of the part's length.
-pub counted : (n : ℕ) (l : List ℕ) → n ≤ length l → n ≡ length (take n l)
-counted n l h = sym (length-take-le n l h)
 
 -- The bytes of a path that is done lie within its store.
 pub done-within : (store : List ℕ) (p : PathBuilder) (store′ : List ℕ) (n : ℕ) → Finished store p store′ n → n ≤ length store′

@@ -15,7 +15,7 @@ fn written(payload: &[u8]) -> bool {
     let mut output = [0u8; MAX_WRITTEN];
     match write_atom::write_atom::write_atom(&mut output, 0, payload) {
         WriteAtom::Next(n) => {
-            print::hex(&output[..n]);
+            text::hex(&output[..n]);
             true
         }
         WriteAtom::Full => false,
@@ -25,7 +25,7 @@ fn written(payload: &[u8]) -> bool {
 
 // `l`: the number of those bytes.
 fn serialized_length(payload: &[u8]) -> bool {
-    print::decimal(write_atom::serialized_length::serialized_length_atom(payload));
+    text::decimal(write_atom::serialized_length::serialized_length_atom(payload));
     true
 }
 
@@ -40,11 +40,11 @@ fn blob(payload: &[u8], bytes: &[u8], start: usize, end: usize) -> bool {
     if !words::same_bytes(bytes, &payload[start..end]) {
         return false;
     }
-    print::decimal(0);
-    print::space();
-    print::decimal(start as u64);
-    print::space();
-    print::decimal(end as u64);
+    text::decimal(0);
+    text::space();
+    text::decimal(start as u64);
+    text::space();
+    text::decimal(end as u64);
     true
 }
 
@@ -55,11 +55,11 @@ fn parsed(payload: &[u8]) -> bool {
     match found {
         ParseAtom::Blob { start, end } => blob(payload, bytes, start, end),
         ParseAtom::SerializationError => {
-            print::decimal(14);
+            text::decimal(14);
             true
         }
         ParseAtom::NonCanonicalSerialization => {
-            print::decimal(15);
+            text::decimal(15);
             true
         }
     }
@@ -70,20 +70,20 @@ fn msb_mask(payload: &[u8]) -> bool {
     if payload.len() == 0 {
         return false;
     }
-    print::decimal(path::traverse_path::msb_mask(payload[0]) as u64);
+    text::decimal(path::traverse_path::msb_mask(payload[0]) as u64);
     true
 }
 
 // `z`: the index of the first byte that is not 0.
 fn first_non_zero(payload: &[u8]) -> bool {
-    print::decimal(path::traverse_path::first_non_zero(payload) as u64);
+    text::decimal(path::traverse_path::first_non_zero(payload) as u64);
     true
 }
 
 // `s`: the value of the small atom, if it is one.
 fn small_value(payload: &[u8]) -> bool {
     match small_atom::fits_in_small_atom(payload) {
-        FitsInSmallAtom::Small(value) => print::decimal(value as u64),
+        FitsInSmallAtom::Small(value) => text::decimal(value as u64),
         FitsInSmallAtom::Listed => print::none(),
     }
     true
@@ -94,20 +94,20 @@ fn small_atom(value: u32) -> bool {
     if 1 << 26 <= value {
         return false;
     }
-    print::decimal(small_atom::len_for_value(value) as u64);
-    print::space();
+    text::decimal(small_atom::len_for_value(value) as u64);
+    text::space();
     let atom = small_atom::small_atom_bytes(value);
     let bytes = atom.bytes;
     let len = atom.len;
-    print::hex(small_atom::as_ref(&bytes, len));
+    text::hex(small_atom::as_ref(&bytes, len));
     true
 }
 
 // A kind of node and an index.
 fn node(kind: u64, index: u32) -> bool {
-    print::decimal(kind);
-    print::space();
-    print::decimal(index as u64);
+    text::decimal(kind);
+    text::space();
+    text::decimal(index as u64);
     true
 }
 

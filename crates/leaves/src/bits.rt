@@ -37,10 +37,10 @@ fn push_all(store: &mut [u32], bits: &[u8]) -> PathBuilder
 fn print_path(store: &mut [u32], builder: PathBuilder)
     requires { ⌜ Sound (now store) builder ⌝ }
 {
-    print::decimal(builder.len() as u64);
-    print::space();
-    print::decimal(builder.serialized_length(store) as u64);
-    print::space();
+    text::decimal(builder.len() as u64);
+    text::space();
+    text::decimal(builder.serialized_length(store) as u64);
+    text::space();
     let n = builder.done(store);
     print::hex_words(&store[..n]);
 }
@@ -73,7 +73,7 @@ pub fn visits(pairs: &[u8]) -> bool {
     let mut rest = pairs;
     while 1 < rest.len() {
         let bit = operation(&mut set, rest[0], print::wide(rest[1]));
-        print::decimal(bit as u64);
+        text::decimal(bit as u64);
         rest = &rest[2..];
     }
     true

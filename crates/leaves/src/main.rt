@@ -19,7 +19,7 @@ fn record(input: &[u8]) -> usize
         return 0;
     }
     if answer::answer(input[0], &input[3..end]) {
-        print::line_end();
+        text::line_end();
         return end;
     }
     0

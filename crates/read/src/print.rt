@@ -1,49 +1,29 @@
 // What the program writes.
-use libc::STDERR_FILENO;
 use libc::STDOUT_FILENO;
 use read_answer::ReadAnswer;
-ghost use Prim.Native.Nat.{_≤_};
-
-fn least(count: u32, size: usize) -> usize
-    ensures { λ r. ⌜ r ≤ size ⌝ }
-{
-    let n = count as usize;
-    if n < size { n } else { size }
-}
-
-fn decimal(n: u32) {
-    io::print_decimal(STDOUT_FILENO, n as u64);
-}
+use text::decimal;
+use text::least;
+use text::line_end;
+use text::say;
+use text::space;
 
 fn handle(n: u32) {
     io::print_hex(STDOUT_FILENO, n as u64, 8);
 }
 
-fn byte(n: u8) {
-    io::print_hex(STDOUT_FILENO, n as u64, 2);
-}
-
-fn space() {
-    io::write_all(STDOUT_FILENO, b" ");
-}
-
-fn line_end() {
-    io::write_all(STDOUT_FILENO, b"\n");
-}
-
 // A line: number, root, pairs, atoms, bytes, ghosts.
 pub fn answer(a: ReadAnswer) {
-    decimal(a.number);
+    decimal(a.number as u64);
     space();
     handle(a.root);
     space();
-    decimal(a.pairs);
+    decimal(a.pairs as u64);
     space();
-    decimal(a.atoms);
+    decimal(a.atoms as u64);
     space();
-    decimal(a.bytes);
+    decimal(a.bytes as u64);
     space();
-    decimal(a.ghosts);
+    decimal(a.ghosts as u64);
     line_end();
 }
 
@@ -57,9 +37,9 @@ fn pair(left: u32, right: u32) {
 
 fn atom(start: u32, end: u32) {
     io::write_all(STDOUT_FILENO, b"atom ");
-    decimal(start);
+    decimal(start as u64);
     space();
-    decimal(end);
+    decimal(end as u64);
     line_end();
 }
 
@@ -89,16 +69,8 @@ pub fn rows(row: Row, words: &[u32], count: u32) {
 // A line with the first `count` bytes that the slice has, in hexadecimal.
 pub fn hex(bytes: &[u8], count: u32) {
     let n = least(count, bytes.len());
-    let mut i = 0;
-    while i < n {
-        byte(bytes[i]);
-        i += 1;
-    }
+    text::hex(&bytes[..n]);
     line_end();
-}
-
-fn say(text: &[u8]) {
-    io::write_all(STDERR_FILENO, text);
 }
 
 // The question that got no, in words, on standard error; nothing for none.

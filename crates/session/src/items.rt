@@ -1,5 +1,4 @@
 // The items of the output: what find_path answered before each of them.
-use crate::print;
 use libc::STDOUT_FILENO;
 use parse_atom::ParseAtom;
 
@@ -11,9 +10,10 @@ const CONS_BOX_MARKER: u8 = 0xff;
 fn line(word: &[u8], bytes: &[u8]) {
     io::write_all(STDOUT_FILENO, word);
     if 0 < bytes.len() {
-        io::write_all(STDOUT_FILENO, b" ");
+        text::space();
     }
-    print::hex(bytes);
+    text::hex(bytes);
+    text::line_end();
 }
 
 // The line of the atom or path at a place; the place after it.
@@ -58,10 +58,11 @@ fn items(output: &[u8]) {
 
 // The first `count` bytes that the slice has, in hexadecimal or item by item.
 pub fn output(bytes: &[u8], count: u32, by_items: bool) {
-    let n = print::least(count, bytes.len());
+    let n = text::least(count, bytes.len());
     if by_items {
         items(&bytes[..n]);
         return;
     }
-    print::hex(&bytes[..n]);
+    text::hex(&bytes[..n]);
+    text::line_end();
 }

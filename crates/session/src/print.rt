@@ -1,31 +1,10 @@
 // What the program writes.
-use libc::STDERR_FILENO;
 use libc::STDOUT_FILENO;
-ghost use Prim.Native.Nat.{_≤_};
-
-// The lesser of the two.
-pub fn least(count: u32, size: usize) -> usize
-    ensures { λ r. ⌜ r ≤ size ⌝ }
-{
-    let n = count as usize;
-    if n < size { n } else { size }
-}
-
-fn decimal(n: u64) {
-    io::print_decimal(STDOUT_FILENO, n);
-}
-
-fn byte(n: u8) {
-    io::print_hex(STDOUT_FILENO, n as u64, 2);
-}
-
-fn space() {
-    io::write_all(STDOUT_FILENO, b" ");
-}
-
-fn line_end() {
-    io::write_all(STDOUT_FILENO, b"\n");
-}
+use text::decimal;
+use text::least;
+use text::line_end;
+use text::say;
+use text::space;
 
 // A finished step: its number, the size, and 1 if finished.
 fn step(number: usize, word: u32) {
@@ -46,20 +25,6 @@ pub fn steps(words: &[u32], count: u32) {
         i += 1;
         step(i, word);
     }
-}
-
-// A line with all bytes in hexadecimal.
-pub fn hex(bytes: &[u8]) {
-    let mut i = 0;
-    while i < bytes.len() {
-        byte(bytes[i]);
-        i += 1;
-    }
-    line_end();
-}
-
-fn say(text: &[u8]) {
-    io::write_all(STDERR_FILENO, text);
 }
 
 // The question that got no, in words, on standard error.

@@ -1,7 +1,8 @@
 -- `leaves::answer::written` is safe: what `write_atom` wrote lies within the output.
 -- Assumes nothing.
 use borrow.Author.Needs.{needs}
-use Rattle.leaves.proofs.Within.{counted, written-within}
+use Rattle.text.proofs.Counted.{counted}
+use Rattle.leaves.proofs.Within.{written-within}
 use Rattle.leaves.proofs.answer.written.Statement.{statement}
 use Rattle.leaves.proofs.answer.written.Tie as tie
 

@@ -1,7 +1,8 @@
 -- `leaves::bits::print_path` is safe: the bytes of the path that is done lie within the store.
 -- Assumes nothing.
 use borrow.Author.Needs.{needs}
-use Rattle.leaves.proofs.Within.{counted, done-within}
+use Rattle.text.proofs.Counted.{counted}
+use Rattle.leaves.proofs.Within.{done-within}
 use Rattle.leaves.proofs.bits.print_path.Statement.{statement}
 use Rattle.leaves.proofs.bits.print_path.Tie as tie
 

@@ -1,55 +1,24 @@
--- `read::print::hex` is safe and ends. The measure is the number of bytes left to print.
+-- `read::print::hex` is safe: the bytes that it prints are within the slice.
 -- Assumes nothing.
-use Prim.Native.Nat.{_-_, _≤_}
 use borrow.Author.Needs.{needs}
+use Rattle.text.proofs.Counted.{counted}
 use Rattle.read.proofs.print.hex.Statement.{statement}
 use Rattle.read.proofs.print.hex.Tie as tie
 
-abbrev Inv-loop : tie.InvT-loop
-Inv-loop bytes count n i₀ i = i ≤ n
-
-abbrev μ-loop : tie.MeasureT-loop
-μ-loop bytes count n i₀ i = n - i
-
-least-requires : tie.Need-least-requires Inv-loop μ-loop
+least-requires : tie.Need-least-requires
 least-requires c κs = search needs
 
-loop-holds : tie.Need-loop-holds Inv-loop μ-loop
-loop-holds c = search needs
+slice-aggregate-hex : tie.Need-slice-aggregate-hex
+slice-aggregate-hex c = counted _ _ (c .before .least .ensures)
 
-shared-slice-read-byte : tie.Need-shared-slice-read-byte Inv-loop μ-loop
-shared-slice-read-byte c = search needs
+hex-requires : tie.Need-hex-requires
+hex-requires c κs = search needs
 
-byte-requires : tie.Need-byte-requires Inv-loop μ-loop
-byte-requires c κs = search needs
-
-add-i : tie.Need-add-i Inv-loop μ-loop
-add-i c = search needs
-
-loop-less : tie.Need-loop-less Inv-loop μ-loop
-loop-less c = search needs
-
-loop-again : tie.Need-loop-again Inv-loop μ-loop
-loop-again c = search needs
-
-line-end-requires : tie.Need-line-end-requires Inv-loop μ-loop
+line-end-requires : tie.Need-line-end-requires
 line-end-requires c κs = search needs
 
-returns : tie.Need-returns Inv-loop μ-loop
+returns : tie.Need-returns
 returns c = search needs
 
 pub hex-spec : {M : Type 1} → statement M
-hex-spec =
-    tie.close
-    (tie.spec
-    Inv-loop
-    μ-loop
-    least-requires
-    loop-holds
-    shared-slice-read-byte
-    byte-requires
-    add-i
-    loop-less
-    loop-again
-    line-end-requires
-    returns)
+hex-spec = tie.close (tie.spec least-requires slice-aggregate-hex hex-requires line-end-requires returns)

@@ -1,8 +1,7 @@
 -- `session::items::output` is safe and ends.
 -- Assumes nothing.
-use mathlib.Core.Path.{sym}
-use lib.Seq.{length-take-le}
 use borrow.Author.Needs.{needs}
+use Rattle.text.proofs.Counted.{counted}
 use Rattle.session.proofs.items.output.Statement.{statement}
 use Rattle.session.proofs.items.output.Tie as tie
 
@@ -10,7 +9,7 @@ least-requires : tie.Need-least-requires
 least-requires c κs = search needs
 
 slice-aggregate-items : tie.Need-slice-aggregate-items
-slice-aggregate-items c = sym (length-take-le (c .before .before .least .result) (c .before .before .before .before .args .bytes .now) (c .before .before .least .ensures))
+slice-aggregate-items c = counted _ _ (c .before .before .least .ensures)
 
 items-requires : tie.Need-items-requires
 items-requires c κs = search needs
@@ -19,10 +18,13 @@ returns : tie.Need-returns
 returns c = search needs
 
 slice-aggregate-hex : tie.Need-slice-aggregate-hex
-slice-aggregate-hex c = sym (length-take-le (c .before .before .least .result) (c .before .before .before .before .args .bytes .now) (c .before .before .least .ensures))
+slice-aggregate-hex c = counted _ _ (c .before .before .least .ensures)
 
 hex-requires : tie.Need-hex-requires
 hex-requires c κs = search needs
+
+line-end-requires : tie.Need-line-end-requires
+line-end-requires c κs = search needs
 
 returns-2 : tie.Need-returns-2
 returns-2 c = search needs
@@ -37,4 +39,5 @@ output-spec =
     returns
     slice-aggregate-hex
     hex-requires
+    line-end-requires
     returns-2)

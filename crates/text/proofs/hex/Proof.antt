@@ -1,11 +1,11 @@
--- `leaves::print::hex` is safe and ends. The measure is the length of the rest; nothing else has to hold from turn to turn.
+-- `text::hex` is safe and ends. The measure is the length of the rest; nothing else has to hold from turn to turn.
 -- Assumes nothing.
 use lib.ListN.{length, length-take}
 use native.Mathlib.Omega.{arith}
 use borrow.Author.Needs.{needs}
-use Rattle.leaves.proofs.Within.{counted}
-use Rattle.leaves.proofs.print.hex.Statement.{statement}
-use Rattle.leaves.proofs.print.hex.Tie as tie
+use Rattle.text.proofs.Counted.{counted}
+use Rattle.text.proofs.hex.Statement.{statement}
+use Rattle.text.proofs.hex.Tie as tie
 
 abbrev Inv-loop : tie.InvT-loop
 Inv-loop bytes rest₀ rest = Unit {0}

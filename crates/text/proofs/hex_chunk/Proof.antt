@@ -1,9 +1,9 @@
--- `leaves::print::hex_chunk` is safe: two digits for each byte lie within the text.
+-- `text::hex_chunk` is safe: two digits for each byte lie within the text.
 -- Assumes nothing.
 use borrow.Author.Needs.{needs}
-use Rattle.leaves.proofs.Within.{counted}
-use Rattle.leaves.proofs.print.hex_chunk.Statement.{statement}
-use Rattle.leaves.proofs.print.hex_chunk.Tie as tie
+use Rattle.text.proofs.Counted.{counted}
+use Rattle.text.proofs.hex_chunk.Statement.{statement}
+use Rattle.text.proofs.hex_chunk.Tie as tie
 
 buffer-requires : tie.Need-buffer-requires
 buffer-requires c κs = search needs

@@ -1,12 +1,12 @@
--- `leaves::print::spell` is safe and ends. The invariant: the text keeps its length. The measure is the number of bytes left.
+-- `text::spell` is safe and ends. The invariant: the text keeps its length. The measure is the number of bytes left.
 -- Assumes nothing.
 use Prim.Native.Nat.{_-_, _≤_}
 use mathlib.Core.Path.{_≡_}
 use lib.ListN.{length, length-set}
 use native.Mathlib.Omega.{arith}
 use borrow.Author.Needs.{needs}
-use Rattle.leaves.proofs.print.spell.Statement.{statement}
-use Rattle.leaves.proofs.print.spell.Tie as tie
+use Rattle.text.proofs.spell.Statement.{statement}
+use Rattle.text.proofs.spell.Tie as tie
 
 abbrev Inv-loop : tie.InvT-loop
 Inv-loop bytes text₀ i₀ text i = (i ≤ length bytes) × (length text ≡ length text₀)
