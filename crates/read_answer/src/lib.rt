@@ -1,5 +1,5 @@
 // The reading call's answer, its question 1, and what it clears.
-use read_item::Reader;
+use settle::Reader;
 ghost use mathlib.Core.Path.{_≡_};
 ghost use Rattle.reading.specs.Call.{refusal as call-refusal, zeroed, long-enough};
 ghost use Rattle.read_answer.specs.Answer.{slices, answerOf, Counts, answerAt};

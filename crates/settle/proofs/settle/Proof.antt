@@ -1,10 +1,10 @@
--- `read_item::settle` meets its contract.
+-- `settle::settle` meets its contract.
 -- Assumes nothing.
 use native.Mathlib.Omega.{arith}
-use Rattle.read_item.proofs.Settling as settling
+use Rattle.settle.proofs.Settling as settling
 use borrow.Author.Needs.{needs}
-use Rattle.read_item.proofs.settle.Statement.{statement}
-use Rattle.read_item.proofs.settle.Tie as tie
+use Rattle.settle.proofs.settle.Statement.{statement}
+use Rattle.settle.proofs.settle.Tie as tie
 
 join-all-requires : tie.Need-join-all-requires
 join-all-requires c κs = search needs

@@ -1,12 +1,12 @@
--- `read_item::join_all` meets its contract. The invariant: what is left gives what all would give.
+-- `settle::join_all` meets its contract. The invariant: what is left gives what all would give.
 -- Assumes nothing.
 use mathlib.Core.Path.{_≡_, refl, _∙_}
 use native.Mathlib.Omega.{arith}
 use lib.ListN.{length}
-use Rattle.read_item.specs.State.{Onward}
-use Rattle.read_item.proofs.Joins as joins
-use Rattle.read_item.proofs.join_all.Statement.{statement}
-use Rattle.read_item.proofs.join_all.Tie as tie
+use Rattle.settle.specs.State.{Onward}
+use Rattle.settle.proofs.Joins as joins
+use Rattle.settle.proofs.join_all.Statement.{statement}
+use Rattle.settle.proofs.join_all.Tie as tie
 
 abbrev Inv-loop : tie.InvT-loop
 Inv-loop work₀ pairs₀ r₀ work pairs r = (length work ≡ length work₀) × (length pairs ≡ length pairs₀) × Onward work₀ pairs₀ r₀ work pairs r

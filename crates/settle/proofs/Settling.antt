@@ -11,10 +11,10 @@ use Rattle.reading.specs.Store.{store-values}
 use Rattle.reading.specs.Sound.{Sound}
 use Rattle.words.specs.Words.{at}
 use Rattle.store.specs.Layout.{OPS, opOf, opsOf}
-use Rattle.read_item.specs.declared.Reader.{Reader}
-use Rattle.read_item.specs.declared.Item.the-variants as item
-use Rattle.read_item.specs.State.{storedWith, Follows, NoJoin, Settled, Next}
-use Rattle.read_item.proofs.Joins.{ops-top}
+use Rattle.settle.specs.declared.Reader.{Reader}
+use Rattle.settle.specs.declared.Item.the-variants as item
+use Rattle.settle.specs.State.{storedWith, Follows, NoJoin, Settled, Next}
+use Rattle.settle.proofs.Joins.{ops-top}
 
 no-ops : (w : List ℕ) (n : ℕ) → n ≡ 0 → opsOf w n ≡ []
 no-ops w n e = ap (opsOf w) e ∙ unfold opsOf in refl

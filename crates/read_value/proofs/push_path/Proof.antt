@@ -1,15 +1,16 @@
--- `read_item::push_path` meets its contract.
+-- `read_value::push_path` meets its contract.
 -- Assumes nothing.
 use mathlib.Core.Path.{refl, sym, ap, subst}
 use native.Mathlib.Omega.{arith}
 use lib.ListN.{length}
 use Rattle.parse_atom.specs.Answers.{parseOf}
-use Rattle.read_item.specs.declared.Reader.{Reader}
-use Rattle.read_item.specs.State.{Ready, PathPushed, path-settled, path-refused}
-use Rattle.read_item.proofs.Paths as paths
+use Rattle.settle.specs.declared.Reader.{Reader}
+use Rattle.settle.specs.State.{Ready}
+use Rattle.read_value.specs.Values.{PathPushed, path-settled, path-refused}
+use Rattle.read_value.proofs.Paths as paths
 use borrow.Author.Needs.{needs}
-use Rattle.read_item.proofs.push_path.Statement.{statement}
-use Rattle.read_item.proofs.push_path.Tie as tie
+use Rattle.read_value.proofs.push_path.Statement.{statement}
+use Rattle.read_value.proofs.push_path.Tie as tie
 
 parse-atom-ptr-requires : tie.Need-parse-atom-ptr-requires
 parse-atom-ptr-requires c κs = search needs

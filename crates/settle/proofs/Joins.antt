@@ -16,8 +16,8 @@ use Rattle.store.proofs.Stored.{half}
 use Rattle.traverse_path_with_vec.specs.Leads.{HaveLists}
 use Rattle.traverse_path_with_vec.proofs.Adding.{fewer-listed}
 use Rattle.traverse_path_with_vec.proofs.Leading.{drop-values}
-use Rattle.read_item.specs.declared.Reader.{Reader}
-use Rattle.read_item.specs.State.{storedWith, Ready, Onward, NoJoin}
+use Rattle.settle.specs.declared.Reader.{Reader}
+use Rattle.settle.specs.State.{storedWith, Ready, Onward, NoJoin}
 
 pub length-values : (w : List ℕ) (n : ℕ) → length (valuesOf w n) ≡ n
 unfolding valuesOf

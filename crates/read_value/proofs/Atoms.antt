@@ -15,11 +15,13 @@ use Rattle.reading.specs.Store.{Store, Stored, small-or-listed, new-atom, push-
 use Rattle.reading.specs.Sound.{Sound, unlisted, sound-atom}
 use Rattle.reading.specs.Blobs.{Within, blob-within, length-blob}
 use Rattle.store.specs.Layout.{opsOf, valuesOf}
-use Rattle.read_item.specs.declared.Reader.{Reader}
-use Rattle.read_item.specs.declared.Item.{Item}
-use Rattle.read_item.specs.State.{storedOf, Ready, Next, AtomRoom, AtomPushed, Lent, Stands, SteppedAtom}
-use Rattle.read_item.proofs.Joins.{length-ops, stored-is}
-use Rattle.read_item.proofs.Lending.{Counts, counts, lent-after, item-same, item-stands}
+use Rattle.settle.specs.declared.Reader.{Reader}
+use Rattle.settle.specs.declared.Item.{Item}
+use Rattle.settle.specs.State.{Ready, Next}
+use Rattle.read_value.specs.Whole.{storedOf, Lent, Stands}
+use Rattle.read_value.specs.Values.{AtomRoom, AtomPushed, SteppedAtom}
+use Rattle.settle.proofs.Joins.{length-ops, stored-is}
+use Rattle.read_value.proofs.Lending.{Counts, counts, lent-after, item-same, item-stands}
 
 -- ---- what the parser found
 

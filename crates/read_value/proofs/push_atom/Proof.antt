@@ -1,11 +1,11 @@
--- `read_item::push_atom` meets its contract.
+-- `read_value::push_atom` meets its contract.
 -- Assumes nothing.
 use mathlib.Core.Path.{refl, ap}
 use native.Mathlib.Omega.{arith}
 use lib.ListN.{length}
 use borrow.Author.Needs.{needs}
-use Rattle.read_item.proofs.push_atom.Statement.{statement}
-use Rattle.read_item.proofs.push_atom.Tie as tie
+use Rattle.read_value.proofs.push_atom.Statement.{statement}
+use Rattle.read_value.proofs.push_atom.Tie as tie
 
 parse-atom-ptr-requires : tie.Need-parse-atom-ptr-requires
 parse-atom-ptr-requires c κs = search needs

@@ -25,10 +25,11 @@ use Rattle.store.proofs.Stored.{half}
 use Rattle.path_walk.specs.Answers as walk-law
 use Rattle.traverse_path_with_vec.specs.Leads as leads
 use Rattle.traverse_path_with_vec.specs.declared.Built.{Built}
-use Rattle.read_item.specs.declared.Reader.{Reader}
-use Rattle.read_item.specs.State.{storedWith, Ready, node-pushed, BeforePath, PathFound, path-there, PathPushed}
-use Rattle.read_item.proofs.Joins.{length-ops, stored-is, Room, room}
-use Rattle.read_item.proofs.Atoms.{Found, found-at, refused-at}
+use Rattle.settle.specs.declared.Reader.{Reader}
+use Rattle.settle.specs.State.{storedWith, Ready}
+use Rattle.read_value.specs.Values.{node-pushed, BeforePath, PathFound, path-there, PathPushed}
+use Rattle.settle.proofs.Joins.{length-ops, stored-is, Room, room}
+use Rattle.read_value.proofs.Atoms.{Found, found-at, refused-at}
 
 -- ---- a path changes no atom
 

@@ -1,12 +1,12 @@
--- `read_item::path_item` meets its contract.
+-- `read_value::path_item` meets its contract.
 -- Assumes nothing.
 use mathlib.Core.Path.{refl, sym, ap, _∙_}
 use Rattle.parse_atom.specs.Answers.{parseOf}
-use Rattle.read_item.specs.State.{path-refused}
-use Rattle.read_item.proofs.Paths as paths
+use Rattle.read_value.specs.Values.{path-refused}
+use Rattle.read_value.proofs.Paths as paths
 use borrow.Author.Needs.{needs}
-use Rattle.read_item.proofs.path_item.Statement.{statement}
-use Rattle.read_item.proofs.path_item.Tie as tie
+use Rattle.read_value.proofs.path_item.Statement.{statement}
+use Rattle.read_value.proofs.path_item.Tie as tie
 
 enum-known-found : tie.Need-enum-known-found
 enum-known-found c = search needs

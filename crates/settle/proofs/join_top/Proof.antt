@@ -1,13 +1,13 @@
--- `read_item::join_top` meets its contract.
+-- `settle::join_top` meets its contract.
 -- Assumes nothing.
 use Prim.Native.Nat.{_-_}
 use mathlib.Core.Path.{refl}
 use native.Mathlib.Omega.{arith}
 use Rattle.store.specs.Layout.{opsOf}
-use Rattle.read_item.proofs.Joins as joins
+use Rattle.settle.proofs.Joins as joins
 use borrow.Author.Needs.{needs}
-use Rattle.read_item.proofs.join_top.Statement.{statement}
-use Rattle.read_item.proofs.join_top.Tie as tie
+use Rattle.settle.proofs.join_top.Statement.{statement}
+use Rattle.settle.proofs.join_top.Tie as tie
 
 sub-listed-among : tie.Need-sub-listed-among
 sub-listed-among c =

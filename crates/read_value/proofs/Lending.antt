@@ -11,11 +11,12 @@ use Rattle.reading.specs.Store.{Stored}
 use Rattle.reading.specs.Sound.{Sound}
 use Rattle.store.specs.Layout.{opsOf}
 use Rattle.store.proofs.Stored.{half}
-use Rattle.read_item.specs.declared.Reader.{Reader}
-use Rattle.read_item.specs.declared.Item.{Item}
-use Rattle.read_item.specs.declared.Item.the-variants as item
-use Rattle.read_item.specs.State.{storedWith, storedOf, zeros-from, Follows, itemWith, itemOf, FollowsItem, Lent, StandsItem}
-use Rattle.read_item.proofs.Joins.{length-values}
+use Rattle.settle.specs.declared.Reader.{Reader}
+use Rattle.settle.specs.declared.Item.{Item}
+use Rattle.settle.specs.declared.Item.the-variants as item
+use Rattle.settle.specs.State.{storedWith, Follows, itemWith, FollowsItem}
+use Rattle.read_value.specs.Whole.{storedOf, zeros-from, itemOf, Lent, StandsItem}
+use Rattle.settle.proofs.Joins.{length-values}
 
 drop-zeros : (m k : ℕ) → drop {A = ℕ} m (replicate k 0) ≡ replicate (k - m) 0
 drop-zeros zero zero = refl

@@ -1,11 +1,11 @@
--- `read_item::atom_item` meets its contract.
+-- `read_value::atom_item` meets its contract.
 -- Assumes nothing.
 use mathlib.Core.Path.{sym, ap, _∙_}
 use Rattle.parse_atom.specs.Answers.{parseOf}
-use Rattle.read_item.proofs.Atoms as atoms
+use Rattle.read_value.proofs.Atoms as atoms
 use borrow.Author.Needs.{needs}
-use Rattle.read_item.proofs.atom_item.Statement.{statement}
-use Rattle.read_item.proofs.atom_item.Tie as tie
+use Rattle.read_value.proofs.atom_item.Statement.{statement}
+use Rattle.read_value.proofs.atom_item.Tie as tie
 
 enum-known-found : tie.Need-enum-known-found
 enum-known-found c = search needs
