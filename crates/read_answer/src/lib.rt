@@ -67,7 +67,7 @@ pub fn answer(work: &[u32], r: Reader) -> ReadAnswer
 {
     ReadAnswer {
         number: 0,
-        root: work[store::VALUES],
+        root: work[reader_stacks::VALUES],
         pairs: r.pairs as u32,
         atoms: r.atoms as u32,
         bytes: r.bytes as u32,

@@ -13,7 +13,7 @@ use Rattle.atom.specs.Parse.{parse}
 use Rattle.reading.specs.Format.{ParseOp, SExp, Cons, go, stop, settle, atom-item, path-item, next-item, step}
 use Rattle.reading.specs.Store.{Value, Stored, store-values}
 use Rattle.reading.specs.Sound.{Sound, unlisted, sound-pair}
-use Rattle.store.specs.Layout.{opsOf, PushedPair}
+use Rattle.reader_stacks.specs.Layout.{opsOf, PushedPair}
 use Rattle.settle.specs.declared.Reader.{Reader}
 use Rattle.settle.specs.declared.Item.{Item}
 use Rattle.settle.specs.declared.Item.the-variants as item

@@ -5,7 +5,7 @@ use settle::Reader;
 ghost use mathlib.Core.Path.{_≡_};
 ghost use Prim.Native.Nat.{_+_, _≤_};
 ghost use lib.ListN.{length};
-ghost use Rattle.store.specs.Layout.{PushedPair};
+ghost use Rattle.reader_stacks.specs.Layout.{PushedPair};
 ghost use Rattle.read_value.specs.Whole.{Stands};
 ghost use Rattle.read_item.specs.Step.{Stepped, pair-begun};
 
@@ -14,7 +14,7 @@ fn pair_item(work: &mut [u32], r: Reader) -> Item
     ensures { λ i. ⌜ (PushedPair (now (work .entry)) (now (work .exit)) (r .ops)) × (i ≡ Item.Go (pair-begun r)) ⌝ }
 {
     let ops = r.ops;
-    store::push_pair(work, ops);
+    reader_stacks::push_pair(work, ops);
     Item::Go(Reader {
         position: r.position + 1,
         ops: ops + 2,

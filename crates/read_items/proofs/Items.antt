@@ -8,7 +8,7 @@ use lib.ListN.{length}
 use Rattle.reading.specs.Format.{At, Step, step, then, run, read}
 use Rattle.reading.specs.Store.{Stored, store-values, read-stored}
 use Rattle.reading.specs.Sound.{sound-start}
-use Rattle.store.specs.Layout.{opsOf, valuesOf}
+use Rattle.reader_stacks.specs.Layout.{opsOf, valuesOf}
 use Rattle.read_value.specs.Whole.{atOf, Lent, Stands, itemOf}
 use Rattle.read_item.specs.Step.{Stepped}
 use Rattle.settle.specs.declared.Reader.{Reader}

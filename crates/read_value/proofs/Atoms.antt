@@ -14,7 +14,7 @@ use Rattle.reading.specs.Format.{ParseOp, SExp, stop, settle, atom-item}
 use Rattle.reading.specs.Store.{Store, Stored, small-or-listed, new-atom, push-made, store-values}
 use Rattle.reading.specs.Sound.{Sound, unlisted, sound-atom}
 use Rattle.reading.specs.Blobs.{Within, blob-within, length-blob}
-use Rattle.store.specs.Layout.{opsOf, valuesOf}
+use Rattle.reader_stacks.specs.Layout.{opsOf, valuesOf}
 use Rattle.settle.specs.declared.Reader.{Reader}
 use Rattle.settle.specs.declared.Item.{Item}
 use Rattle.settle.specs.State.{Ready, Next}

@@ -9,7 +9,7 @@ use lib.Seq.{drop-drop, length-take-le}
 use Rattle.reading.specs.Format.{ParseOp, SExp, Step, go, whole}
 use Rattle.reading.specs.Store.{Stored}
 use Rattle.reading.specs.Sound.{Sound}
-use Rattle.store.specs.Layout.{opsOf}
+use Rattle.reader_stacks.specs.Layout.{opsOf}
 use Rattle.store.proofs.Stored.{half}
 use Rattle.settle.specs.declared.Reader.{Reader}
 use Rattle.settle.specs.declared.Item.{Item}

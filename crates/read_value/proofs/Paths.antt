@@ -19,8 +19,8 @@ use Rattle.reading.specs.Store.{Store, Value, Stored, Listed, Led, add-to-list,
 use Rattle.reading.specs.Sound.{Sound, Known, KnownHandle, KnownValue, sound-path-some}
 use Rattle.reading.specs.Sound as sound-law
 use Rattle.reading.specs.Blobs.{Within, length-blob}
-use Rattle.store.specs.Layout.{VALUES, opsOf, valuesOf, PushedValue}
-use Rattle.store.proofs.Stacks.{ops-same}
+use Rattle.reader_stacks.specs.Layout.{VALUES, opsOf, valuesOf, PushedValue}
+use Rattle.reader_stacks.proofs.Stacks.{ops-same}
 use Rattle.store.proofs.Stored.{half}
 use Rattle.path_walk.specs.Answers as walk-law
 use Rattle.traverse_path_with_vec.specs.Leads as leads

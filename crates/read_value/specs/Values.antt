@@ -9,7 +9,8 @@ use Rattle.reading.specs.Sound.{Sound}
 use Rattle.atom.specs.Parse.{Parse, blob, parse, parse-at}
 use Rattle.traverse_path_with_vec.specs.declared.Built.{Built}
 use Rattle.traverse_path_with_vec.specs.Leads.{HaveLists}
-use Rattle.store.specs.Layout.{opsOf, PushedValue, AtomStored}
+use Rattle.store.specs.Atoms.{AtomStored}
+use Rattle.reader_stacks.specs.Layout.{opsOf, PushedValue}
 use Rattle.settle.specs.State.{storedWith, Next}
 use Rattle.settle.specs.declared.Reader.{Reader}
 use Rattle.settle.specs.declared.Item.{Item}

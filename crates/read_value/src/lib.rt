@@ -7,7 +7,7 @@ use traverse_path_with_vec::Traversed;
 ghost use mathlib.Core.Path.{_≡_};
 ghost use Prim.Native.Nat.{_+_, _<_, _≤_};
 ghost use lib.ListN.{length};
-ghost use Rattle.store.specs.Layout.{PushedValue};
+ghost use Rattle.reader_stacks.specs.Layout.{PushedValue};
 ghost use Rattle.read_value.specs.Whole.{Stands};
 ghost use Rattle.read_value.specs.Values.{AtomRoom, AtomPushed, SteppedAtom, node-pushed, BeforePath, PathFound, SteppedPath};
 ghost use Rattle.atom.specs.Parse.{blob-of, parse-at};
@@ -31,7 +31,7 @@ fn push_atom(
     let size = r.bytes;
     let values = r.values;
     let a = store::new_atom(atoms, bytes, used, size, blob);
-    store::push_value(work, values, a.node);
+    reader_stacks::push_value(work, values, a.node);
     Reader {
         position: end,
         ops: r.ops,
@@ -72,7 +72,7 @@ fn push_node(work: &mut [u32], r: Reader, b: Built, end: usize) -> Reader
     ensures { λ s. ⌜ (PushedValue (now (work .entry)) (now (work .exit)) (r .values) (b .node .0)) × (s ≡ node-pushed r b end) ⌝ }
 {
     let values = r.values;
-    store::push_value(work, values, b.node);
+    reader_stacks::push_value(work, values, b.node);
     Reader {
         position: end,
         ops: r.ops,

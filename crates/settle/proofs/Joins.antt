@@ -10,8 +10,8 @@ use Rattle.words.specs.Words.{at}
 use Rattle.reading.specs.Format.{ParseOp, SExp, Cons, settle}
 use Rattle.reading.specs.Store.{Store, Value, Stored, join-values, store-values}
 use Rattle.reading.specs.Sound.{Sound, unlisted, conses, sound-join, sound-two}
-use Rattle.store.specs.Layout.{OPS, opOf, opsOf, valueAt, valuesOf, Joined}
-use Rattle.store.proofs.Stacks.{ops-more, values-two}
+use Rattle.reader_stacks.specs.Layout.{OPS, opOf, opsOf, valueAt, valuesOf, Joined}
+use Rattle.reader_stacks.proofs.Stacks.{ops-more, values-two}
 use Rattle.store.proofs.Stored.{half}
 use Rattle.traverse_path_with_vec.specs.Leads.{HaveLists}
 use Rattle.traverse_path_with_vec.proofs.Adding.{fewer-listed}

@@ -10,7 +10,7 @@ use Rattle.reading.specs.Format.{ParseOp, SExp, Cons, go, at-end, settle}
 use Rattle.reading.specs.Store.{store-values}
 use Rattle.reading.specs.Sound.{Sound}
 use Rattle.words.specs.Words.{at}
-use Rattle.store.specs.Layout.{OPS, opOf, opsOf}
+use Rattle.reader_stacks.specs.Layout.{OPS, opOf, opsOf}
 use Rattle.settle.specs.declared.Reader.{Reader}
 use Rattle.settle.specs.declared.Item.the-variants as item
 use Rattle.settle.specs.State.{storedWith, Follows, NoJoin, Settled, Next}

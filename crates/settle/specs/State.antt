@@ -7,7 +7,7 @@ use Rattle.reading.specs.Format.{ParseOp, SExp, Cons, Step, go, whole, stop, se
 use Rattle.reading.specs.Store.{Stored, store-values}
 use Rattle.reading.specs.Sound.{Sound}
 use Rattle.traverse_path_with_vec.specs.Leads.{HaveLists}
-use Rattle.store.specs.Layout.{opsOf, valuesOf}
+use Rattle.reader_stacks.specs.Layout.{opsOf, valuesOf}
 use Rattle.settle.specs.declared.Reader.{Reader}
 use Rattle.settle.specs.declared.Item.{Item}
 use Rattle.settle.specs.declared.Item.the-variants as item

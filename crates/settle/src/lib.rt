@@ -1,11 +1,11 @@
 // de_br.rs: the pairs that a value completes, and what comes next.
-use store::OPS;
+use reader_stacks::OPS;
 ghost use mathlib.Core.Path.{_≡_};
 ghost use mathlib.Core.List.{_∷_};
 ghost use Prim.Native.Nat.{_-_, _<_, _≤_};
 ghost use lib.ListN.{length};
 ghost use Rattle.reading.specs.Format.{Cons};
-ghost use Rattle.store.specs.Layout.{opsOf};
+ghost use Rattle.reader_stacks.specs.Layout.{opsOf};
 ghost use Rattle.settle.specs.State.{Ready, Onward, Settled, Next};
 
 // Where the reader stands: the next byte, and how much of each stack and of the store is in use. The lowest `listed` values are known to have a list.
@@ -35,7 +35,7 @@ fn join_top(work: &mut [u32], pairs: &mut [u32], r: Reader) -> Reader
     let values = r.values;
     let used = r.pairs;
     let listed = traverse_path_with_vec::listed_among(r.listed, values - 2);
-    store::join(work, pairs, values, used);
+    reader_stacks::join(work, pairs, values, used);
     Reader {
         position: r.position,
         ops: r.ops - 1,

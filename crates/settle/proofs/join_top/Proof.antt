@@ -3,7 +3,7 @@
 use Prim.Native.Nat.{_-_}
 use mathlib.Core.Path.{refl}
 use native.Mathlib.Omega.{arith}
-use Rattle.store.specs.Layout.{opsOf}
+use Rattle.reader_stacks.specs.Layout.{opsOf}
 use Rattle.settle.proofs.Joins as joins
 use borrow.Author.Needs.{needs}
 use Rattle.settle.proofs.join_top.Statement.{statement}

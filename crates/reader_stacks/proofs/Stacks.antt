@@ -10,7 +10,7 @@ use Rattle.words.specs.Words.{at}
 use Rattle.words.proofs.Words.{Store, stores, miss, hit}
 use Rattle.reading.specs.Format.{ParseOp, SExp, Cons}
 use Rattle.reading.specs.Store.{Value}
-use Rattle.store.specs.Layout.{OPS, VALUES, opOf, opsOf, listOf, valueAt, valuesOf, PushedValue, PushedPair}
+use Rattle.reader_stacks.specs.Layout.{OPS, VALUES, opOf, opsOf, listOf, valueAt, valuesOf, PushedValue, PushedPair}
 
 -- n operations keep where the words from OPS on keep
 pub ops-same : (w w′ : List ℕ) (n : ℕ) → ((k : ℕ) → k < OPS + n → at w′ k ≡ at w k) → opsOf w′ n ≡ opsOf w n

@@ -1,11 +1,11 @@
--- `store::push_pair` meets its contract: its two stores go past the operations that are there, and below the values.
+-- `reader_stacks::push_pair` meets its contract: its two stores go past the operations that are there, and below the values.
 -- Assumes nothing.
 use native.Mathlib.Omega.{arith}
 use lib.ListN.{length-set}
 use borrow.Author.Needs.{needs}
-use Rattle.store.proofs.Stacks.{pushed-pair}
-use Rattle.store.proofs.push_pair.Statement.{statement}
-use Rattle.store.proofs.push_pair.Tie as tie
+use Rattle.reader_stacks.proofs.Stacks.{pushed-pair}
+use Rattle.reader_stacks.proofs.push_pair.Statement.{statement}
+use Rattle.reader_stacks.proofs.push_pair.Tie as tie
 
 add-work : tie.Need-add-work
 add-work c = search needs

@@ -1,11 +1,11 @@
--- `store::push_value` meets its contract: its two stores go past the values that are there, and above the operations.
+-- `reader_stacks::push_value` meets its contract: its two stores go past the values that are there, and above the operations.
 -- Assumes nothing.
 use native.Mathlib.Omega.{arith}
 use lib.ListN.{length-set}
 use borrow.Author.Needs.{needs}
-use Rattle.store.proofs.Stacks.{pushed-value}
-use Rattle.store.proofs.push_value.Statement.{statement}
-use Rattle.store.proofs.push_value.Tie as tie
+use Rattle.reader_stacks.proofs.Stacks.{pushed-value}
+use Rattle.reader_stacks.proofs.push_value.Statement.{statement}
+use Rattle.reader_stacks.proofs.push_value.Tie as tie
 
 mul-work : tie.Need-mul-work
 mul-work c = search needs
