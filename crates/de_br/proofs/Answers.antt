@@ -14,9 +14,9 @@ use Rattle.reading.specs.Format.{Read}
 use Rattle.reading.specs.Store.{Stored, read-stored}
 use Rattle.reading.specs.Bounds.{Bounds, sound-bounds}
 use Rattle.reading.specs.Call.{Slices, Result, refusal, zeroed, filled, root-of, answer-of, after, long-enough, reading}
-use Rattle.store.specs.Layout.{VALUES, valuesOf}
-use Rattle.read_item.specs.State.{storedOf, Lent, Ends}
-use Rattle.read_item.specs.declared.Reader.{Reader}
+use Rattle.reader_stacks.specs.Layout.{VALUES, valuesOf}
+use Rattle.read_value.specs.Whole.{storedOf, Lent, Ends}
+use Rattle.settle.specs.declared.Reader.{Reader}
 use Rattle.read_items.specs.declared.Outcome.{Outcome}
 use Rattle.read_items.specs.declared.Outcome.the-variants as outcome
 use Rattle.read_items.specs.Outcome.{start, ReadAll}

@@ -4,8 +4,8 @@ use mathlib.Core.List.{List}
 use lib.ListN.{length}
 use Rattle.words.specs.Words.{at}
 use Rattle.reading.specs.Call.{Answer, Slices}
-use Rattle.store.specs.Layout.{VALUES}
-use Rattle.read_item.specs.declared.Reader.{Reader}
+use Rattle.reader_stacks.specs.Layout.{VALUES}
+use Rattle.settle.specs.declared.Reader.{Reader}
 use Rattle.read_answer.specs.declared.ReadAnswer.{ReadAnswer}
 
 abbrev pub answerOf : ReadAnswer → Answer

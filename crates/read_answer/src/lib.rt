@@ -1,5 +1,5 @@
 // The reading call's answer, its question 1, and what it clears.
-use read_item::Reader;
+use settle::Reader;
 ghost use mathlib.Core.Path.{_≡_};
 ghost use Rattle.reading.specs.Call.{refusal as call-refusal, zeroed, long-enough};
 ghost use Rattle.read_answer.specs.Answer.{slices, answerOf, Counts, answerAt};
@@ -67,7 +67,7 @@ pub fn answer(work: &[u32], r: Reader) -> ReadAnswer
 {
     ReadAnswer {
         number: 0,
-        root: work[store::VALUES],
+        root: work[reader_stacks::VALUES],
         pairs: r.pairs as u32,
         atoms: r.atoms as u32,
         bytes: r.bytes as u32,

@@ -13,13 +13,16 @@ use Rattle.atom.specs.Parse.{parse}
 use Rattle.reading.specs.Format.{ParseOp, SExp, Cons, go, stop, settle, atom-item, path-item, next-item, step}
 use Rattle.reading.specs.Store.{Value, Stored, store-values}
 use Rattle.reading.specs.Sound.{Sound, unlisted, sound-pair}
-use Rattle.store.specs.Layout.{opsOf, PushedPair}
-use Rattle.read_item.specs.declared.Reader.{Reader}
-use Rattle.read_item.specs.declared.Item.{Item}
-use Rattle.read_item.specs.declared.Item.the-variants as item
-use Rattle.read_item.specs.State.{storedWith, storedOf, atOf, Lent, Stands, Stepped, SteppedAtom, pair-begun, BeforePath, path-there, SteppedPath, path-settled, path-refused}
-use Rattle.read_item.proofs.Joins.{length-ops}
-use Rattle.read_item.proofs.Lending.{lent-after, item-same, item-stands}
+use Rattle.reader_stacks.specs.Layout.{opsOf, PushedPair}
+use Rattle.settle.specs.declared.Reader.{Reader}
+use Rattle.settle.specs.declared.Item.{Item}
+use Rattle.settle.specs.declared.Item.the-variants as item
+use Rattle.settle.specs.State.{storedWith}
+use Rattle.read_value.specs.Whole.{storedOf, atOf, Lent, Stands}
+use Rattle.read_value.specs.Values.{SteppedAtom, BeforePath, path-there, SteppedPath, path-settled, path-refused}
+use Rattle.read_item.specs.Step.{Stepped, pair-begun}
+use Rattle.settle.proofs.Joins.{length-ops}
+use Rattle.read_value.proofs.Lending.{lent-after, item-same, item-stands}
 
 module _ (input w p a b : List ℕ) (r : Reader) where
   abbrev ops : List ParseOp

@@ -1,6 +1,1 @@
-pub mod Joins
-pub mod Settling
-pub mod Lending
-pub mod Atoms
-pub mod Paths
-pub mod Items
+mod Items

@@ -8,11 +8,12 @@ use lib.ListN.{length}
 use Rattle.reading.specs.Format.{At, Step, step, then, run, read}
 use Rattle.reading.specs.Store.{Stored, store-values, read-stored}
 use Rattle.reading.specs.Sound.{sound-start}
-use Rattle.store.specs.Layout.{opsOf, valuesOf}
-use Rattle.read_item.specs.State.{atOf, Lent, Stands, itemOf, Stepped}
-use Rattle.read_item.specs.declared.Reader.{Reader}
-use Rattle.read_item.specs.declared.Item.{Item}
-use Rattle.read_item.specs.declared.Item.the-variants as item
+use Rattle.reader_stacks.specs.Layout.{opsOf, valuesOf}
+use Rattle.read_value.specs.Whole.{atOf, Lent, Stands, itemOf}
+use Rattle.read_item.specs.Step.{Stepped}
+use Rattle.settle.specs.declared.Reader.{Reader}
+use Rattle.settle.specs.declared.Item.{Item}
+use Rattle.settle.specs.declared.Item.the-variants as item
 use Rattle.read_items.specs.declared.Outcome.the-variants as outcome
 use Rattle.read_items.specs.Outcome.{start, ReadAll}
 

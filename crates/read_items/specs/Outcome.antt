@@ -4,8 +4,8 @@ use mathlib.Core.Path.{_≡_}
 use mathlib.Core.List.{List}
 use Rattle.reading.specs.Format.{Read, accepted, turned-down}
 use Rattle.reading.specs.Store.{Stored}
-use Rattle.read_item.specs.State.{storedOf, Ends}
-use Rattle.read_item.specs.declared.Reader.{Reader}
+use Rattle.read_value.specs.Whole.{storedOf, Ends}
+use Rattle.settle.specs.declared.Reader.{Reader}
 use Rattle.read_items.specs.declared.Outcome.{Outcome}
 use Rattle.read_items.specs.declared.Outcome.the-variants as outcome
 

@@ -1,8 +1,8 @@
 // All items of a serialized tree, one after the other.
-use read_item::Item;
-use read_item::Reader;
+use settle::Item;
+use settle::Reader;
 ghost use Rattle.reading.specs.Store.{read-stored};
-ghost use Rattle.read_item.specs.State.{Lent};
+ghost use Rattle.read_value.specs.Whole.{Lent};
 ghost use Rattle.read_items.specs.Outcome.{start, ReadAll};
 
 // What reading gives.

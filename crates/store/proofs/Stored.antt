@@ -1,6 +1,6 @@
--- Laws of the store: two words appended, a small and a listed atom stored, two values joined.
+-- Laws of the store: two words appended, a small and a listed atom stored.
 -- Assumes nothing.
-use Prim.Native.Nat.{ℕ, _+_, _-_, _*_, _/_, _≤_}
+use Prim.Native.Nat.{ℕ, _+_, _*_, _/_, _≤_}
 use mathlib.Core.Path.{_≡_, refl, sym, ap, _∙_}
 use mathlib.Core.List.{List, [], _∷_, _++_}
 use mathlib.Core.Option.{Option, none, some}
@@ -8,12 +8,11 @@ use native.Mathlib.Omega.{arith}
 use native.Mathlib.Numerals.{add-one}
 use lib.ListN.{length, take, drop, set}
 use lib.Seq.{paste, take-paste, drop-paste, sets-eq, length-take-le, take-length}
-use Rattle.allocator.specs.Handle.{handle-of, pair, listed-atom, small-atom}
+use Rattle.allocator.specs.Handle.{handle-of, listed-atom, small-atom}
 use Rattle.allocator.specs.SmallAtom.{fits-in-small-atom, fits-answer}
 use Rattle.allocator.specs.declared.FitsInSmallAtom.the-variants.{Small, Listed}
-use Rattle.reading.specs.Store.{Store, Stored, Value, Made, new-pair, new-listed, new-atom, small-or-listed, push-made, join-values}
-use Rattle.store.specs.Layout.{valueAt, valuesOf, PushedValue, ListedAppended, AtomStored, Joined}
-use Rattle.store.proofs.Stacks.{values-two}
+use Rattle.reading.specs.Store.{Store, Made, new-listed, new-atom, small-or-listed}
+use Rattle.store.specs.Atoms.{ListedAppended, AtomStored}
 
 -- two words after the first n pairs of words
 module _ (d : List ℕ) (n x y : ℕ) (room : 2 * n + 2 ≤ length d) where
@@ -91,30 +90,4 @@ module _ (a b : List ℕ) (n m : ℕ) (blob a′ b′ : List ℕ) (node n′ m�
             ∙ (λ i. drop (sym (done .size-is) i) b);
         atoms-grow = omega (arith, done .count-is);
         bytes-grow = omega (arith, done .size-is);
-      }
-
--- ---- two values joined
-
--- what `join-values` makes of two values or more
-pub joins : (w : List ℕ) (n : ℕ) → 2 ≤ n → (s : Store)
-    → join-values (valuesOf w n) s ≡ push-made (new-pair (valueAt w (n - 2) .node) (valueAt w (n - 1) .node) s) (valuesOf w (n - 2))
-joins w n two s = ap (λ (vs : List Value). join-values vs s) (values-two w n two)
-
-module _ (w p : List ℕ) (n used node : ℕ) (w′ p′ : List ℕ) (two : 2 ≤ n) (room : 2 * used + 2 ≤ length p) (is : node ≡ handle-of (pair used))
-    (appended : p′ ≡ paste p (2 * used) (valueAt w (n - 2) .node ∷ valueAt w (n - 1) .node ∷ []) 2) (push : PushedValue w w′ (n - 2) node) where
-  pub joined : Joined w p n used w′ p′
-  joined =
-      let e : n - 1 ≡ n - 2 + 1 = omega arith in
-      record {
-        values-are =
-            λ s q.
-            ap (valuesOf w′) e ∙ push .values
-            ∙ (λ i. record { node = (is ∙ ap (λ (k : ℕ). handle-of (pair k)) (sym (half p (s .pairs) used (omega arith) q))) i; list = none } ∷ valuesOf w (n - 2))
-            ∙ sym (ap (λ (x : Stored). x .values) (joins w n two s));
-        pairs-are =
-            λ s q.
-            ap (take (2 * (used + 1))) appended ∙ take-two p used (valueAt w (n - 2) .node) (valueAt w (n - 1) .node) room
-            ∙ (λ i. sym q i ++ valueAt w (n - 2) .node ∷ valueAt w (n - 1) .node ∷ []) ∙ sym (ap (λ (x : Stored). x .store .pairs) (joins w n two s));
-        pairs-rest = ap (drop (2 * (used + 1))) appended ∙ drop-two p used (valueAt w (n - 2) .node) (valueAt w (n - 1) .node) room;
-        ops = push .ops;
       }

@@ -11,8 +11,8 @@ use lib.Seq.{paste, getD-set-same, getD-set-other, drop-drop}
 use Rattle.words.specs.Words.{at}
 use Rattle.allocator.specs.Handle.{handle-of, pair, nil}
 use Rattle.reading.specs.Store.{Store, Value, Listed, add-to-list, list-of}
-use Rattle.store.specs.Layout.{VALUES, listOf, valueAt, valuesOf}
-use Rattle.store.proofs.Stacks.{values-same, values-more}
+use Rattle.reader_stacks.specs.Layout.{VALUES, listOf, valueAt, valuesOf}
+use Rattle.reader_stacks.proofs.Stacks.{values-same, values-more}
 use Rattle.store.proofs.Stored.{take-two, drop-two, half}
 use Rattle.traverse_path_with_vec.specs.declared.Built.{Built}
 use Rattle.reading.specs.Sound.{unlisted}

@@ -14,7 +14,7 @@ use Rattle.path.specs.Bytes.{read-path}
 use Rattle.allocator.specs.Handle.{Node, node-of, nil}
 use Rattle.allocator.specs.HandleLaws.{handle-of-node-of, handle-of-nil, node-of-nil}
 use Rattle.reading.specs.Store.{Store, Value, Listed, Led, walk, node-handle, led-to, list-of, above, lead}
-use Rattle.store.specs.Layout.{VALUES, listOf, valueAt, valuesOf}
+use Rattle.reader_stacks.specs.Layout.{VALUES, listOf, valueAt, valuesOf}
 use Rattle.path_walk.specs.declared.PathBits.the-variants as path-bits
 use Rattle.path_walk.specs.declared.Walked.{Walked}
 use Rattle.path_walk.specs.declared.Walked.the-variants as walked

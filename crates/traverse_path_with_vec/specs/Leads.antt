@@ -9,7 +9,7 @@ use Rattle.words.specs.Words.{at}
 use Rattle.allocator.specs.Handle.{node-of, handle-of, nil}
 use Rattle.reading.specs.Store.{Store, Value, Listed, Led, add-to-list, list-of, lead}
 use Rattle.reading.specs.Sound.{one-if-none, unlisted}
-use Rattle.store.specs.Layout.{VALUES, valueAt, valuesOf}
+use Rattle.reader_stacks.specs.Layout.{VALUES, valueAt, valuesOf}
 use Rattle.path_walk.specs.Answers.{Within}
 use Rattle.path_walk.specs.declared.Walked.{Walked}
 use Rattle.path_walk.specs.declared.Walked.the-variants as walked

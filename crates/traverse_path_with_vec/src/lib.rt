@@ -2,13 +2,13 @@
 use allocator::NodePtr;
 use path_walk::PathBits;
 use path_walk::Walked;
-use store::VALUES;
+use reader_stacks::VALUES;
 ghost use mathlib.Core.Path.{_≡_};
 ghost use Prim.Native.Nat.{_*_, _≤_};
 ghost use lib.ListN.{length, take};
 ghost use Rattle.path.specs.Bytes.{read-path};
 ghost use Rattle.reading.specs.Store.{Store, list-of};
-ghost use Rattle.store.specs.Layout.{valuesOf};
+ghost use Rattle.reader_stacks.specs.Layout.{valuesOf};
 ghost use Rattle.traverse_path_with_vec.specs.Leads.{HaveLists, AddRoom, Adds, ListRoom, Lists, led, reached, Walkable, LeadsTo, SameTotal};
 
 // A list of the stack, how many pairs and ghost pairs there are then, and how many of the lowest values are known to have a list.

@@ -5,7 +5,7 @@ use mathlib.Core.Path.{_≡_, refl, _∙_}
 use native.Mathlib.Omega.{arith}
 use lib.ListN.{length}
 use borrow.Author.Needs.{needs}
-use Rattle.store.specs.Layout.{valuesOf}
+use Rattle.reader_stacks.specs.Layout.{valuesOf}
 use Rattle.reading.specs.Sound.{unlisted}
 use Rattle.traverse_path_with_vec.specs.Leads.{Lists}
 use Rattle.traverse_path_with_vec.proofs.Adding.{fewer-listed, lists-start, lists-more, lists-end, spent-start, spent-more, one-left}

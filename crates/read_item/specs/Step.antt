@@ -1,0 +1,18 @@
+-- One item of a serialized tree: what reading it leaves.
+use Prim.Native.Nat.{ℕ, _+_}
+use mathlib.Core.Path.{_≡_}
+use mathlib.Core.List.{List}
+use Rattle.reading.specs.Format.{step}
+use Rattle.reading.specs.Store.{store-values}
+use Rattle.settle.specs.declared.Reader.{Reader}
+use Rattle.settle.specs.declared.Item.{Item}
+use Rattle.read_value.specs.Whole.{atOf, itemOf, StandsItem}
+
+-- A pair's mark is passed.
+abbrev pub pair-begun : Reader → Reader
+pair-begun r = record { position = r .position + 1; ops = r .ops + 2; values = r .values; listed = r .listed; pairs = r .pairs; atoms = r .atoms; bytes = r .bytes; ghosts = r .ghosts }
+
+-- One item was read as the definition says.
+pub record Stepped (input w p a b : List ℕ) (r : Reader) (w′ p′ a′ b′ : List ℕ) (i : Item) : Type 0 where
+  pub same : step store-values (atOf input w p a b r) ≡ itemOf input w′ p′ a′ b′ i
+  pub stands : StandsItem input w′ p′ a′ b′ i

@@ -1,0 +1,3 @@
+pub mod Lending
+mod Atoms
+mod Paths
