@@ -1,3 +1,2 @@
 pub mod Stacks
 pub mod Marks
-pub mod Copied

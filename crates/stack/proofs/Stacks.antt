@@ -12,7 +12,7 @@ use Rattle.words.specs.Words.{at}
 use Rattle.words.proofs.Words.{Store, stores, miss, hits}
 use Rattle.layout.specs.Layout.{STACK, BELOW, TOPS, WRITTEN, ENTRIES, DEPTH}
 use Rattle.layout.specs.Rows.{prev, stack-of, Tops}
-use Rattle.stack.specs.Contracts.{Stacked, StackOnly, Pushed, Popped, PoppedTwo, PushedAll}
+use Rattle.stack.specs.Contracts.{Stacked, StackOnly, Pushed, Popped, PoppedTwo}
 use Rattle.layout.specs.Prev.{prev-le, prev-same, prev-here, prev-past, prev-holds, prev-above}
 
 -- What the search asks of TOPS.
@@ -197,19 +197,3 @@ popped-two w v w′ d h a b =
           (s ∙ ap {B = List ℕ} (λ x. x ∷ stack-of w′ (d - 2)) (a .places (d - 2) (omega arith)));
       only = only-both w v w′ (a .only) (b .only);
     }
-
--- A turn of a loop that pushes what stands from `from` on.
-module _ (w : List ℕ) (from : ℕ) (apart : WRITTEN ≤ from) where
-  pub pushed-none : Stacked w 0 → PushedAll w w from 0
-  pushed-none s = record { stacked = s; places = λ i l. absurd (omega arith); only = only-same w }
-
-  pub pushed-next : (v : List ℕ) (n : ℕ) → PushedAll w v from n → at v (from + n) ≡ at w (from + n)
-  pushed-next v n a = a .only .high (from + n) (omega arith)
-
-  pub pushed-more : (v w′ : List ℕ) (n : ℕ) → PushedAll w v from n → Pushed v w′ n (at v (from + n)) → PushedAll w w′ from (n + 1)
-  pushed-more v w′ n a b =
-      record { stacked = b .stacked; places = λ i l. go i l (ℕ-discrete i n); only = only-both w v w′ (a .only) (b .only) }
-    where
-      go : (i : ℕ) → i < n + 1 → Dec (i ≡ n) → at w′ (STACK + i) ≡ at w (from + i)
-      go i l (yes q) = rw q (b .top ∙ pushed-next v n a)
-      go i l (no q) = b .places i (omega arith) ∙ a .places i (omega arith)

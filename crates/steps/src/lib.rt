@@ -31,7 +31,7 @@ fn add(file: &[u8], work: &mut [u32], output: &mut [u8], p: Progress, node: Node
     requires { ⌜ Adding (now file) (now work) (now output) p (node .0) ⌝ }
     ensures { λ q. ⌜ Added (now (file .entry)) (now (work .entry)) (now (output .entry)) (now (work .exit)) (now (output .exit)) p node q ⌝ }
 {
-    stack::save(work, p.adds, p.opens, p.depth);
+    undo::save(work, p.adds, p.opens, p.depth);
     cache_update::update(work, node);
     let place = Place {
         opens: p.opens,
@@ -47,7 +47,7 @@ fn undo(work: &mut [u32], depth: usize, number: usize, c: Checkpoint)
     requires { ⌜ Undoing (now work) depth number c ⌝ }
     ensures { λ _. ⌜ Undone (now (work .entry)) (now (work .exit)) number c ⌝ }
 {
-    stack::restore(work, number, c.opens as usize, depth, c.depth as usize);
+    undo::restore(work, number, c.opens as usize, depth, c.depth as usize);
     progress::bring_entry(work, c.sentinel);
 }
 

@@ -1,12 +1,12 @@
--- `stack::save` meets its contract: its three copies go to parts of the copy that do not meet.
+-- `undo::save` meets its contract: its three copies go to parts of the copy that do not meet.
 -- Assumes nothing.
 use native.Mathlib.Omega.{arith}
 use borrow.Author.Needs.{needs}
 use Rattle.layout.specs.Layout.{OPEN, STACK, WRITTEN}
-use Rattle.stack.specs.Contracts.{copied-open, copied-stack, copied-marks}
-use Rattle.stack.proofs.Copied.{copied, saved}
-use Rattle.stack.proofs.save.Statement.{statement}
-use Rattle.stack.proofs.save.Tie as tie
+use Rattle.undo.specs.Contracts.{copied-open, copied-stack, copied-marks}
+use Rattle.undo.proofs.Copied.{copied, saved}
+use Rattle.undo.proofs.save.Statement.{statement}
+use Rattle.undo.proofs.save.Tie as tie
 
 mul-to : tie.Need-mul-to
 mul-to c = search needs

@@ -1,12 +1,12 @@
--- `stack::pop_all` meets its contract. The invariant: d entries are left, and only the words of the stack have changed. The measure is d.
+-- `undo::pop_all` meets its contract. The invariant: d entries are left, and only the words of the stack have changed. The measure is d.
 -- Assumes nothing.
 use mathlib.Core.Path.{_≡_, refl, _∙_}
 use native.Mathlib.Omega.{arith}
 use lib.ListN.{length}
 use Rattle.stack.specs.Contracts.{Stacked, StackOnly}
 use Rattle.stack.proofs.Stacks.{only-same, only-both}
-use Rattle.stack.proofs.pop_all.Statement.{statement}
-use Rattle.stack.proofs.pop_all.Tie as tie
+use Rattle.undo.proofs.pop_all.Statement.{statement}
+use Rattle.undo.proofs.pop_all.Tie as tie
 
 abbrev Inv-loop : tie.InvT-loop
 Inv-loop work₀ depth d₀ work d = (length work ≡ length work₀) × Stacked work d × StackOnly work₀ work

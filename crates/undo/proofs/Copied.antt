@@ -9,8 +9,8 @@ use lib.Seq.{paste, length-paste-head, getD-take, getD-drop, getD-append-add, le
 use Rattle.words.specs.Words.{at}
 use Rattle.words.proofs.Copies.{paste-other}
 use Rattle.layout.specs.Layout.{OPEN, STACK, WRITTEN, MOVED, COPIES, ENTRIES, DEPTH}
-use Rattle.stack.specs.Contracts.{PoppedAll, PushedAll, copied-open, copied-stack, copied-marks, Saved, Restored}
+use Rattle.undo.specs.Contracts.{PoppedAll, PushedAll, copied-open, copied-stack, copied-marks, Saved, Restored}
 use Rattle.stack.proofs.Stacks.{stacked-same}
 
 -- The n words from `from` on stand from `to` on, and nothing else is touched.
 pub record Copied (w w′ : List ℕ) (from to n : ℕ) : Type 0 where

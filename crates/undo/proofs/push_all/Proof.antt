@@ -1,14 +1,14 @@
--- `stack::push_all` meets its contract. The invariant: the first i entries are pushed. The measure is what is left.
+-- `undo::push_all` meets its contract. The invariant: the first i entries are pushed. The measure is what is left.
 -- Assumes nothing.
 use Prim.Native.Nat.{_≤_, _-_}
 use mathlib.Core.Path.{_≡_, refl, _∙_}
 use native.Mathlib.Omega.{arith}
 use lib.ListN.{length}
 use borrow.Author.Needs.{needs}
-use Rattle.stack.specs.Contracts.{PushedAll}
-use Rattle.stack.proofs.Stacks.{pushed-none, pushed-next, pushed-more}
-use Rattle.stack.proofs.push_all.Statement.{statement}
-use Rattle.stack.proofs.push_all.Tie as tie
+use Rattle.undo.specs.Contracts.{PushedAll}
+use Rattle.undo.proofs.Pushing.{pushed-none, pushed-next, pushed-more}
+use Rattle.undo.proofs.push_all.Statement.{statement}
+use Rattle.undo.proofs.push_all.Tie as tie
 
 abbrev Inv-loop : tie.InvT-loop
 Inv-loop work₀ from depth i₀ work i = (i ≤ depth) × (length work ≡ length work₀) × PushedAll work₀ work from i

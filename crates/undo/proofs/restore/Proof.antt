@@ -1,12 +1,12 @@
--- `stack::restore` meets its contract: the present stack goes, the copy's is pushed, open pairs and marks are copied back.
+-- `undo::restore` meets its contract: the present stack goes, the copy's is pushed, open pairs and marks are copied back.
 -- Assumes nothing.
 use native.Mathlib.Omega.{arith}
 use borrow.Author.Needs.{needs}
 use Rattle.layout.specs.Layout.{OPEN, WRITTEN}
-use Rattle.stack.specs.Contracts.{copied-open, copied-marks}
-use Rattle.stack.proofs.Copied.{copied, restored, entries-still}
-use Rattle.stack.proofs.restore.Statement.{statement}
-use Rattle.stack.proofs.restore.Tie as tie
+use Rattle.undo.specs.Contracts.{copied-open, copied-marks}
+use Rattle.undo.proofs.Copied.{copied, restored, entries-still}
+use Rattle.undo.proofs.restore.Statement.{statement}
+use Rattle.undo.proofs.restore.Tie as tie
 
 mul-from : tie.Need-mul-from
 mul-from c = search needs

@@ -1,0 +1,2 @@
+mod Pushing
+mod Copied
