@@ -1,10 +1,10 @@
--- `write_atom::prefix::prefix_width` meets its contract.
+-- `prefix::prefix_width` meets its contract.
 -- Assumes nothing.
 use mathlib.Core.Path.{sym, _∙_}
 use Rattle.atom.specs.WriteLaws.{width-of-single, width-of-large, width-of-sized}
 use borrow.Author.Needs.{needs}
-use Rattle.write_atom.proofs.prefix.prefix_width.Statement.{statement}
-use Rattle.write_atom.proofs.prefix.prefix_width.Tie as tie
+use Rattle.prefix.proofs.prefix_width.Statement.{statement}
+use Rattle.prefix.proofs.prefix_width.Tie as tie
 
 is-single-requires : tie.Need-is-single-requires
 is-single-requires c κs = search needs

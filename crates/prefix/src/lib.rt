@@ -6,7 +6,7 @@ ghost use lib.ListN.{length};
 ghost use lib.Seq.{paste};
 ghost use Rattle.words.specs.BigEndian.{«big-endian»};
 ghost use Rattle.atom.specs.Prefix.{least, width, mark, prefix, single, «prefix-width»};
-ghost use Rattle.write_atom.specs.Answers.{widthOf};
+ghost use Rattle.prefix.specs.Answers.{widthOf};
 
 // The least size that each prefix width may carry, for the widths 1 to 5.
 const LEAST: [u64; 5] = [0, 64, 8192, 1048576, 134217728];

@@ -1,12 +1,12 @@
--- `write_atom::prefix::shortest_width` meets its contract. The invariant: no width below `w` holds the size.
+-- `prefix::shortest_width` meets its contract. The invariant: no width below `w` holds the size.
 -- Assumes nothing.
 use Prim.Native.Nat.{_≤_, _-_}
 use mathlib.Core.Path.{_≡_, refl, _∙_}
 use native.Mathlib.Omega.{arith}
 use Rattle.atom.specs.Prefix.{first-width, width}
 use Rattle.atom.specs.PrefixLaws.{least-next, width-here, width-on}
-use Rattle.write_atom.proofs.prefix.shortest_width.Statement.{statement}
-use Rattle.write_atom.proofs.prefix.shortest_width.Tie as tie
+use Rattle.prefix.proofs.shortest_width.Statement.{statement}
+use Rattle.prefix.proofs.shortest_width.Tie as tie
 
 abbrev Inv-loop : tie.InvT-loop
 Inv-loop size w₀ w = (1 ≤ w) × (w ≤ 5) × (width size ≡ first-width (6 - w) w size)

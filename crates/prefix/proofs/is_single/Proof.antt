@@ -1,10 +1,10 @@
--- `write_atom::prefix::is_single` meets its contract.
+-- `prefix::is_single` meets its contract.
 -- Assumes nothing.
 use mathlib.Core.Path.{sym}
 use Rattle.atom.specs.PrefixLaws.{single-one, single-other}
 use borrow.Author.Needs.{needs}
-use Rattle.write_atom.proofs.prefix.is_single.Statement.{statement}
-use Rattle.write_atom.proofs.prefix.is_single.Tie as tie
+use Rattle.prefix.proofs.is_single.Statement.{statement}
+use Rattle.prefix.proofs.is_single.Tie as tie
 
 shared-slice-read-result : tie.Need-shared-slice-read-result
 shared-slice-read-result c = search needs

@@ -1,11 +1,11 @@
--- `write_atom::prefix::least_size` meets its contract: the table's rule, proved once over the widths.
+-- `prefix::least_size` meets its contract: the table's rule, proved once over the widths.
 -- Assumes nothing.
 use native.Mathlib.Omega.{arith}
 use Rattle.atom.specs.Prefix.{least}
 use Rattle.atom.specs.PrefixLaws.{table-at, least-sizes}
 use borrow.Author.Needs.{needs}
-use Rattle.write_atom.proofs.prefix.least_size.Statement.{statement}
-use Rattle.write_atom.proofs.prefix.least_size.Tie as tie
+use Rattle.prefix.proofs.least_size.Statement.{statement}
+use Rattle.prefix.proofs.least_size.Tie as tie
 
 returns : tie.Need-returns
 returns c = search needs
