@@ -68,7 +68,7 @@ fn atom_bytes(file: &[u8], start: usize, size: u32, used: u32) -> Part
         return refusal(5);
     }
     let end = start + n;
-    match small_atom::fits_in_small_atom(&file[start..end]) {
+    match fits_in_small_atom::fits_in_small_atom(&file[start..end]) {
         FitsInSmallAtom::Small(_) => refusal(6),
         FitsInSmallAtom::Listed => Part {
             number: 0,

@@ -4,9 +4,9 @@ use borrow.Author.Needs.{needs}
 use native.Mathlib.Omega.{arith}
 use Rattle.words.specs.Lists.{all-of}
 use Prim.Native.Nat.{ℕ, _<_}
-use Rattle.small_atom.proofs.Fits.{zero-listed, next-decides}
-use Rattle.small_atom.proofs.zero_is_needed.Statement.{statement}
-use Rattle.small_atom.proofs.zero_is_needed.Tie as tie
+use Rattle.fits_in_small_atom.proofs.Fits.{zero-listed, next-decides}
+use Rattle.fits_in_small_atom.proofs.zero_is_needed.Statement.{statement}
+use Rattle.fits_in_small_atom.proofs.zero_is_needed.Tie as tie
 
 returns : tie.Need-returns
 returns c = zero-listed (c .before .args .v .now) (omega arith) (omega arith)

@@ -4,9 +4,9 @@ use Prim.Native.Nat.{ℕ, _<_}
 use native.Mathlib.Omega.{arith}
 use borrow.Author.Needs.{needs}
 use Rattle.words.specs.Lists.{all-of}
-use Rattle.small_atom.proofs.Fits.{empty-small, long-listed, negative-listed, first-decides, short-small}
-use Rattle.small_atom.proofs.is_small_atom.Statement.{statement}
-use Rattle.small_atom.proofs.is_small_atom.Tie as tie
+use Rattle.fits_in_small_atom.proofs.Fits.{empty-small, long-listed, negative-listed, first-decides, short-small}
+use Rattle.fits_in_small_atom.proofs.is_small_atom.Statement.{statement}
+use Rattle.fits_in_small_atom.proofs.is_small_atom.Tie as tie
 
 returns : tie.Need-returns
 returns c = empty-small (c .before .before .args .v .now) (omega arith)

@@ -2,9 +2,9 @@
 -- Assumes nothing.
 use mathlib.Core.Path.{sym, _∙_}
 use borrow.Author.Needs.{needs}
-use Rattle.small_atom.proofs.Fits.{small-length, answer-small, answer-listed}
-use Rattle.small_atom.proofs.fits_in_small_atom.Statement.{statement}
-use Rattle.small_atom.proofs.fits_in_small_atom.Tie as tie
+use Rattle.fits_in_small_atom.proofs.Fits.{small-length, answer-small, answer-listed}
+use Rattle.fits_in_small_atom.proofs.fits_in_small_atom.Statement.{statement}
+use Rattle.fits_in_small_atom.proofs.fits_in_small_atom.Tie as tie
 
 is-small-atom-requires : tie.Need-is-small-atom-requires
 is-small-atom-requires c κs = search needs

@@ -15,7 +15,7 @@ use Rattle.words.specs.BigEndian.{number-after, number, number-bound, big-endia
 use Rattle.allocator.specs.SmallAtom.{len-for-value, small-bytes, is-small-atom, fits-in-small-atom, fits-answer}
 use Rattle.allocator.specs.declared.FitsInSmallAtom.the-variants.{Small, Listed}
 use Rattle.allocator.specs.SmallAtomLaws.{len-at-most, len-at-least, len-some, len-zero, length-small-bytes, is-small-true}
-use Rattle.small_atom.proofs.Numbers.{three-bytes, first-at-least, first-below}
+use Rattle.fits_in_small_atom.proofs.Numbers.{three-bytes, first-at-least, first-below}
 
 -- Bytes are those of a small atom when their number has 26 bits and takes just so many bytes.
 small : (bs : List ℕ) → Bytes bs → number bs < 2 ^ 26 → len-for-value (number bs) ≡ length bs → true ≡ is-small-atom bs

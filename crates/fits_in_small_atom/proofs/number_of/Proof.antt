@@ -7,9 +7,9 @@ use lib.ListN.{length, take}
 use lib.Seq.{take-all}
 use Rattle.words.specs.Lists.{all-of}
 use Rattle.words.specs.BigEndian.{number-after, number}
-use Rattle.small_atom.proofs.Numbers.{next-number}
-use Rattle.small_atom.proofs.number_of.Statement.{statement}
-use Rattle.small_atom.proofs.number_of.Tie as tie
+use Rattle.fits_in_small_atom.proofs.Numbers.{next-number}
+use Rattle.fits_in_small_atom.proofs.number_of.Statement.{statement}
+use Rattle.fits_in_small_atom.proofs.number_of.Tie as tie
 
 abbrev Inv-loop : tie.InvT-loop
 Inv-loop v ret₀ i₀ ret i = (i ≤ length v) × (ret ≡ number (take i v))
