@@ -1,6 +1,4 @@
 // The check of the session file: questions 2 to 8.
-mod fields;
-
 use session_file::Checked;
 ghost use mathlib.Core.Path.{_≡_};
 ghost use Prim.Native.Nat.{_≤_};
@@ -44,27 +42,27 @@ fn after_mark(file: &[u8]) -> Checked
     requires { ⌜ (5 ≤ length (now file)) × (length (now file) ≤ 65535) ⌝ }
     ensures { λ r. ⌜ Checks (now (file .entry)) r (what-follows version-1 (drop 5 (now (file .entry)))) ⌝ }
 {
-    let atoms = fields::count(file, 5, ATOMS);
+    let atoms = file_atoms::count(file, 5, ATOMS);
     if atoms.number != 0 {
         return turned_down(atoms.number);
     }
-    let listed = fields::atoms(file, atoms.next, atoms.value);
+    let listed = file_atoms::atoms(file, atoms.next, atoms.value);
     if listed.number != 0 {
         return turned_down(listed.number);
     }
-    let pairs = fields::count(file, listed.next, PAIRS);
+    let pairs = file_atoms::count(file, listed.next, PAIRS);
     if pairs.number != 0 {
         return turned_down(pairs.number);
     }
-    let named = fields::pairs(file, pairs.next, listed.value, pairs.value);
+    let named = file_handles::pairs(file, pairs.next, listed.value, pairs.value);
     if named.number != 0 {
         return turned_down(named.number);
     }
-    let sentinel = fields::sentinel(file, named.next, listed.value, named.value);
+    let sentinel = file_handles::sentinel(file, named.next, listed.value, named.value);
     if sentinel.number != 0 {
         return turned_down(sentinel.number);
     }
-    let steps = fields::steps(file, sentinel.next, listed.value, named.value);
+    let steps = file_handles::steps(file, sentinel.next, listed.value, named.value);
     if steps.number != 0 {
         return turned_down(steps.number);
     }

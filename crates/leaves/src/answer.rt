@@ -82,7 +82,7 @@ fn first_non_zero(payload: &[u8]) -> bool {
 
 // `s`: the value of the small atom, if it is one.
 fn small_value(payload: &[u8]) -> bool {
-    match small_atom::fits_in_small_atom(payload) {
+    match fits_in_small_atom::fits_in_small_atom(payload) {
         FitsInSmallAtom::Small(value) => text::decimal(value as u64),
         FitsInSmallAtom::Listed => print::none(),
     }

@@ -1,6 +1,6 @@
 // Reading an atom or a path. It is handed on as a part of the input.
-use write_atom::prefix::SIZE_LIMIT;
-use write_atom::prefix::least_size;
+use prefix::SIZE_LIMIT;
+use prefix::least_size;
 ghost use mathlib.Core.Path.{_≡_};
 ghost use Prim.Native.Nat.{_+_, _-_, _^_, _≤_, _<_};
 ghost use mathlib.Core.Bool.{cond};

@@ -53,7 +53,7 @@ pub fn new_atom(
     requires { ⌜ (2 * used + 2 ≤ length (now atoms)) × (size + length (now blob) ≤ length (now bytes)) × (used < 2 ^ 26) × (size + length (now blob) < 2 ^ 32) ⌝ }
     ensures { λ r. ⌜ AtomStored (now (atoms .entry)) (now (bytes .entry)) used size (now (blob .entry)) (now (atoms .exit)) (now (bytes .exit)) (r .node .0) (r .atoms) (r .bytes) ⌝ }
 {
-    match small_atom::fits_in_small_atom(blob) {
+    match fits_in_small_atom::fits_in_small_atom(blob) {
         FitsInSmallAtom::Small(value) => NewAtom {
             node: NodePtr::small_atom(value),
             atoms: used,

@@ -1,16 +1,9 @@
--- What the code's answers mean.
+-- What the writing's answer means.
 use Prim.Native.Nat.{ℕ}
 use mathlib.Core.List.{List}
-use mathlib.Core.Option.{Option, none, some}
 use Rattle.atom.specs.Write.{next, full, too-long, Written}
-use Rattle.write_atom.specs.declared.prefix.PrefixWidth.{PrefixWidth}
-use Rattle.write_atom.specs.declared.prefix.PrefixWidth.the-variants as prefix-width
 use Rattle.write_atom.specs.declared.write_atom.WriteAtom.{WriteAtom}
 use Rattle.write_atom.specs.declared.write_atom.WriteAtom.the-variants as write-atom
-
-abbrev pub widthOf : PrefixWidth → Option ℕ
-widthOf (prefix-width.Width w) = some w
-widthOf prefix-width.TooLong = none
 
 abbrev pub written : WriteAtom → List ℕ → Written
 written (write-atom.Next p) out = record { answer = next p; output = out }

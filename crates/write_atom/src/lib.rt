@@ -1,4 +1,3 @@
 // write_atom.rs and serialized_length.rs: an atom with its prefix, written and measured.
-pub mod prefix;
 pub mod serialized_length;
 pub mod write_atom;

@@ -1,5 +1,5 @@
 // How many bytes an atom takes.
-use crate::prefix::PrefixWidth;
+use prefix::PrefixWidth;
 ghost use mathlib.Core.Path.{_≡_};
 ghost use Rattle.atom.specs.Write.{«serialized-length»};
 
@@ -7,7 +7,7 @@ ghost use Rattle.atom.specs.Write.{«serialized-length»};
 pub fn serialized_length_atom(atom: &[u8]) -> u64
     ensures { λ r. ⌜ r ≡ «serialized-length» (now (atom .entry)) ⌝ }
 {
-    match crate::prefix::prefix_width(atom) {
+    match prefix::prefix_width(atom) {
         PrefixWidth::Width(width) => (width + atom.len()) as u64,
         PrefixWidth::TooLong => 0,
     }

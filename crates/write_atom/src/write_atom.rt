@@ -1,5 +1,5 @@
 // An atom goes into the output.
-use crate::prefix::PrefixWidth;
+use prefix::PrefixWidth;
 ghost use mathlib.Core.Path.{_≡_};
 ghost use Rattle.atom.specs.Prefix.{encode};
 ghost use Rattle.atom.specs.Write.{put};
@@ -16,7 +16,7 @@ pub enum WriteAtom {
 pub fn write_atom(output: &mut [u8], position: usize, atom: &[u8]) -> WriteAtom
     ensures { λ r. ⌜ written r (now (output .exit)) ≡ put (now (output .entry)) position (encode (now (atom .entry))) ⌝ }
 {
-    let PrefixWidth::Width(width) = crate::prefix::prefix_width(atom) else {
+    let PrefixWidth::Width(width) = prefix::prefix_width(atom) else {
         return WriteAtom::TooLong;
     };
     let total = width + atom.len();
@@ -26,7 +26,7 @@ pub fn write_atom(output: &mut [u8], position: usize, atom: &[u8]) -> WriteAtom
     if output.len() - total < position {
         return WriteAtom::Full;
     }
-    crate::prefix::write_prefix(output, position, width, atom.len() as u64);
+    prefix::write_prefix(output, position, width, atom.len() as u64);
     words::copy_bytes(atom, output, position + width);
     WriteAtom::Next(position + total)
 }

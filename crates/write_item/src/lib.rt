@@ -90,7 +90,7 @@ fn path_width(bits: usize) -> usize
     if bits < 8 {
         return 0;
     }
-    write_atom::prefix::shortest_width(((bits + 7) / 8) as u64)
+    prefix::shortest_width(((bits + 7) / 8) as u64)
 }
 
 // The bytes of the path at a slot, from `start` on.
@@ -116,7 +116,7 @@ fn put_reference(
     ensures { λ _. ⌜ now (output .exit) ≡ paste (paste (set (now (output .entry)) size 0xfe) (size + 1) (prefix width count) width) (size + 1 + width) («path-bytes» («path-at» (now (work .entry)) slot)) count ⌝ }
 {
     output[size] = BACK_REFERENCE;
-    write_atom::prefix::write_prefix(output, size + 1, width, count as u64);
+    prefix::write_prefix(output, size + 1, width, count as u64);
     put_path(work, slot, output, size + 1 + width, count);
 }
 

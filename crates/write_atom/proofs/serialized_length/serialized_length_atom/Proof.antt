@@ -2,7 +2,7 @@
 -- Assumes nothing.
 use mathlib.Core.Path.{sym, ap, _∙_}
 use native.Mathlib.Omega.{arith}
-use Rattle.write_atom.specs.Answers.{widthOf}
+use Rattle.prefix.specs.Answers.{widthOf}
 use Rattle.atom.specs.PrefixLaws.{prefixed}
 use Rattle.atom.specs.WriteLaws.{length-some, length-none}
 use borrow.Author.Needs.{needs}

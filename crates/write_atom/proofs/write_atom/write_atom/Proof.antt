@@ -1,10 +1,10 @@
-use Rattle.atom.specs.WriteLaws.{put-too-long, put-no-room, put-prefixed}
 -- `write_atom::write_atom::write_atom` meets its contract.
 -- Assumes nothing.
 use mathlib.Core.Path.{sym, ap, _∙_}
 use native.Mathlib.Omega.{arith}
-use Rattle.write_atom.specs.Answers.{widthOf}
+use Rattle.prefix.specs.Answers.{widthOf}
 use Rattle.atom.specs.PrefixLaws.{prefixed}
+use Rattle.atom.specs.WriteLaws.{put-too-long, put-no-room, put-prefixed}
 use borrow.Author.Needs.{needs}
 use Rattle.write_atom.proofs.write_atom.write_atom.Statement.{statement}
 use Rattle.write_atom.proofs.write_atom.write_atom.Tie as tie
