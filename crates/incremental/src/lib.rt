@@ -120,6 +120,6 @@ pub fn refer(
     requires { ⌜ Found (now work) (now output) place (node .0) (e .0) (At slot) ⌝ }
     ensures { λ r. ⌜ ((file : List ℕ) → (Turns file (now (work .entry)) (now (work .exit)) (now (output .entry)) (now (output .exit)) (Parse place node) r) × (Falls (length (now (output .entry))) (Parse place node) r)) ⌝ }
 {
-    let item = write_item::write_reference(work, slot, output, place.size);
+    let item = write_reference::write_reference(work, slot, output, place.size);
     push_value(work, place, e, item)
 }

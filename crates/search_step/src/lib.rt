@@ -17,7 +17,7 @@ fn visit(work: &mut [u32], c: usize, n: usize, m: usize, d: usize) -> Turned
     let next = c + 1;
     let nodes = m + 1;
     let e = search_list::wide(search_list::place_of(work, c)) / 2;
-    search_moves::add_node(work, c, m);
+    search_copies::add_node(work, c, m);
     let k = search_moves::first_unseen(work, e);
     if k < search_list::count_of(work, e) {
         return Turned::On(next, search_moves::go_up(work, c, n, nodes, e, k, d), nodes);

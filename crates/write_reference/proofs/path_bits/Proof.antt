@@ -1,10 +1,10 @@
--- `write_item::path_bits` meets its contract.
+-- `write_reference::path_bits` meets its contract.
 -- Assumes nothing.
 use mathlib.Core.Path.{_∙_}
 use native.Mathlib.Omega.{arith}
 use Rattle.search_list.proofs.Trails.{readable-size}
-use Rattle.write_item.proofs.path_bits.Statement.{statement}
-use Rattle.write_item.proofs.path_bits.Tie as tie
+use Rattle.write_reference.proofs.path_bits.Statement.{statement}
+use Rattle.write_reference.proofs.path_bits.Tie as tie
 
 size-of-requires : tie.Need-size-of-requires
 size-of-requires c κs = let s = c .before in (s .pre .0, s .pre .1 .slot, s .pre .1 .chain .few)

@@ -1,4 +1,4 @@
--- `search_moves::add_node` meets its contract: four stores make the node, and the mark its entry seen.
+-- `search_copies::add_node` meets its contract: four stores make the node, and the mark its entry seen.
 -- Assumes nothing.
 use Rattle.search_list.proofs.Copies.{node-added}
 use Rattle.words.specs.Words.{at}
@@ -8,8 +8,8 @@ use mathlib.Core.Path.{ap, _∙_}
 use native.Mathlib.Omega.{arith}
 use borrow.Author.Needs.{needs}
 use Rattle.layout.specs.Layout.{LENS}
-use Rattle.search_moves.proofs.add_node.Statement.{statement}
-use Rattle.search_moves.proofs.add_node.Tie as tie
+use Rattle.search_copies.proofs.add_node.Statement.{statement}
+use Rattle.search_copies.proofs.add_node.Tie as tie
 
 node-of-requires : tie.Need-node-of-requires
 node-of-requires c κs = search needs

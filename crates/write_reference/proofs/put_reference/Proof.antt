@@ -1,4 +1,4 @@
--- `write_item::put_reference` meets its contract.
+-- `write_reference::put_reference` meets its contract.
 -- Assumes nothing.
 use Prim.Native.Nat.{ℕ, _+_}
 use mathlib.Core.List.{List}
@@ -9,8 +9,8 @@ use lib.ListN.{length-set}
 use borrow.Author.Needs.{needs}
 use Rattle.path.specs.Bytes.{path-bytes}
 use Rattle.search_list.specs.State.{path-at}
-use Rattle.write_item.proofs.put_reference.Statement.{statement}
-use Rattle.write_item.proofs.put_reference.Tie as tie
+use Rattle.write_reference.proofs.put_reference.Statement.{statement}
+use Rattle.write_reference.proofs.put_reference.Tie as tie
 
 slice-write-output : tie.Need-slice-write-output
 slice-write-output c = search needs

@@ -1,10 +1,10 @@
--- `search_moves::add_copies` meets its contract: after i parents the list has a path for each unseen one among them.
+-- `search_copies::add_copies` meets its contract: after i parents the list has a path for each unseen one among them.
 -- Assumes nothing.
 use Rattle.search_list.proofs.Copies.{copying-asks, Copying, copying-start, copying-more, copying-end}
 use Prim.Native.Nat.{_-_}
 use native.Mathlib.Omega.{arith}
-use Rattle.search_moves.proofs.add_copies.Statement.{statement}
-use Rattle.search_moves.proofs.add_copies.Tie as tie
+use Rattle.search_copies.proofs.add_copies.Statement.{statement}
+use Rattle.search_copies.proofs.add_copies.Tie as tie
 
 abbrev Inv-loop : tie.InvT-loop
 Inv-loop work₀ e first count m all n₀ i₀ work n i = Copying work₀ work e m first count n i

@@ -1,4 +1,4 @@
--- `write_item::path_width` meets its contract: at most seven bits stand for themselves, and more take the shortest prefix.
+-- `write_reference::path_width` meets its contract: at most seven bits stand for themselves, and more take the shortest prefix.
 -- Assumes nothing.
 use Prim.Native.Nat.{ℕ, _+_, _/_}
 use mathlib.Core.Path.{sym, ap, _∙_}
@@ -6,9 +6,9 @@ use native.Mathlib.Omega.{arith}
 use borrow.Author.Needs.{needs}
 use Rattle.atom.specs.PrefixLaws.{width-carries}
 use Rattle.atom.specs.Prefix.{width}
-use Rattle.write_item.proofs.Widths.{short-width, long-width}
-use Rattle.write_item.proofs.path_width.Statement.{statement}
-use Rattle.write_item.proofs.path_width.Tie as tie
+use Rattle.write_reference.proofs.Widths.{short-width, long-width}
+use Rattle.write_reference.proofs.path_width.Statement.{statement}
+use Rattle.write_reference.proofs.path_width.Tie as tie
 
 returns : tie.Need-returns
 returns c = (omega arith, λ path e. short-width path (omega (arith, c .if1 .taken, e)))

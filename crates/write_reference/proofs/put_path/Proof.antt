@@ -1,9 +1,9 @@
--- `write_item::put_path` meets its contract: the part comes back with the path's bytes.
+-- `write_reference::put_path` meets its contract: the part comes back with the path's bytes.
 -- Assumes nothing.
 use borrow.Author.Needs.{needs}
-use Rattle.write_item.proofs.Puts as puts
-use Rattle.write_item.proofs.put_path.Statement.{statement}
-use Rattle.write_item.proofs.put_path.Tie as tie
+use Rattle.write_reference.proofs.References as references
+use Rattle.write_reference.proofs.put_path.Statement.{statement}
+use Rattle.write_reference.proofs.put_path.Tie as tie
 
 add-end : tie.Need-add-end
 add-end c = search needs
@@ -26,7 +26,7 @@ same-length c = search needs
 returns : tie.Need-returns
 returns c = let s = c .before .before .before .before .before .before in
     let p = c .before .before .path-bytes in
-    puts.put-path (s .args .work .now) (s .args .slot) (s .args .output .now) (s .args .start) (s .args .count) (p .last .1 .1 .0) (s .pre .2) (s .pre .3) (p .kept .1 .1 .0) (p .ensures)
+    references.put-path (s .args .work .now) (s .args .slot) (s .args .output .now) (s .args .start) (s .args .count) (p .last .1 .1 .0) (s .pre .2) (s .pre .3) (p .kept .1 .1 .0) (p .ensures)
 
 pub put-path-spec : {M : Type 1} → statement M
 put-path-spec =

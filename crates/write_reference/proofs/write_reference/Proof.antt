@@ -1,4 +1,4 @@
--- `write_item::write_reference` meets its contract.
+-- `write_reference::write_reference` meets its contract.
 -- Assumes nothing.
 use Prim.Native.Nat.{ℕ, _+_, _/_}
 use mathlib.Core.Path.{ap}
@@ -6,9 +6,10 @@ use native.Mathlib.Omega.{arith}
 use lib.ListN.{length}
 use borrow.Author.Needs.{needs}
 use Rattle.search_list.specs.State.{path-at}
-use Rattle.write_item.proofs.Puts.{no-room, has-room, reference-full, reference-next}
-use Rattle.write_item.proofs.write_reference.Statement.{statement}
-use Rattle.write_item.proofs.write_reference.Tie as tie
+use Rattle.write_item.proofs.Puts.{no-room, has-room}
+use Rattle.write_reference.proofs.References.{reference-full, reference-next}
+use Rattle.write_reference.proofs.write_reference.Statement.{statement}
+use Rattle.write_reference.proofs.write_reference.Tie as tie
 
 path-bits-requires : tie.Need-path-bits-requires
 path-bits-requires c κs = search needs

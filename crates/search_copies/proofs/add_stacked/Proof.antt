@@ -1,10 +1,10 @@
--- `search_moves::add_stacked` meets its contract: the word of TOPS is the least distance from the top.
+-- `search_copies::add_stacked` meets its contract: the word of TOPS is the least distance from the top.
 -- Assumes nothing.
 use Rattle.search_list.proofs.Copies.{off-stack, on-stack}
 use native.Mathlib.Omega.{arith}
 use borrow.Author.Needs.{needs}
-use Rattle.search_moves.proofs.add_stacked.Statement.{statement}
-use Rattle.search_moves.proofs.add_stacked.Tie as tie
+use Rattle.search_copies.proofs.add_stacked.Statement.{statement}
+use Rattle.search_copies.proofs.add_stacked.Tie as tie
 
 top-of-requires : tie.Need-top-of-requires
 top-of-requires c κs = search needs

@@ -1,4 +1,4 @@
--- `search_moves::add_copy` meets its contract: the list is as it was where the parent is seen, and has one path more otherwise.
+-- `search_copies::add_copy` meets its contract: the list is as it was where the parent is seen, and has one path more otherwise.
 -- Assumes nothing.
 use Rattle.search_list.proofs.Copies.{copy-seen, copy-new}
 use Rattle.search_list.specs.State.{seen-at}
@@ -6,8 +6,8 @@ use Prim.Native.Nat.{ℕ, _/_}
 use mathlib.Core.Path.{ap, sym, _∙_}
 use native.Mathlib.Omega.{arith}
 use borrow.Author.Needs.{needs}
-use Rattle.search_moves.proofs.add_copy.Statement.{statement}
-use Rattle.search_moves.proofs.add_copy.Tie as tie
+use Rattle.search_copies.proofs.add_copy.Statement.{statement}
+use Rattle.search_copies.proofs.add_copy.Tie as tie
 
 parent-at-requires : tie.Need-parent-at-requires
 parent-at-requires c κs =
