@@ -159,14 +159,26 @@ module _ (parents : Parents) (stack : List ℕ) (L : ℕ) where
       (rw (append-snoc before p ps, length-snoc before p) at (flat-over ps (before ++ p ∷ []) seen (omega (arith, shorts-long L p ps k)))))
       (λ k. absurd (omega (arith, shorts-short L p ps k)))
 
+  -- A turn of `walk` at a path that it passes over, and at one that it steps. Each has its own law: written into `walk-flat` they take seconds.
+  walk-flat-long : (n : ℕ) (before : List Trail) (p : Trail) (ps : List Trail) (seen : List ℕ) → L < size p
+      → Flatly (before ++ p ∷ [] ++ ps) (length (before ++ p ∷ [])) seen (walk parents stack (suc n) L (before ++ p ∷ []) ps seen)
+      → Flatly (before ++ p ∷ ps) (length before) seen (walk parents stack (suc n) L before (p ∷ ps) seen)
+  walk-flat-long n before p ps seen k x =
+      rw (walk-long parents stack n L before p ps seen k)
+      (flat-pass before p ps seen (walk parents stack (suc n) L (before ++ p ∷ []) ps seen) k (rw (append-snoc before p ps, length-snoc before p) at x))
+
+  walk-flat-short : (n : ℕ) → Follows n (walk parents stack n L) → (before : List Trail) (p : Trail) (ps : List Trail) (seen : List ℕ) → size p ≤ L
+      → All (AtLeast L) (p ∷ ps) → shorts L (p ∷ ps) ≤ suc n
+      → Flatly (before ++ p ∷ ps) (length before) seen (walk parents stack (suc n) L before (p ∷ ps) seen)
+  walk-flat-short n a before p ps seen k l h =
+      rw (walk-short parents stack n L before p ps seen k)
+      (flat-step n (walk parents stack n L) a before p ps seen k l (omega (arith, shorts-short L p ps k)))
+
   -- THE WALKS AGREE: with turns enough, the walk of list and cursor ends as `walk` does.
   pub walk-flat : (n : ℕ) → Follows n (walk parents stack n L)
   walk-flat zero before after seen l h = rw (walk-zero parents stack 0 L before after seen) (flat-over after before seen h)
   walk-flat (suc n) before [] seen l h = rw (walk-nil parents stack n L before seen, append-nil before) (flat-end before seen)
   walk-flat (suc n) before (p ∷ ps) seen l h =
       by-lt L (size p)
-      (λ k. rw (walk-long parents stack n L before p ps seen k)
-      (flat-pass before p ps seen (walk parents stack (suc n) L (before ++ p ∷ []) ps seen) k
-      (rw (append-snoc before p ps, length-snoc before p) at (walk-flat (suc n) (before ++ p ∷ []) ps seen (l .1) (omega (arith, shorts-long L p ps k))))))
-      (λ k. rw (walk-short parents stack n L before p ps seen k)
-      (flat-step n (walk parents stack n L) (walk-flat n) before p ps seen k l (omega (arith, shorts-short L p ps k))))
+      (λ k. walk-flat-long n before p ps seen k (walk-flat (suc n) (before ++ p ∷ []) ps seen (l .1) (omega (arith, shorts-long L p ps k))))
+      (λ k. walk-flat-short n (walk-flat n) before p ps seen k l h)
