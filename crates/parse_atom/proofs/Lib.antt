@@ -1,2 +1,1 @@
-pub mod LeadingOnes
-pub mod Parsing
+mod Parsing

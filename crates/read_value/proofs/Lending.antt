@@ -10,13 +10,13 @@ use Rattle.reading.specs.Format.{ParseOp, SExp, Step, go, whole}
 use Rattle.reading.specs.Store.{Stored}
 use Rattle.reading.specs.Sound.{Sound}
 use Rattle.reader_stacks.specs.Layout.{opsOf}
+use Rattle.reader_stacks.proofs.Stacks.{length-values}
 use Rattle.store.proofs.Stored.{half}
 use Rattle.settle.specs.declared.Reader.{Reader}
 use Rattle.settle.specs.declared.Item.{Item}
 use Rattle.settle.specs.declared.Item.the-variants as item
 use Rattle.settle.specs.State.{storedWith, Follows, itemWith, FollowsItem}
 use Rattle.read_value.specs.Whole.{storedOf, zeros-from, itemOf, Lent, StandsItem}
-use Rattle.settle.proofs.Joins.{length-values}
 
 drop-zeros : (m k : ℕ) → drop {A = ℕ} m (replicate k 0) ≡ replicate (k - m) 0
 drop-zeros zero zero = refl

@@ -23,8 +23,9 @@ use Rattle.reader_stacks.specs.Layout.{VALUES, opsOf, valuesOf, PushedValue}
 use Rattle.reader_stacks.proofs.Stacks.{ops-same}
 use Rattle.store.proofs.Stored.{half}
 use Rattle.path_walk.specs.Answers as walk-law
+use Rattle.stack_list.specs.Lists.{HaveLists}
 use Rattle.traverse_path_with_vec.specs.Leads as leads
-use Rattle.traverse_path_with_vec.specs.declared.Built.{Built}
+use Rattle.stack_list.specs.declared.Built.{Built}
 use Rattle.settle.specs.declared.Reader.{Reader}
 use Rattle.settle.specs.State.{storedWith, Ready}
 use Rattle.read_value.specs.Values.{node-pushed, BeforePath, PathFound, path-there, PathPushed}
@@ -194,7 +195,7 @@ module _ (input w p : List ℕ) (r : Reader) (h : BeforePath input w p r) where
           place : r .position + (at-path .size + 1) ≡ end
           place = omega (arith, at-path .end-is)
 
-      lists-led : leads.HaveLists w₁ (b₁ .listed) (r .values)
+      lists-led : HaveLists w₁ (b₁ .listed) (r .values)
       lists-led = l (storedWith w p [] [] r .store) refl refl .lists
 
       pub path-ready : Ready w₂ p₁ (node-pushed r b₁ end)

@@ -7,8 +7,8 @@ use Rattle.reading.specs.Format.{SExp, Step, stop, settle, atom-item, path-item
 use Rattle.reading.specs.Store.{Stored, store-values}
 use Rattle.reading.specs.Sound.{Sound}
 use Rattle.atom.specs.Parse.{Parse, blob, parse, parse-at}
-use Rattle.traverse_path_with_vec.specs.declared.Built.{Built}
-use Rattle.traverse_path_with_vec.specs.Leads.{HaveLists}
+use Rattle.stack_list.specs.declared.Built.{Built}
+use Rattle.stack_list.specs.Lists.{HaveLists}
 use Rattle.store.specs.Atoms.{AtomStored}
 use Rattle.reader_stacks.specs.Layout.{opsOf, PushedValue}
 use Rattle.settle.specs.State.{storedWith, Next}

@@ -6,7 +6,7 @@ use lib.ListN.{length, take, drop, replicate}
 use Rattle.reading.specs.Format.{SExp, At, Step, go, whole, stop}
 use Rattle.reading.specs.Store.{Stored}
 use Rattle.reading.specs.Sound.{Sound}
-use Rattle.traverse_path_with_vec.specs.Leads.{HaveLists}
+use Rattle.stack_list.specs.Lists.{HaveLists}
 use Rattle.reader_stacks.specs.Layout.{opsOf}
 use Rattle.settle.specs.State.{storedWith}
 use Rattle.settle.specs.declared.Reader.{Reader}

@@ -2,7 +2,7 @@
 use parse_atom::ParseAtom;
 use settle::Item;
 use settle::Reader;
-use traverse_path_with_vec::Built;
+use stack_list::Built;
 use traverse_path_with_vec::Traversed;
 ghost use mathlib.Core.Path.{_≡_};
 ghost use Prim.Native.Nat.{_+_, _<_, _≤_};

@@ -1,11 +1,11 @@
--- Laws of the reader's two stacks in work: which words they depend on, and what the stores of a push leave.
+-- Laws of the reader's two stacks in work: which words they depend on, how many values there are, and what the stores of a push leave.
 -- Assumes nothing.
 use Prim.Native.Nat.{ℕ, zero, suc, _+_, _-_, _*_, _≤_, _<_}
 use mathlib.Core.Path.{_≡_, refl, ap, _∙_}
 use mathlib.Core.List.{List, [], _∷_}
 use native.Mathlib.Omega.{arith}
 use native.Mathlib.Numerals.{add-one}
-use lib.ListN.{length, set, length-set}
+use lib.ListN.{length, drop, set, length-set}
 use Rattle.words.specs.Words.{at}
 use Rattle.words.proofs.Words.{Store, stores, miss, hit}
 use Rattle.reading.specs.Format.{ParseOp, SExp, Cons}
@@ -43,6 +43,25 @@ values-two w n h =
     let f : n - 1 ≡ n - 2 + 1 = omega arith in
     ap (valuesOf w) e ∙ values-more w (n - 1)
     ∙ ap {B = List Value} (λ vs. valueAt w (n - 1) ∷ vs) (ap (valuesOf w) f ∙ values-more w (n - 2))
+
+-- As many values as are counted.
+pub length-values : (w : List ℕ) (n : ℕ) → length (valuesOf w n) ≡ n
+unfolding valuesOf
+length-values w zero = refl
+length-values w (suc n) = ap suc (length-values w n)
+
+-- The values without the k topmost ones.
+pub drop-values : (w : List ℕ) (n k : ℕ) → k ≤ n → drop k (valuesOf w n) ≡ valuesOf w (n - k)
+unfolding valuesOf
+drop-values w n zero h = ap (valuesOf w) less
+  where
+    less : n ≡ n - 0
+    less = omega arith
+drop-values w zero (suc k) h = absurd (omega arith)
+drop-values w (suc n) (suc k) h = drop-values w n k (omega arith) ∙ ap (valuesOf w) less
+  where
+    less : n - k ≡ suc n - suc k
+    less = omega arith
 
 -- ---- pushes
 

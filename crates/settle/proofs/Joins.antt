@@ -11,18 +11,12 @@ use Rattle.reading.specs.Format.{ParseOp, SExp, Cons, settle}
 use Rattle.reading.specs.Store.{Store, Value, Stored, join-values, store-values}
 use Rattle.reading.specs.Sound.{Sound, unlisted, conses, sound-join, sound-two}
 use Rattle.reader_stacks.specs.Layout.{OPS, opOf, opsOf, valueAt, valuesOf, Joined}
-use Rattle.reader_stacks.proofs.Stacks.{ops-more, values-two}
+use Rattle.reader_stacks.proofs.Stacks.{ops-more, values-two, length-values, drop-values}
 use Rattle.store.proofs.Stored.{half}
-use Rattle.traverse_path_with_vec.specs.Leads.{HaveLists}
-use Rattle.traverse_path_with_vec.proofs.Adding.{fewer-listed}
-use Rattle.traverse_path_with_vec.proofs.Leading.{drop-values}
+use Rattle.stack_list.specs.Lists.{HaveLists}
+use Rattle.stack_list.proofs.Adding.{fewer-listed}
 use Rattle.settle.specs.declared.Reader.{Reader}
 use Rattle.settle.specs.State.{storedWith, Ready, Onward, NoJoin}
-
-pub length-values : (w : List ℕ) (n : ℕ) → length (valuesOf w n) ≡ n
-unfolding valuesOf
-length-values w zero = refl
-length-values w (suc n) = ap suc (length-values w n)
 
 pub length-ops : (w : List ℕ) (n : ℕ) → length (opsOf w n) ≡ n
 unfolding opsOf

@@ -6,7 +6,7 @@ use lib.ListN.{length, take, drop}
 use Rattle.reading.specs.Format.{ParseOp, SExp, Cons, Step, go, whole, stop, settle}
 use Rattle.reading.specs.Store.{Stored, store-values}
 use Rattle.reading.specs.Sound.{Sound}
-use Rattle.traverse_path_with_vec.specs.Leads.{HaveLists}
+use Rattle.stack_list.specs.Lists.{HaveLists}
 use Rattle.reader_stacks.specs.Layout.{opsOf, valuesOf}
 use Rattle.settle.specs.declared.Reader.{Reader}
 use Rattle.settle.specs.declared.Item.{Item}

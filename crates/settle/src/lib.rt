@@ -34,7 +34,7 @@ fn join_top(work: &mut [u32], pairs: &mut [u32], r: Reader) -> Reader
 {
     let values = r.values;
     let used = r.pairs;
-    let listed = traverse_path_with_vec::listed_among(r.listed, values - 2);
+    let listed = stack_list::listed_among(r.listed, values - 2);
     reader_stacks::join(work, pairs, values, used);
     Reader {
         position: r.position,

@@ -15,16 +15,18 @@ use Rattle.allocator.specs.Handle.{Node, node-of, nil}
 use Rattle.allocator.specs.HandleLaws.{handle-of-node-of, handle-of-nil, node-of-nil}
 use Rattle.reading.specs.Store.{Store, Value, Listed, Led, walk, node-handle, led-to, list-of, above, lead}
 use Rattle.reader_stacks.specs.Layout.{VALUES, listOf, valueAt, valuesOf}
+use Rattle.reader_stacks.proofs.Stacks.{length-values, drop-values}
 use Rattle.path_walk.specs.declared.PathBits.the-variants as path-bits
 use Rattle.path_walk.specs.declared.Walked.{Walked}
 use Rattle.path_walk.specs.declared.Walked.the-variants as walked
 use Rattle.path_walk.specs.Answers.{counted, down, Within, Reachable, walkedTo, Walks}
 use Rattle.path_walk.proofs.Bits.{lowest}
-use Rattle.traverse_path_with_vec.specs.declared.Built.{Built}
+use Rattle.stack_list.specs.declared.Built.{Built}
 use Rattle.traverse_path_with_vec.specs.declared.Traversed.{Traversed}
 use Rattle.reading.specs.Sound.{unlisted}
-use Rattle.traverse_path_with_vec.specs.Leads.{HaveLists, ListRoom, Lists, led, reached, Walkable, Leads, LeadsTo, SameTotal}
-use Rattle.traverse_path_with_vec.proofs.Adding.{unlisted-up}
+use Rattle.stack_list.specs.Lists.{HaveLists, ListRoom, Lists}
+use Rattle.traverse_path_with_vec.specs.Leads.{led, reached, Walkable, Leads, LeadsTo, SameTotal}
+use Rattle.stack_list.proofs.Adding.{unlisted-up}
 
 -- ---- the bits of the path
 
@@ -88,24 +90,6 @@ lead-value (true ∷ bs) (u ∷ vs) s zero e h v below q = absurd (omega arith)
 lead-value (true ∷ bs) (u ∷ vs) s (suc k) e h v below q = ap (above u) (lead-value bs vs s k (omega arith) (omega arith) v below q)
 
 -- ---- the values in work
-
-pub length-values : (w : List ℕ) (n : ℕ) → length (valuesOf w n) ≡ n
-unfolding valuesOf
-length-values w zero = refl
-length-values w (suc n) = ap suc (length-values w n)
-
--- The values without the k topmost ones.
-pub drop-values : (w : List ℕ) (n k : ℕ) → k ≤ n → drop k (valuesOf w n) ≡ valuesOf w (n - k)
-unfolding valuesOf
-drop-values w n zero h = ap (valuesOf w) less
-  where
-    less : n ≡ n - 0
-    less = omega arith
-drop-values w zero (suc k) h = absurd (omega arith)
-drop-values w (suc n) (suc k) h = drop-values w n k (omega arith) ∙ ap (valuesOf w) less
-  where
-    less : n - k ≡ suc n - suc k
-    less = omega arith
 
 pub value-next : (w : List ℕ) (n k : ℕ) → k < n → drop k (valuesOf w n) ≡ valueAt w (n - 1 - k) ∷ valuesOf w (n - 1 - k)
 unfolding valuesOf

@@ -1,7 +1,7 @@
-use Rattle.parse_atom.specs.Answers.{sizeOf}
-use Rattle.parse_atom.proofs.Parsing.{parsed-refused, parsed-there, parsed-sized}
 -- `parse_atom::parse_atom` meets its contract.
 -- Assumes nothing.
+use Rattle.decode_size.specs.Answers.{sizeOf}
+use Rattle.parse_atom.proofs.Parsing.{parsed-refused, parsed-there, parsed-sized}
 use mathlib.Core.Path.{sym, ap, _∙_}
 use native.Mathlib.Omega.{arith}
 use native.Mathlib.Nat.{add-zero}

@@ -1,7 +1,7 @@
-use Prim.Native.Nat.{_+_}
-use lib.ListN.{length}
 -- `parse_atom::whole_atom` meets its contract.
 -- Assumes nothing.
+use Prim.Native.Nat.{_+_}
+use lib.ListN.{length}
 use borrow.Author.Tests.{lt-ltb, le-ltb}
 use mathlib.Core.Path.{sym}
 use native.Mathlib.Omega.{arith}

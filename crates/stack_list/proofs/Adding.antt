@@ -14,9 +14,9 @@ use Rattle.reading.specs.Store.{Store, Value, Listed, add-to-list, list-of}
 use Rattle.reader_stacks.specs.Layout.{VALUES, listOf, valueAt, valuesOf}
 use Rattle.reader_stacks.proofs.Stacks.{values-same, values-more}
 use Rattle.store.proofs.Stored.{take-two, drop-two, half}
-use Rattle.traverse_path_with_vec.specs.declared.Built.{Built}
+use Rattle.stack_list.specs.declared.Built.{Built}
 use Rattle.reading.specs.Sound.{unlisted}
-use Rattle.traverse_path_with_vec.specs.Leads.{unlisted-of, Holds, Adds, Lists}
+use Rattle.stack_list.specs.Lists.{unlisted-of, Holds, Adds, Lists}
 
 -- ---- a list that the value has
 

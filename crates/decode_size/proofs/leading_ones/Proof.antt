@@ -1,12 +1,12 @@
--- `parse_atom::leading_ones` meets its contract. The invariant: as many ones are counted off as bits are gone, and `rest` is what is left of the byte.
+-- `decode_size::leading_ones` meets its contract. The invariant: as many ones are counted off as bits are gone, and `rest` is what is left of the byte.
 -- Assumes nothing.
 use Prim.Native.Nat.{_≤_, _-_, _+_, _/_, _^_}
 use mathlib.Core.Path.{_≡_, refl}
 use native.Mathlib.Omega.{arith}
 use Rattle.atom.specs.Parse.{ones}
-use Rattle.parse_atom.proofs.LeadingOnes.{ones-turn, ones-end, ones-all}
-use Rattle.parse_atom.proofs.leading_ones.Statement.{statement}
-use Rattle.parse_atom.proofs.leading_ones.Tie as tie
+use Rattle.decode_size.proofs.LeadingOnes.{ones-turn, ones-end, ones-all}
+use Rattle.decode_size.proofs.leading_ones.Statement.{statement}
+use Rattle.decode_size.proofs.leading_ones.Tie as tie
 
 abbrev Inv-loop : tie.InvT-loop
 Inv-loop byte left₀ rest₀ top₀ left rest top = (left ≤ 8) × (top ≡ 2 ^ left / 2) × (ones 8 byte ≡ 8 - left + ones left rest) × (rest + 256 ≡ byte + 2 ^ left)

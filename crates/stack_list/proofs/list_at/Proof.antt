@@ -1,12 +1,12 @@
--- `traverse_path_with_vec::list_at` meets its contract: the topmost of the values has a list, which is that of them all.
+-- `stack_list::list_at` meets its contract: the topmost of the values has a list, which is that of them all.
 -- Assumes nothing.
 use mathlib.Core.Path.{sym, _∙_}
 use native.Mathlib.Omega.{arith}
 use borrow.Author.Needs.{needs}
 use Rattle.allocator.specs.HandleLaws.{handle-of-nil}
-use Rattle.traverse_path_with_vec.proofs.Adding.{top-listed, top-list, no-list}
-use Rattle.traverse_path_with_vec.proofs.list_at.Statement.{statement}
-use Rattle.traverse_path_with_vec.proofs.list_at.Tie as tie
+use Rattle.stack_list.proofs.Adding.{top-listed, top-list, no-list}
+use Rattle.stack_list.proofs.list_at.Statement.{statement}
+use Rattle.stack_list.proofs.list_at.Tie as tie
 
 returns : tie.Need-returns
 returns c = let a = c .before .args in λ s. sym handle-of-nil ∙ no-list (a .work .now) (a .count) (c .if1 .taken) s

@@ -1,4 +1,4 @@
--- `traverse_path_with_vec::build_list` meets its contract. The loop's invariant: the list of the lowest i values is made, and a ghost pair was spent for each of them without a list.
+-- `stack_list::build_list` meets its contract. The loop's invariant: the list of the lowest i values is made, and a ghost pair was spent for each of them without a list.
 -- Assumes nothing.
 use Prim.Native.Nat.{_+_, _-_, _≤_}
 use mathlib.Core.Path.{_≡_, refl, _∙_}
@@ -7,10 +7,10 @@ use lib.ListN.{length}
 use borrow.Author.Needs.{needs}
 use Rattle.reader_stacks.specs.Layout.{valuesOf}
 use Rattle.reading.specs.Sound.{unlisted}
-use Rattle.traverse_path_with_vec.specs.Leads.{Lists}
-use Rattle.traverse_path_with_vec.proofs.Adding.{fewer-listed, lists-start, lists-more, lists-end, spent-start, spent-more, one-left}
-use Rattle.traverse_path_with_vec.proofs.build_list.Statement.{statement}
-use Rattle.traverse_path_with_vec.proofs.build_list.Tie as tie
+use Rattle.stack_list.specs.Lists.{Lists}
+use Rattle.stack_list.proofs.Adding.{fewer-listed, lists-start, lists-more, lists-end, spent-start, spent-more, one-left}
+use Rattle.stack_list.proofs.build_list.Statement.{statement}
+use Rattle.stack_list.proofs.build_list.Tie as tie
 
 abbrev Inv-loop : tie.InvT-loop
 Inv-loop work₀ pairs₀ count listed used ghosts i₀ b₀ work pairs i b =

@@ -1,11 +1,11 @@
--- `parse_atom::decode_size_with_offset` meets its contract: an answer for each test, in the Rust's order.
+-- `decode_size::decode_size_with_offset` meets its contract: an answer for each test, in the Rust's order.
 -- Assumes nothing.
 use mathlib.Core.Path.{_∙_}
 use native.Mathlib.Omega.{arith}
-use Rattle.parse_atom.proofs.Parsing as parsing
+use Rattle.decode_size.proofs.Decoding as decoding
 use borrow.Author.Needs.{needs}
-use Rattle.parse_atom.proofs.decode_size_with_offset.Statement.{statement}
-use Rattle.parse_atom.proofs.decode_size_with_offset.Tie as tie
+use Rattle.decode_size.proofs.decode_size_with_offset.Statement.{statement}
+use Rattle.decode_size.proofs.decode_size_with_offset.Tie as tie
 
 shared-slice-read-leading-ones : tie.Need-shared-slice-read-leading-ones
 shared-slice-read-leading-ones c = search needs
@@ -17,7 +17,7 @@ returns : tie.Need-returns
 returns c =
     let s = c .before .before .before .before in
     let f = c .before .leading-ones in
-    let o = parsing.decode-seven (s .args .input .now) (s .args .position) (f .result .width) (f .result .rest) (s .pre .0) (s .pre .1) (f .ensures .0) (f .ensures .1) (f .ensures .2) in
+    let o = decoding.decode-seven (s .args .input .now) (s .args .position) (f .result .width) (f .result .rest) (s .pre .0) (s .pre .1) (f .ensures .0) (f .ensures .1) (f .ensures .2) in
     o (c .if1 .taken)
 
 sub-if2 : tie.Need-sub-if2
@@ -27,7 +27,7 @@ returns-2 : tie.Need-returns-2
 returns-2 c =
     let s = c .before .before .before .before .before in
     let f = c .before .before .leading-ones in
-    parsing.decode-short (s .args .input .now) (s .args .position) (f .result .width) (f .result .rest) (s .pre .0) (s .pre .1) (f .ensures .0) (f .ensures .1) (f .ensures .2) (c .before .if1 .left) (c .if2 .taken)
+    decoding.decode-short (s .args .input .now) (s .args .position) (f .result .width) (f .result .rest) (s .pre .0) (s .pre .1) (f .ensures .0) (f .ensures .1) (f .ensures .2) (c .before .if1 .left) (c .if2 .taken)
 
 add-number-at : tie.Need-add-number-at
 add-number-at c = search needs
@@ -36,7 +36,7 @@ sub-number-at : tie.Need-sub-number-at
 sub-number-at c =
     let s = c .before .before .before .before .before in
     let f = c .before .before .leading-ones in
-    parsing.decode-one (s .args .input .now) (s .args .position) (f .result .width) (f .result .rest) (s .pre .0) (s .pre .1) (f .ensures .0) (f .ensures .1) (f .ensures .2)
+    decoding.decode-one (s .args .input .now) (s .args .position) (f .result .width) (f .result .rest) (s .pre .0) (s .pre .1) (f .ensures .0) (f .ensures .1) (f .ensures .2)
 
 number-at-requires : tie.Need-number-at-requires
 number-at-requires c κs = search needs
@@ -45,20 +45,20 @@ returns-3 : tie.Need-returns-3
 returns-3 c =
     let s = c .before .before .before .before .before .before .before in
     let f = c .before .before .before .before .leading-ones in
-    parsing.decode-large (s .args .input .now) (s .args .position) (f .result .width) (f .result .rest) (s .pre .0) (s .pre .1) (f .ensures .0) (f .ensures .1) (f .ensures .2)
+    decoding.decode-large (s .args .input .now) (s .args .position) (f .result .width) (f .result .rest) (s .pre .0) (s .pre .1) (f .ensures .0) (f .ensures .1) (f .ensures .2)
     (c .before .before .before .if1 .left) (c .before .before .if2 .left) (c .before .number-at .result) (c .before .number-at .ensures) (c .if3 .taken)
 
 least-size-requires : tie.Need-least-size-requires
 least-size-requires c κs =
     let s = c .before .before .before .before .before .before .before in
     let f = c .before .before .before .before .leading-ones in
-    (parsing.decode-one (s .args .input .now) (s .args .position) (f .result .width) (f .result .rest) (s .pre .0) (s .pre .1) (f .ensures .0) (f .ensures .1) (f .ensures .2), c .before .before .before .if1 .left)
+    (decoding.decode-one (s .args .input .now) (s .args .position) (f .result .width) (f .result .rest) (s .pre .0) (s .pre .1) (f .ensures .0) (f .ensures .1) (f .ensures .2), c .before .before .before .if1 .left)
 
 returns-4 : tie.Need-returns-4
 returns-4 c =
     let s = c .before .before .before .before .before .before .before .before .before in
     let f = c .before .before .before .before .before .before .leading-ones in
-    parsing.decode-long (s .args .input .now) (s .args .position) (f .result .width) (f .result .rest) (s .pre .0) (s .pre .1) (f .ensures .0) (f .ensures .1) (f .ensures .2)
+    decoding.decode-long (s .args .input .now) (s .args .position) (f .result .width) (f .result .rest) (s .pre .0) (s .pre .1) (f .ensures .0) (f .ensures .1) (f .ensures .2)
     (c .before .before .before .before .before .if1 .left) (c .before .before .before .before .if2 .left) (c .before .before .before .number-at .result) (c .before .before .before .number-at .ensures) (c .before .before .if3 .left) (omega (arith, c .before .least-size .ensures))
 
 add-one-byte : tie.Need-add-one-byte
@@ -72,14 +72,14 @@ returns-5 c =
     let s = c .before .before .before .before .before .before .before .before .before .before .before in
     let f = c .before .before .before .before .before .before .before .before .leading-ones in
     c .one-byte .ensures
-    ∙ parsing.decode-byte (s .args .input .now) (s .args .position) (f .result .width) (f .result .rest) (s .pre .0) (s .pre .1) (f .ensures .0) (f .ensures .1) (f .ensures .2)
+    ∙ decoding.decode-byte (s .args .input .now) (s .args .position) (f .result .width) (f .result .rest) (s .pre .0) (s .pre .1) (f .ensures .0) (f .ensures .1) (f .ensures .2)
     (c .before .before .before .before .before .before .before .if1 .left) (c .before .before .before .before .before .before .if2 .left) (c .before .before .before .before .before .number-at .result) (c .before .before .before .before .before .number-at .ensures) (c .before .before .before .before .if3 .left) (omega (arith, c .before .before .before .least-size .ensures)) (c .before .if5 .taken)
 
 returns-6 : tie.Need-returns-6
 returns-6 c =
     let s = c .before .before .before .before .before .before .before .before .before .before in
     let f = c .before .before .before .before .before .before .before .leading-ones in
-    parsing.decode-right (s .args .input .now) (s .args .position) (f .result .width) (f .result .rest) (s .pre .0) (s .pre .1) (f .ensures .0) (f .ensures .1) (f .ensures .2)
+    decoding.decode-right (s .args .input .now) (s .args .position) (f .result .width) (f .result .rest) (s .pre .0) (s .pre .1) (f .ensures .0) (f .ensures .1) (f .ensures .2)
     (c .before .before .before .before .before .before .if1 .left) (c .before .before .before .before .before .if2 .left) (c .before .before .before .before .number-at .result) (c .before .before .before .before .number-at .ensures) (c .before .before .before .if3 .left) (omega (arith, c .before .before .least-size .ensures)) (c .if5 .left)
 
 pub decode-size-with-offset-spec : {M : Type 1} → statement M

@@ -1,12 +1,11 @@
+-- `decode_size::one_byte` meets its contract.
+-- Assumes nothing.
 use mathlib.Core.Path.{sym}
 use native.Mathlib.Omega.{arith}
 use Rattle.atom.specs.ParseLaws.{one-missing, one-single, one-right}
--- `parse_atom::one_byte` meets its contract.
--- Assumes nothing.
-
 use borrow.Author.Needs.{needs}
-use Rattle.parse_atom.proofs.one_byte.Statement.{statement}
-use Rattle.parse_atom.proofs.one_byte.Tie as tie
+use Rattle.decode_size.proofs.one_byte.Statement.{statement}
+use Rattle.decode_size.proofs.one_byte.Tie as tie
 
 returns : tie.Need-returns
 returns c = let a = c .before .args in sym (one-missing (a .input .now) (a .position) (a .offset) (c .if1 .taken))

@@ -1,11 +1,11 @@
--- `traverse_path_with_vec::add_value` meets its contract: the cached list is taken, or the pair is made and kept with the value.
+-- `stack_list::add_value` meets its contract: the cached list is taken, or the pair is made and kept with the value.
 -- Assumes nothing.
 use mathlib.Core.Path.{refl}
 use native.Mathlib.Omega.{arith}
 use borrow.Author.Needs.{needs}
-use Rattle.traverse_path_with_vec.proofs.Adding.{adds-cached, adds-made, bare-ghost, pair-handle-small}
-use Rattle.traverse_path_with_vec.proofs.add_value.Statement.{statement}
-use Rattle.traverse_path_with_vec.proofs.add_value.Tie as tie
+use Rattle.stack_list.proofs.Adding.{adds-cached, adds-made, bare-ghost, pair-handle-small}
+use Rattle.stack_list.proofs.add_value.Statement.{statement}
+use Rattle.stack_list.proofs.add_value.Tie as tie
 
 mul-list : tie.Need-mul-list
 mul-list c = search needs

@@ -1,0 +1,2 @@
+mod LeadingOnes
+mod Decoding
