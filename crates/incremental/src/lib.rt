@@ -6,13 +6,13 @@ ghost use mathlib.Core.Path.{_≡_};
 ghost use mathlib.Core.Bool.{true};
 ghost use mathlib.Core.List.{List};
 ghost use mathlib.Core.Option.{some};
-ghost use Prim.Native.Nat.{ℕ, _+_, _*_, _≤_, _<_};
+ghost use Prim.Native.Nat.{ℕ, _<_};
 ghost use lib.ListN.{length};
 ghost use Rattle.words.specs.Words.{at};
 ghost use Rattle.atom.specs.Write.{put};
 ghost use Rattle.allocator.specs.Handle.{node-of, is-atom};
 ghost use Rattle.serializer.specs.Items.{atom-item, item-bytes};
-ghost use Rattle.layout.specs.Layout.{ATOMS, ATOM-COUNT, PAIR-COUNT, ENTRIES, DEPTH};
+ghost use Rattle.layout.specs.Layout.{ATOM-COUNT, PAIR-COUNT, ENTRIES, DEPTH};
 ghost use Rattle.stack.specs.Contracts.{Stacked};
 ghost use Rattle.find_path.specs.declared.Path.the-variants.{At};
 ghost use Rattle.write_item.specs.Answers.{written};
@@ -52,29 +52,13 @@ fn wide(x: u32) -> usize
     x as usize
 }
 
-// Where the bytes of listed atom i start.
-fn start_of(work: &[u32], i: usize) -> usize
-    requires { ⌜ (524288 ≤ length (now work)) × (i < 1024) ⌝ }
-    ensures { λ r. ⌜ r ≡ at (now (work .entry)) (ATOMS + 2 * i) ⌝ }
-{
-    wide(work[layout::ATOMS + 2 * i])
-}
-
-// Where they end.
-fn end_of(work: &[u32], i: usize) -> usize
-    requires { ⌜ (524288 ≤ length (now work)) × (i < 1024) ⌝ }
-    ensures { λ r. ⌜ r ≡ at (now (work .entry)) (ATOMS + 2 * i + 1) ⌝ }
-{
-    wide(work[layout::ATOMS + 2 * i + 1])
-}
-
 // Listed atom i, from where it lies in the file.
 fn write_listed(work: &[u32], file: &[u8], output: &mut [u8], size: usize, i: usize) -> Put
     requires { ⌜ (Whole (now work)) × (AtomPlaces (now file) (now work)) × (i < at (now work) ATOM-COUNT) ⌝ }
     ensures { λ r. ⌜ written r (now (output .exit)) ≡ put (now (output .entry)) size (some (item-bytes (atom-item (bytes-at (now (file .entry)) (now (work .entry)) i)))) ⌝ }
 {
-    let start = start_of(work, i);
-    let end = end_of(work, i);
+    let start = listed_atoms::start_of(work, i);
+    let end = listed_atoms::end_of(work, i);
     write_item::write_listed(output, size, &file[start..end])
 }
 

@@ -1,5 +1,5 @@
-pub mod First
-pub mod Slots
-pub mod Seeking
-pub mod Turns
+mod First
+mod Chains
+mod Seeking
+mod Turns
 pub mod Tables

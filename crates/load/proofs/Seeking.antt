@@ -13,9 +13,11 @@ use Rattle.words.specs.Words.{at}
 use Rattle.layout.specs.Layout.{ATOM-HEADS, ATOM-NEXT}
 use Rattle.layout.specs.Rows.{prev}
 use Rattle.layout.specs.Prev.{prev-le, prev-prev, prev-slot, prev-above}
-use Rattle.load.specs.Chains.{slot-of, first-of, chain-of, Loading}
+use Rattle.listed_atoms.specs.Listed.{slot-of}
+use Rattle.listed_atoms.proofs.Slots.{slot-low}
+use Rattle.load.specs.Chains.{first-of, chain-of, Loading}
 use Rattle.load.proofs.First.{not-true, first-of-le, first-of-bytes, first-of-equal, first-of-first}
-use Rattle.load.proofs.Slots.{slot-low, chain-first, chain-is-first}
+use Rattle.load.proofs.Chains.{chain-first, chain-is-first}
 
 -- A lookup of atom i in chain s at h: no first atom from h on has its bytes.
 pub record Seek (b : ℕ → List ℕ) (i s h : ℕ) : Type 0 where

@@ -10,7 +10,8 @@ use Rattle.words.proofs.Words.{length-tabulate, getD-tabulate}
 use Rattle.atom.specs.Write.{serialized-length}
 use Rattle.layout.specs.Layout.{FIRST, ATOM-LENGTHS}
 use Rattle.tree_cache.specs.Meaning.{first-same}
-use Rattle.load.specs.Load.{atom-bytes, atoms, Loaded}
+use Rattle.listed_atoms.specs.Listed.{atom-bytes}
+use Rattle.load.specs.Load.{atoms, Loaded}
 
 module _ (file w w′ : List ℕ) (xs : List (List ℕ)) (are : (i : ℕ) → i < length xs → atom-bytes file w i ≡ getD xs i []) where
   -- The atoms by their places are the listed ones.

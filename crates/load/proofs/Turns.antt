@@ -12,10 +12,12 @@ use Rattle.atom.specs.Write.{serialized-length}
 use Rattle.layout.specs.Layout.{ATOMS, FIRST, ATOM-LENGTHS, ATOM-HEADS, ATOM-NEXT}
 use Rattle.layout.specs.Rows.{prev}
 use Rattle.layout.specs.Prev.{prev-same, prev-here, prev-past}
-use Rattle.load.specs.Load.{atom-bytes, Inside, Ready, Kept, Loaded}
-use Rattle.load.specs.Chains.{slot-of, first-of, chain-of, Loading}
+use Rattle.listed_atoms.specs.Listed.{atom-bytes, Inside, slot-of}
+use Rattle.listed_atoms.proofs.Slots.{slot-low}
+use Rattle.load.specs.Load.{Ready, Kept, Loaded}
+use Rattle.load.specs.Chains.{first-of, chain-of, Loading}
 use Rattle.load.proofs.First.{first-among, first-of-same}
-use Rattle.load.proofs.Slots.{slot-low, chain-first, chain-none, chain-same}
+use Rattle.load.proofs.Chains.{chain-first, chain-none, chain-same}
 
 -- ---- one atom more
 

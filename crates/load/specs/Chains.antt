@@ -1,8 +1,8 @@
--- The lookup of an atom by its bytes: its slot, the chains of the atoms that are the first of their bytes, and the tables while they are loaded.
-use Prim.Native.Nat.{ℕ, _+_, _%_, _^_, _≤_, _<_}
+-- The lookup of an atom by its bytes: the chains of the atoms that are the first of their bytes, and the tables while they are loaded.
+use Prim.Native.Nat.{ℕ, _+_, _≤_, _<_}
 use mathlib.Core.Path.{_≡_}
 use mathlib.Core.Bool.{cond}
-use mathlib.Core.List.{List, [], _∷_}
+use mathlib.Core.List.{List}
 use lib.Dec.{eqb}
 use lib.ListN.{length}
 use Rattle.words.specs.Words.{at, tabulate}
@@ -10,15 +10,7 @@ use Rattle.atom.specs.Write.{serialized-length}
 use Rattle.layout.specs.Layout.{FIRST, ATOM-LENGTHS, ATOM-HEADS, ATOM-NEXT}
 use Rattle.layout.specs.Rows.{prev}
 use Rattle.tree_cache.specs.Meaning.{first-same}
-
--- A sum over bytes that wraps at 32 bits: each turn doubles it and adds the next byte.
-unfoldable pub wrapped-sum : ℕ → List ℕ → ℕ
-wrapped-sum s [] = s
-wrapped-sum s (x ∷ xs) = wrapped-sum (((s + s) % 2 ^ 32 + x) % 2 ^ 32) xs
-
--- The slot at which the lookup of these bytes starts.
-unfoldable pub slot-of : List ℕ → ℕ
-slot-of bytes = wrapped-sum 0 bytes % 1021
+use Rattle.listed_atoms.specs.Listed.{slot-of}
 
 -- The first atom with the bytes of atom k; at the latest k itself.
 unfoldable pub first-of : (ℕ → List ℕ) → ℕ → ℕ

@@ -1,31 +1,17 @@
--- The listed atoms of a file by the words that say where they lie, and what loading their tables leaves in work.
-use Prim.Native.Nat.{ℕ, _+_, _-_, _*_, _≤_, _<_}
+-- What loading the tables of the listed atoms takes, and what it leaves in work.
+use Prim.Native.Nat.{ℕ, _+_, _≤_, _<_}
 use mathlib.Core.Path.{_≡_}
 use mathlib.Core.List.{List}
-use lib.ListN.{length, take, drop}
+use lib.ListN.{length}
 use Rattle.words.specs.Words.{at, tabulate}
 use Rattle.atom.specs.Write.{serialized-length}
-use Rattle.layout.specs.Layout.{ATOMS, FIRST, ATOM-LENGTHS, ATOM-HEADS, ATOM-COUNT}
+use Rattle.layout.specs.Layout.{FIRST, ATOM-LENGTHS, ATOM-HEADS, ATOM-COUNT}
 use Rattle.tree_cache.specs.Meaning.{first-same}
-
--- Where the bytes of listed atom i start and end in the file.
-abbrev pub start-of : List ℕ → ℕ → ℕ
-start-of w i = at w (ATOMS + 2 * i)
-
-abbrev pub end-of : List ℕ → ℕ → ℕ
-end-of w i = at w (ATOMS + 2 * i + 1)
-
--- The bytes of listed atom i.
-unfoldable pub atom-bytes : (file w : List ℕ) → ℕ → List ℕ
-atom-bytes file w i = take (end-of w i - start-of w i) (drop (start-of w i) file)
+use Rattle.listed_atoms.specs.Listed.{atom-bytes, Inside}
 
 -- The first n listed atoms.
 abbrev pub atoms : (file w : List ℕ) → ℕ → List (List ℕ)
 atoms file w n = tabulate n (atom-bytes file w)
-
--- The bytes of listed atom i lie within the file.
-abbrev pub Inside : (file w : List ℕ) → ℕ → Type 0
-Inside file w i = (start-of w i ≤ end-of w i) × (end-of w i ≤ length file)
 
 -- What loading takes: work is long, the file short, the atoms are few and lie within the file, and no chain has begun.
 pub record Ready (file w : List ℕ) (count : ℕ) : Type 0 where

@@ -16,7 +16,8 @@ use Rattle.session_file.specs.Checked.{Passed}
 use Rattle.session_file.specs.Loaded.{AtomPlace, AtomsLoaded, PairsLoaded}
 use Rattle.session_file.specs.declared.Checked.{Checked}
 use Rattle.layout.specs.Layout.{ATOMS, PAIRS, FIRST, ATOM-LENGTHS, ATOM-HEADS, ATOM-COUNT, PAIR-COUNT, SENTINEL, OPEN}
-use Rattle.load.specs.Load.{atom-bytes, Ready, Loaded}
+use Rattle.listed_atoms.specs.Listed.{atom-bytes}
+use Rattle.load.specs.Load.{Ready, Loaded}
 use Rattle.load.proofs.Tables.{table-firsts, table-lengths}
 use Rattle.session_begin.specs.Opened.{TablesClear, Placed, Opened}
 

@@ -4,8 +4,8 @@ use Prim.Native.Nat.{_-_}
 use mathlib.Core.Path.{sym, _∙_}
 use native.Mathlib.Omega.{arith}
 use borrow.Author.Needs.{needs}
-use Rattle.load.specs.Load.{atom-bytes}
-use Rattle.load.proofs.Slots.{slot-low}
+use Rattle.listed_atoms.specs.Listed.{atom-bytes}
+use Rattle.listed_atoms.proofs.Slots.{slot-low}
 use Rattle.load.proofs.Seeking.{Seek, seek-start, seek-low, seek-found, seek-less, seek-next, seek-none}
 use Rattle.load.proofs.find_first.Statement.{statement}
 use Rattle.load.proofs.find_first.Tie as tie

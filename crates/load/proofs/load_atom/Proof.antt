@@ -3,9 +3,9 @@
 use native.Mathlib.Omega.{arith}
 use lib.ListN.{length-set}
 use borrow.Author.Needs.{needs}
-use Rattle.load.specs.Load.{atom-bytes}
+use Rattle.listed_atoms.specs.Listed.{atom-bytes}
 use Rattle.load.proofs.First.{first-of-le}
-use Rattle.load.proofs.Slots.{slot-low}
+use Rattle.listed_atoms.proofs.Slots.{slot-low}
 use Rattle.load.proofs.Turns.{known-turn, new-turn}
 use Rattle.load.proofs.load_atom.Statement.{statement}
 use Rattle.load.proofs.load_atom.Tie as tie

@@ -5,10 +5,10 @@ use mathlib.Core.Path.{_≡_, sym, ap, _∙_}
 use native.Mathlib.Omega.{arith}
 use lib.ListN.{length, drop}
 use borrow.Author.Needs.{needs}
-use Rattle.load.specs.Chains.{wrapped-sum, slot-of}
-use Rattle.load.proofs.Slots.{sum-more, sum-end, sum-start}
-use Rattle.load.proofs.slot_of.Statement.{statement}
-use Rattle.load.proofs.slot_of.Tie as tie
+use Rattle.listed_atoms.specs.Listed.{wrapped-sum, slot-of}
+use Rattle.listed_atoms.proofs.Slots.{sum-more, sum-end, sum-start}
+use Rattle.listed_atoms.proofs.slot_of.Statement.{statement}
+use Rattle.listed_atoms.proofs.slot_of.Tie as tie
 
 abbrev Inv-loop : tie.InvT-loop
 Inv-loop bytes sum₀ i₀ sum i = (i ≤ length bytes) × (wrapped-sum 0 bytes ≡ wrapped-sum sum (drop i bytes))

@@ -1,11 +1,11 @@
--- `cache_update::join` meets its contract: an entry, two parents and a word of the map.
+-- `make_entry::join` meets its contract: an entry, two parents and a word of the map.
 -- Assumes nothing.
 use mathlib.Core.Path.{_∙_}
 use lib.ListN.{length-set}
 use borrow.Author.Needs.{needs}
 use Rattle.tree_cache.proofs.Joining.{joins}
-use Rattle.cache_update.proofs.join.Statement.{statement}
-use Rattle.cache_update.proofs.join.Tie as tie
+use Rattle.make_entry.proofs.join.Statement.{statement}
+use Rattle.make_entry.proofs.join.Tie as tie
 
 enter-pair-requires : tie.Need-enter-pair-requires
 enter-pair-requires c κs = search needs

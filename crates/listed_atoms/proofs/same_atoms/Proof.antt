@@ -2,9 +2,9 @@
 -- Assumes nothing.
 use mathlib.Core.Path.{_∙_}
 use borrow.Author.Needs.{needs}
-use Rattle.load.proofs.Slots.{bytes-are}
-use Rattle.load.proofs.same_atoms.Statement.{statement}
-use Rattle.load.proofs.same_atoms.Tie as tie
+use Rattle.listed_atoms.proofs.Slots.{bytes-are}
+use Rattle.listed_atoms.proofs.same_atoms.Statement.{statement}
+use Rattle.listed_atoms.proofs.same_atoms.Tie as tie
 
 start-of-requires : tie.Need-start-of-requires
 start-of-requires c κs = search needs

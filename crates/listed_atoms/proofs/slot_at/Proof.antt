@@ -2,10 +2,10 @@
 -- Assumes nothing.
 use mathlib.Core.Path.{ap, _∙_}
 use borrow.Author.Needs.{needs}
-use Rattle.load.specs.Chains.{slot-of}
-use Rattle.load.proofs.Slots.{bytes-are}
-use Rattle.load.proofs.slot_at.Statement.{statement}
-use Rattle.load.proofs.slot_at.Tie as tie
+use Rattle.listed_atoms.specs.Listed.{slot-of}
+use Rattle.listed_atoms.proofs.Slots.{bytes-are}
+use Rattle.listed_atoms.proofs.slot_at.Statement.{statement}
+use Rattle.listed_atoms.proofs.slot_at.Tie as tie
 
 start-of-requires : tie.Need-start-of-requires
 start-of-requires c κs = search needs

@@ -4,9 +4,9 @@ use mathlib.Core.Path.{ap, _∙_}
 use native.Mathlib.Omega.{arith}
 use borrow.Author.Needs.{needs}
 use Rattle.atom.specs.Write.{serialized-length}
-use Rattle.load.proofs.Slots.{bytes-are, part-length-fits}
-use Rattle.load.proofs.length_at.Statement.{statement}
-use Rattle.load.proofs.length_at.Tie as tie
+use Rattle.listed_atoms.proofs.Slots.{bytes-are, part-length-fits}
+use Rattle.listed_atoms.proofs.length_at.Statement.{statement}
+use Rattle.listed_atoms.proofs.length_at.Tie as tie
 
 start-of-requires : tie.Need-start-of-requires
 start-of-requires c κs = search needs

@@ -1,10 +1,10 @@
--- `cache_update::meet_sentinel` meets its contract: no entry has the key with the next number.
+-- `make_entry::meet_sentinel` meets its contract: no entry has the key with the next number.
 -- Assumes nothing.
 use borrow.Author.Needs.{needs}
 use Rattle.tree_cache.proofs.Meeting.{sentinel-made}
 use Rattle.tree_cache.proofs.Keys.{no-sentinel}
-use Rattle.cache_update.proofs.meet_sentinel.Statement.{statement}
-use Rattle.cache_update.proofs.meet_sentinel.Tie as tie
+use Rattle.make_entry.proofs.meet_sentinel.Statement.{statement}
+use Rattle.make_entry.proofs.meet_sentinel.Tie as tie
 
 slice-read-used : tie.Need-slice-read-used
 slice-read-used c = search needs
