@@ -1,3 +1,2 @@
-pub mod Aligning
 pub mod Building
 pub mod Counting

@@ -6,7 +6,7 @@ use mathlib.Core.Bool.{Bool, true, false}
 use mathlib.Core.List.{List, [], _∷_}
 use lib.ListN.{length, take, drop}
 use Rattle.words.specs.Lists.{Bytes}
-use Rattle.path.specs.Bytes.{value, octets, all-bits, path-bytes}
+use Rattle.path.specs.Bytes.{value, all-bits, path-bytes}
 use Rattle.path_builder.specs.declared.ChildPos.{ChildPos}
 use Rattle.path_builder.specs.declared.ChildPos.the-variants.{Left, Right}
 use Rattle.path_builder.specs.declared.PathBuilder.{PathBuilder}
@@ -57,9 +57,4 @@ pub record Pushed (store : List ℕ) (p : PathBuilder) (b : Bool) (store′ : Li
 pub record Finished (store : List ℕ) (p : PathBuilder) (store′ : List ℕ) (n : ℕ) : Type 0 where
   pub count : n ≡ length (path-bytes (built store p))
   pub bytes : take n store′ ≡ path-bytes (built store p)
-  pub rest : drop n store′ ≡ drop n store
-
--- The first n bytes hold the bits that they held, less the lowest r, right-aligned; the words after them are as they were.
-pub record Aligned (store : List ℕ) (n r : ℕ) (store′ : List ℕ) : Type 0 where
-  pub bytes : take n store′ ≡ octets n (drop r (all-bits (take n store)))
   pub rest : drop n store′ ≡ drop n store

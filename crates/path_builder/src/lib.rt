@@ -2,13 +2,12 @@
 // it is followed from right to left. The store is lent, one byte in each word.
 ghost use mathlib.Core.Path.{_≡_};
 ghost use mathlib.Core.List.{List};
-ghost use Prim.Native.Nat.{ℕ, _+_, _%_, _≤_, _<_};
+ghost use Prim.Native.Nat.{ℕ, _+_, _%_, _<_};
 ghost use lib.Dec.{eqb};
-ghost use lib.ListN.{length, take, drop};
-ghost use Rattle.words.specs.Lists.{Bytes};
-ghost use Rattle.path.specs.Bytes.{bit, value, octets, all-bits};
+ghost use lib.ListN.{length};
+ghost use Rattle.path.specs.Bytes.{bit};
 ghost use Rattle.path.specs.Measure.{counted};
-ghost use Rattle.path_builder.specs.Builder.{right, built, Counts, Sound, Fresh, Room, Pushed, Aligned, Finished};
+ghost use Rattle.path_builder.specs.Builder.{right, built, Counts, Sound, Fresh, Room, Pushed, Finished};
 
 pub enum ChildPos {
     Left,
@@ -43,32 +42,6 @@ fn next_place(place: u8) -> u8
     ensures { λ r. ⌜ r ≡ (place + 7) % 8 ⌝ }
 {
     if place == 0 { 7 } else { place - 1 }
-}
-
-// Byte i, with all bits up to it shifted to the right by r places.
-fn shifted(store: &[u32], i: usize, r: u32) -> u32
-    requires { ⌜ (i < length (now store)) × (r ≤ 8) × (Bytes (take (i + 1) (now store))) ⌝ }
-    ensures { λ v. ⌜ v ≡ value (take 8 (drop r (all-bits (take (i + 1) (now (store .entry)))))) ⌝ }
-{
-    let x = store[i];
-    if i == 0 {
-        return x >> r;
-    }
-    let y = store[i - 1];
-    (x >> r) + ((y % (1 << r)) << (8 - r))
-}
-
-// Shifts the first n bytes to the right by r places, from the last byte down.
-fn right_align(store: &mut [u32], n: usize, r: u32)
-    requires { ⌜ (n ≤ length (now store)) × (r ≤ 8) × (Bytes (take n (now store))) ⌝ }
-    ensures { λ _. ⌜ Aligned (now (store .entry)) n r (now (store .exit)) ⌝ }
-{
-    let mut j = n;
-    while 0 < j {
-        j -= 1;
-        let b = shifted(store, j, r);
-        store[j] = b;
-    }
 }
 
 impl PathBuilder {
@@ -115,7 +88,7 @@ impl PathBuilder {
         if place == 7 {
             return n;
         }
-        right_align(store, n, place as u32 + 1);
+        right_align::right_align(store, n, place as u32 + 1);
         n
     }
 

@@ -30,12 +30,12 @@ fn load_places(file: &[u8], tables: &mut [u32], checked: Checked)
     ensures { λ _. ⌜ Placed (now (file .entry)) (the-file (now (file .entry))) (now (tables .exit)) ⌝ }
 {
     clear_tables(tables);
-    session_file::load_atoms(
+    file_parts::load_atoms(
         file,
         &mut tables[layout::ATOMS..layout::PAIRS],
         checked.atoms,
     );
-    session_file::load_pairs(
+    file_parts::load_pairs(
         file,
         &mut tables[layout::PAIRS..layout::FIRST],
         checked.pairs_at,

@@ -19,7 +19,7 @@ ghost use Rattle.steps.specs.Steps.{Adding, Added, Undoing, Undone, Come
 pub fn slot_of(file: &[u8], at: usize, adds: usize) -> usize
     ensures { λ k. ⌜ (k < 16) × ((ss : List Step) → StepsAt (now (file .entry)) at ss → k ≡ slot-for ss adds) ⌝ }
 {
-    match session_file::next_step(file, at) {
+    match file_parts::next_step(file, at) {
         NextStep::Add { node: _, next: _ } => progress::within(adds),
         NextStep::Restore { number, next: _ } => progress::within(number as usize),
         NextStep::End => 0,
@@ -119,7 +119,7 @@ pub fn core_step(
     ensures { λ a. ⌜ Onward (now (file .entry)) (the-file (now (file .entry))) (now (work .entry)) (now (words .entry)) (now (output .entry)) p c (now (work .exit)) (now (words .exit)) (now (output .exit)) a ⌝ }
 {
     let at = p.at;
-    match session_file::next_step(file, at) {
+    match file_parts::next_step(file, at) {
         NextStep::Add { node, next } => { add_step(file, work, words, output, p, node, next, c) }
         NextStep::Restore { number, next } => {
             restore_step(file, work, words, output, p, number, next, c)

@@ -1,9 +1,9 @@
--- `path_builder::right_align` meets its contract. The loop's invariant: the bytes from j on are shifted, and those before are as they were.
+-- `right_align::right_align` meets its contract. The loop's invariant: the bytes from j on are shifted, and those before are as they were.
 -- Assumes nothing.
 use native.Mathlib.Omega.{arith}
-use Rattle.path_builder.proofs.Aligning.{Aligning, align-start, align-bytes, align-more, align-end}
-use Rattle.path_builder.proofs.right_align.Statement.{statement}
-use Rattle.path_builder.proofs.right_align.Tie as tie
+use Rattle.right_align.proofs.Aligning.{Aligning, align-start, align-bytes, align-more, align-end}
+use Rattle.right_align.proofs.right_align.Statement.{statement}
+use Rattle.right_align.proofs.right_align.Tie as tie
 
 abbrev Inv-loop : tie.InvT-loop
 Inv-loop store₀ n r j₀ store j = Aligning store₀ n r store j

@@ -13,7 +13,7 @@ use lib.Pow.{pow-pos, shl-exact, shl-lt}
 use Rattle.words.specs.Lists.{Bytes, all-take, all-at}
 use Rattle.path.specs.Bytes.{value, octets, all-bits}
 use Rattle.path.specs.BytesLaws.{octets-suc, value-shifted, drop-shifted, value-last}
-use Rattle.path_builder.specs.Builder.{Aligned}
+use Rattle.right_align.specs.Aligned.{Aligned}
 
 -- ---- one byte
 

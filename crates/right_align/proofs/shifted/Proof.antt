@@ -1,9 +1,9 @@
--- `path_builder::shifted` meets its contract: the first byte, and one that gets bits of the byte before it.
+-- `right_align::shifted` meets its contract: the first byte, and one that gets bits of the byte before it.
 -- Assumes nothing.
-use Rattle.path_builder.proofs.Aligning.{shl-one-pos, shifted-first, shifted-next, shifted-fits}
+use Rattle.right_align.proofs.Aligning.{shl-one-pos, shifted-first, shifted-next, shifted-fits}
 use borrow.Author.Needs.{needs}
-use Rattle.path_builder.proofs.shifted.Statement.{statement}
-use Rattle.path_builder.proofs.shifted.Tie as tie
+use Rattle.right_align.proofs.shifted.Statement.{statement}
+use Rattle.right_align.proofs.shifted.Tie as tie
 
 mul-x : tie.Need-mul-x
 mul-x c = search needs

@@ -2,9 +2,9 @@
 -- Assumes nothing.
 use native.Mathlib.Omega.{arith}
 use borrow.Author.Needs.{needs}
-use Rattle.session_file.proofs.LoadLaws.{step-end, add-short, add-step, restore-short, restore-step}
-use Rattle.session_file.proofs.next_step.Statement.{statement}
-use Rattle.session_file.proofs.next_step.Tie as tie
+use Rattle.file_parts.proofs.LoadLaws.{step-end, add-short, add-step, restore-short, restore-step}
+use Rattle.file_parts.proofs.next_step.Statement.{statement}
+use Rattle.file_parts.proofs.next_step.Tie as tie
 
 returns : tie.Need-returns
 returns c = let a = c .before .before .args in step-end (a .file .now) (a .at) (omega arith)

@@ -4,9 +4,9 @@ use Prim.Native.Nat.{_-_, _≤_}
 use mathlib.Core.Path.{_≡_, refl}
 use native.Mathlib.Omega.{arith}
 use lib.ListN.{length, length-set}
-use Rattle.session_file.proofs.LoadLaws.{LoadingAtoms, loading-atoms, atom-room, atom-end, atoms-turn, atoms-loaded}
-use Rattle.session_file.proofs.load_atoms.Statement.{statement}
-use Rattle.session_file.proofs.load_atoms.Tie as tie
+use Rattle.file_parts.proofs.LoadLaws.{LoadingAtoms, loading-atoms, atom-room, atom-end, atoms-turn, atoms-loaded}
+use Rattle.file_parts.proofs.load_atoms.Statement.{statement}
+use Rattle.file_parts.proofs.load_atoms.Tie as tie
 
 abbrev Inv-loop : tie.InvT-loop
 Inv-loop file table₀ count n place₀ i₀ table place i = (i ≤ count) × (length table ≡ length table₀) × LoadingAtoms file count table₀ table place i

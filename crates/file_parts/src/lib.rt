@@ -1,0 +1,76 @@
+// The session file: its atoms, pairs and steps, read from a file that passed.
+use allocator::NodePtr;
+use session_file::NextStep;
+ghost use mathlib.Core.Path.{_≡_};
+ghost use mathlib.Core.List.{List};
+ghost use Prim.Native.Nat.{ℕ, _*_, _≤_};
+ghost use lib.ListN.{length};
+ghost use Rattle.session_file.specs.File.{Pair, Step};
+ghost use Rattle.session_file.specs.Places.{AtomsAt, PairsAt, StepsAt};
+ghost use Rattle.session_file.specs.Loaded.{AtomsThere, AtomsLoaded, PairsThere, PairsLoaded, FirstStep};
+
+// Where the bytes of atom i start and end, as words 2·i and 2·i + 1. The rest of the table is as it was.
+pub fn load_atoms(file: &[u8], table: &mut [u32], count: u32)
+    requires { ⌜ (AtomsThere (now file) count) × (2 * count ≤ length (now table)) ⌝ }
+    ensures { λ _. ⌜ ((xs : List (List ℕ)) → length xs ≡ count → AtomsAt (now (file .entry)) 7 xs → AtomsLoaded (now (file .entry)) xs (now (table .entry)) (now (table .exit))) ⌝ }
+{
+    let n = count as usize;
+    let mut place: usize = 7;
+    let mut i: usize = 0;
+    while i < n {
+        let start = place + 2;
+        let end = start + (session_file::number_at(file, place, 2) as usize);
+        let first = 2 * i;
+        let second = first + 1;
+        table[first] = start as u32;
+        table[second] = end as u32;
+        place = end;
+        i += 1;
+    }
+}
+
+// The left and the right handle of pair i, as words 2·i and 2·i + 1. The pairs begin at `from`; the rest of the table is as it was.
+pub fn load_pairs(file: &[u8], table: &mut [u32], from: usize, count: u32)
+    requires { ⌜ (PairsThere (now file) from count) × (2 * count ≤ length (now table)) ⌝ }
+    ensures { λ _. ⌜ ((ps : List Pair) → length ps ≡ count → PairsAt (now (file .entry)) from ps → PairsLoaded ps (now (table .entry)) (now (table .exit))) ⌝ }
+{
+    let n = count as usize;
+    let mut place = from;
+    let mut i: usize = 0;
+    while i < n {
+        let left = session_file::number_at(file, place, 4);
+        let right = session_file::number_at(file, place + 4, 4);
+        let first = 2 * i;
+        let second = first + 1;
+        table[first] = left;
+        table[second] = right;
+        place += 8;
+        i += 1;
+    }
+}
+
+// The step at a place of a file that passed. Where the file is cut short there, which it is not, this is the end.
+pub fn next_step(file: &[u8], at: usize) -> NextStep
+    ensures { λ r. ⌜ ((ss : List Step) → StepsAt (now (file .entry)) at ss → FirstStep (now (file .entry)) ss r) ⌝ }
+{
+    if file.len() <= at {
+        return NextStep::End;
+    }
+    let left = file.len() - at;
+    if session_file::number_at(file, at, 1) == 1 {
+        if left < 5 {
+            return NextStep::End;
+        }
+        return NextStep::Add {
+            node: NodePtr(session_file::number_at(file, at + 1, 4)),
+            next: at + 5,
+        };
+    }
+    if left < 3 {
+        return NextStep::End;
+    }
+    NextStep::Restore {
+        number: session_file::number_at(file, at + 1, 2),
+        next: at + 3,
+    }
+}
