@@ -66,7 +66,7 @@ fn close_pair(work: &mut [u32], depth: usize, i: usize)
     ensures { λ _. ⌜ Closes (now (work .entry)) (now (work .exit)) depth i ⌝ }
 {
     stack::pop2(work, depth);
-    let e = find_in::pair_entry(work, i);
+    let e = node_entry::pair_entry(work, i);
     let len = find_in::length_at(work, e);
     stack::push_marked(work, depth - 2, e, len);
 }
