@@ -66,7 +66,7 @@ pub fn resume(
                 next = parse(work, file, output, p, h);
             }
             Next::Close(p) => {
-                next = open_pairs::close_up(work, p);
+                next = close_pairs::close_up(work, p);
             }
             Next::Done(p) => {
                 return Outcome::Done(p);
