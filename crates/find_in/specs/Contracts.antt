@@ -1,16 +1,14 @@
--- The entry of a node, its length, and the path that is written for it: what the words say, as the definitions have it of whatever file and cache they hold.
+-- The length of an entry, and the path that is written for a node: what the words say, as the definitions have it of whatever file and cache they hold.
 use Prim.Native.Nat.{ℕ, _<_}
 use mathlib.Core.Path.{_≡_}
-use mathlib.Core.Bool.{Bool, true}
+use mathlib.Core.Bool.{Bool}
 use mathlib.Core.List.{List}
 use mathlib.Core.Option.{Option, none, some}
 use Rattle.path.specs.Measure.{counted}
-use Rattle.allocator.specs.Handle.{pair, node-of, is-atom}
 use Rattle.search.specs.Search.{member}
 use Rattle.search.specs.PathBits.{Ends}
 use Rattle.session_file.specs.File.{File}
 use Rattle.serializer.specs.Cache.{Cache, length-at}
-use Rattle.serializer.specs.Writer.{atom-entry, pair-entry}
 use Rattle.serializer.specs.FindPath.{without-terminator, find-in}
 use Rattle.layout.specs.Layout.{ENTRIES}
 use Rattle.layout.specs.Rows.{stack-of}
@@ -19,27 +17,11 @@ use Rattle.find_path.specs.declared.Path.the-variants.{At, NoPath}
 use Rattle.search_list.specs.State.{path-at, Readable}
 use Rattle.search_list.specs.Steps.{Kept}
 use Rattle.stack.specs.Contracts.{marked-at}
-use Rattle.tree_cache.specs.Meaning.{bytes-named, Tables, Holds}
+use Rattle.tree_cache.specs.Meaning.{Tables, Holds}
 
 -- n is the length of entry e.
 pub record LengthOf (w : List ℕ) (e n : ℕ) : Type 0 where
   pub is : (f : File) (c : Cache) → Holds f w c → length-at e (c .entries) ≡ n
-
--- e is the entry of pair i.
-pub record PairEntry (w : List ℕ) (i e : ℕ) : Type 0 where
-  pub low : e < ENTRIES
-  pub is : (f : File) (c : Cache) → Tables f w → Holds f w c → pair-entry c i ≡ e
-
--- e is the entry of the atom h.
-pub record AtomEntry (w : List ℕ) (h e : ℕ) : Type 0 where
-  pub low : e < ENTRIES
-  pub is : (f : File) (c : Cache) → Tables f w → Holds f w c → atom-entry c (bytes-named f (node-of h)) ≡ e
-
--- e is the entry of the node h, a pair or an atom.
-pub record EntryOf (w : List ℕ) (h e : ℕ) : Type 0 where
-  pub low : e < ENTRIES
-  pub of-pair : (i : ℕ) → node-of h ≡ pair i → PairEntry w i e
-  pub of-atom : is-atom (node-of h) ≡ true → AtomEntry w h e
 
 -- The steps of the path that was found.
 abbrev pub steps-of : List ℕ → Path → Option (List Bool)

@@ -1,28 +1,19 @@
-// find_path of tree_cache.rs with its exceptions: the entry of a node, its length, and the path that is written for it, if there is one.
+// find_path of tree_cache.rs with its exceptions: the length of an entry, and the path that is written for a node, if there is one.
 use allocator::NodePtr;
-use cache_entries::Found;
 use find_path::Path;
 use layout::EntryIndex;
 ghost use mathlib.Core.Path.{_≡_};
-ghost use mathlib.Core.Bool.{true};
 ghost use Prim.Native.Nat.{_≤_, _<_};
 ghost use lib.ListN.{length};
 ghost use Rattle.words.specs.Words.{at};
-ghost use Rattle.allocator.specs.Handle.{node-of, is-atom};
-ghost use Rattle.layout.specs.Layout.{PAIR-COUNT, USED, ENTRIES};
+ghost use Rattle.layout.specs.Layout.{USED, ENTRIES};
 ghost use Rattle.layout.specs.Rows.{all-counts};
 ghost use Rattle.stack.specs.Contracts.{Stacked};
-ghost use Rattle.tree_cache.specs.Meaning.{Names, Whole};
-ghost use Rattle.find_in.specs.Contracts.{LengthOf, PairEntry, AtomEntry, EntryOf, FindsIn};
+ghost use Rattle.tree_cache.specs.Meaning.{Whole};
+ghost use Rattle.find_in.specs.Contracts.{LengthOf, FindsIn};
 
 // A reference to anything shorter takes no fewer bytes.
 const MIN_SERIALIZED_LENGTH: u64 = 4;
-
-fn wide(x: u32) -> usize
-    ensures { λ r. ⌜ r ≡ x ⌝ }
-{
-    x as usize
-}
 
 // How many entries there are.
 fn used_of(work: &[u32]) -> u32
@@ -41,41 +32,6 @@ pub fn length_at(work: &[u32], e: EntryIndex) -> u64
         return 0;
     }
     cache_entries::length_of(work, e)
-}
-
-// The entry of pair i; entry 0 where it has none.
-pub fn pair_entry(work: &[u32], i: usize) -> EntryIndex
-    requires { ⌜ (Whole (now work)) × (i < at (now work) PAIR-COUNT) ⌝ }
-    ensures { λ e. ⌜ PairEntry (now (work .entry)) i (e .0) ⌝ }
-{
-    let k = tree_cache::map_of(work, i);
-    if k == 0 {
-        return EntryIndex(0);
-    }
-    EntryIndex(k - 1)
-}
-
-// The entry of an atom; entry 0 where it has none.
-fn atom_entry(work: &[u32], node: NodePtr) -> EntryIndex
-    requires { ⌜ (Whole (now work)) × (Names (now work) (at (now work) PAIR-COUNT) (node .0)) × (is-atom (node-of (node .0)) ≡ true) ⌝ }
-    ensures { λ e. ⌜ AtomEntry (now (work .entry)) (node .0) (e .0) ⌝ }
-{
-    let key = tree_cache::atom_key(work, node);
-    match cache_entries::find_key(work, tree_cache::ATOM_KEY, key) {
-        Found::At(e) => e,
-        Found::Nothing => EntryIndex(0),
-    }
-}
-
-// The entry of a node.
-pub fn entry_of(work: &[u32], node: NodePtr) -> EntryIndex
-    requires { ⌜ (Whole (now work)) × (Names (now work) (at (now work) PAIR-COUNT) (node .0)) ⌝ }
-    ensures { λ e. ⌜ EntryOf (now (work .entry)) (node .0) (e .0) ⌝ }
-{
-    if node.is_atom() {
-        return atom_entry(work, node);
-    }
-    pair_entry(work, wide(node.index()))
 }
 
 // The path that is written for a node of entry e, over a stack of `depth` entries: none for nil, for an entry that is not marked written, and for a short one.

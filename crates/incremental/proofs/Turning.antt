@@ -25,7 +25,8 @@ use Rattle.stack.proofs.Stacks.{stacked-same, stack-same}
 use Rattle.stack.proofs.Marks.{marked-same}
 use Rattle.tree_cache.specs.Meaning.{Tables, Names, Whole, Holds}
 use Rattle.tree_cache.proofs.Entering.{sentinel-is}
-use Rattle.find_in.specs.Contracts.{EntryOf, FindsIn}
+use Rattle.node_entry.specs.Contracts.{EntryOf}
+use Rattle.find_in.specs.Contracts.{FindsIn}
 use Rattle.incremental.specs.declared.Place.{Place}
 use Rattle.incremental.specs.declared.Next.{Next}
 use Rattle.incremental.specs.declared.Next.the-variants.{Parse, Stopped}

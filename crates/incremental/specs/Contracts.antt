@@ -23,7 +23,8 @@ use Rattle.write_item.specs.declared.Put.{Put}
 use Rattle.write_item.specs.declared.Put.the-variants as put-variants
 use Rattle.write_item.specs.Answers.{written}
 use Rattle.tree_cache.specs.Meaning.{bytes-named, Tables, Names}
-use Rattle.find_in.specs.Contracts.{LengthOf, PairEntry, EntryOf, FindsIn}
+use Rattle.node_entry.specs.Contracts.{PairEntry, EntryOf}
+use Rattle.find_in.specs.Contracts.{LengthOf, FindsIn}
 use Rattle.incremental.specs.declared.Place.{Place}
 use Rattle.incremental.specs.declared.Next.{Next}
 use Rattle.incremental.specs.declared.Next.the-variants.{Parse, Close, Done, Stopped, Refused}

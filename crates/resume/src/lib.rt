@@ -41,7 +41,7 @@ fn parse(work: &mut [u32], file: &[u8], output: &mut [u8], place: Place, node: N
     if tree_cache::is_sentinel(work, node) {
         return Next::Stopped(place);
     }
-    let e = find_in::entry_of(work, node);
+    let e = node_entry::entry_of(work, node);
     match find_in::find(work, node, e, place.depth) {
         Path::At(slot) => incremental::refer(work, output, place, node, e, slot),
         Path::NoPath => write_full(work, file, output, place, node, e),
@@ -66,7 +66,7 @@ pub fn resume(
                 next = parse(work, file, output, p, h);
             }
             Next::Close(p) => {
-                next = open_pairs::close_up(work, p);
+                next = close_pairs::close_up(work, p);
             }
             Next::Done(p) => {
                 return Outcome::Done(p);

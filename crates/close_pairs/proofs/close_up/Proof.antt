@@ -1,10 +1,10 @@
--- `open_pairs::close_up` meets its contract: the end, the right side, or a close.
+-- `close_pairs::close_up` meets its contract: the end, the right side, or a close.
 -- Assumes nothing.
 use native.Mathlib.Omega.{arith}
 use Rattle.incremental.proofs.Closing.{done-turns, pair-low, pair-few, goes-right, values-there, closes-one}
 use borrow.Author.Needs.{needs}
-use Rattle.open_pairs.proofs.close_up.Statement.{statement}
-use Rattle.open_pairs.proofs.close_up.Tie as tie
+use Rattle.close_pairs.proofs.close_up.Statement.{statement}
+use Rattle.close_pairs.proofs.close_up.Tie as tie
 
 returns : tie.Need-returns
 returns c = let s = c .before .before in done-turns (s .args .work .now) (s .args .place) (c .if1 .taken)

@@ -1,11 +1,11 @@
--- `find_in::atom_entry` meets its contract: the entry with the atom's key, or entry 0.
+-- `node_entry::atom_entry` meets its contract: the entry with the atom's key, or entry 0.
 -- Assumes nothing.
 use mathlib.Core.Path.{ap}
 use Rattle.cache_entries.specs.Contracts.{option-of}
-use Rattle.find_in.proofs.Lookup.{atom-at, atom-none}
+use Rattle.node_entry.proofs.Entries.{atom-at, atom-none}
 use borrow.Author.Needs.{needs}
-use Rattle.find_in.proofs.atom_entry.Statement.{statement}
-use Rattle.find_in.proofs.atom_entry.Tie as tie
+use Rattle.node_entry.proofs.atom_entry.Statement.{statement}
+use Rattle.node_entry.proofs.atom_entry.Tie as tie
 
 atom-key-requires : tie.Need-atom-key-requires
 atom-key-requires c κs = search needs

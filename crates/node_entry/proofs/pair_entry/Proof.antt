@@ -1,10 +1,10 @@
--- `find_in::pair_entry` meets its contract: the entry that the pair is mapped to, or entry 0.
+-- `node_entry::pair_entry` meets its contract: the entry that the pair is mapped to, or entry 0.
 -- Assumes nothing.
 use mathlib.Core.Path.{sym, _∙_}
-use Rattle.find_in.proofs.Lookup.{pair-none, pair-some}
+use Rattle.node_entry.proofs.Entries.{pair-none, pair-some}
 use borrow.Author.Needs.{needs}
-use Rattle.find_in.proofs.pair_entry.Statement.{statement}
-use Rattle.find_in.proofs.pair_entry.Tie as tie
+use Rattle.node_entry.proofs.pair_entry.Statement.{statement}
+use Rattle.node_entry.proofs.pair_entry.Tie as tie
 
 map-of-requires : tie.Need-map-of-requires
 map-of-requires c κs = search needs

@@ -1,12 +1,12 @@
--- `find_in::entry_of` meets its contract: an atom's entry or a pair's.
+-- `node_entry::entry_of` meets its contract: an atom's entry or a pair's.
 -- Assumes nothing.
 use native.Mathlib.Omega.{arith}
 use mathlib.Core.Path.{sym, ap, _∙_}
 use Rattle.allocator.specs.Handle.{pair, node-of}
-use Rattle.find_in.proofs.Lookup.{named-pair, entry-of-atom, entry-of-pair}
+use Rattle.node_entry.proofs.Entries.{named-pair, entry-of-atom, entry-of-pair}
 use borrow.Author.Needs.{needs}
-use Rattle.find_in.proofs.entry_of.Statement.{statement}
-use Rattle.find_in.proofs.entry_of.Tie as tie
+use Rattle.node_entry.proofs.entry_of.Statement.{statement}
+use Rattle.node_entry.proofs.entry_of.Tie as tie
 
 is-atom-requires : tie.Need-is-atom-requires
 is-atom-requires c κs = search needs

@@ -1,10 +1,10 @@
--- `open_pairs::close_pair` meets its contract: two entries go, and the pair's comes.
+-- `close_pairs::close_pair` meets its contract: two entries go, and the pair's comes.
 -- Assumes nothing.
 use native.Mathlib.Omega.{arith}
 use Rattle.incremental.proofs.Closing.{popped-whole, popped-pairs}
 use borrow.Author.Needs.{needs}
-use Rattle.open_pairs.proofs.close_pair.Statement.{statement}
-use Rattle.open_pairs.proofs.close_pair.Tie as tie
+use Rattle.close_pairs.proofs.close_pair.Statement.{statement}
+use Rattle.close_pairs.proofs.close_pair.Tie as tie
 
 pop2-requires : tie.Need-pop2-requires
 pop2-requires c κs = search needs
