@@ -8,15 +8,8 @@ use lib.ListN.{length, take}
 use Rattle.words.specs.Words.{at}
 use Rattle.allocator.specs.Handle.{Node, pair, listed-atom, small-atom, unknown, node-of}
 use Rattle.reading.specs.Store.{Store, walk}
-use Rattle.path_walk.specs.declared.PathBits.{PathBits}
-use Rattle.path_walk.specs.declared.PathBits.the-variants as path-bits
 use Rattle.path_walk.specs.declared.Walked.{Walked}
 use Rattle.path_walk.specs.declared.Walked.the-variants as walked
-
--- How many bits a path has.
-abbrev pub counted : Option (List Bool) → PathBits
-counted none = path-bits.Nil
-counted (some bits) = path-bits.Bits (length bits)
 
 -- How many set bits a path begins with, `depth` at most.
 unfoldable pub down : List Bool → (depth : ℕ) → ℕ

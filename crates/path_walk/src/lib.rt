@@ -1,57 +1,16 @@
-// The bits of a path, and the walk down them in the reader's store: the parts of `traverse_path_with_vec` of de_br.rs that change nothing.
+// The walk down a path's bits, in the stack and in the reader's store: the parts of `traverse_path_with_vec` of de_br.rs that change nothing.
 use allocator::NodePtr;
 ghost use mathlib.Core.Path.{_≡_};
-ghost use mathlib.Core.Bool.{Bool, false};
+ghost use mathlib.Core.Bool.{Bool};
 ghost use mathlib.Core.List.{List};
 ghost use mathlib.Core.Option.{some};
-ghost use Prim.Native.Nat.{ℕ, _+_, _*_, _^_, _≤_, _<_};
-ghost use lib.ListN.{length, getD, drop};
+ghost use Prim.Native.Nat.{_+_, _*_, _≤_, _<_};
+ghost use lib.ListN.{length, drop};
 ghost use Rattle.words.specs.Words.{at};
 ghost use Rattle.path.specs.Bytes.{read-path};
 ghost use Rattle.allocator.specs.Handle.{node-of, index-of};
 ghost use Rattle.reading.specs.Store.{pick-word};
-ghost use Rattle.path_walk.specs.Answers.{counted, down, Walks, Reachable};
-
-// How many bits a path has below its most significant set bit; none are set in the path of nil.
-pub enum PathBits {
-    Nil,
-    Bits(usize),
-}
-
-pub fn path_bits(path: &[u8]) -> PathBits
-    requires { ⌜ length (now path) ≤ 65535 ⌝ }
-    ensures { λ r. ⌜ r ≡ counted (read-path (now (path .entry))) ⌝ }
-{
-    let first = path::traverse_path::first_non_zero(path);
-    if path.len() <= first {
-        return PathBits::Nil;
-    }
-    let mask = path::traverse_path::msb_mask(path[first]);
-    PathBits::Bits(8 * (path.len() - 1 - first) + place_of(mask))
-}
-
-// The place of a mask's one bit.
-fn place_of(mask: u8) -> usize
-    ensures { λ r. ⌜ ((k : ℕ) → mask ≡ 2 ^ k → r ≡ k) ⌝ }
-{
-    let mut rest = mask;
-    let mut place = 0;
-    while 1 < rest {
-        rest = rest / 2;
-        place += 1;
-    }
-    place
-}
-
-// Bit i of a path, from the lowest up.
-pub fn path_bit(path: &[u8], i: usize) -> bool
-    requires { ⌜ i < 8 * length (now path) ⌝ }
-    ensures { λ r. ⌜ ((bits : List Bool) → read-path (now (path .entry)) ≡ some bits → i < length bits → r ≡ getD bits i false) ⌝ }
-{
-    let byte = path[path.len() - 1 - i / 8];
-    let k = (i % 8) as u8;
-    (byte >> k) % 2 == 1
-}
+ghost use Rattle.path_walk.specs.Answers.{down, Walks, Reachable};
 
 // How many of the lowest bits of a path are set, one after the other, `depth` at most: so far it goes down the stack.
 pub fn stack_steps(path: &[u8], count: usize, depth: usize) -> usize
@@ -63,7 +22,7 @@ pub fn stack_steps(path: &[u8], count: usize, depth: usize) -> usize
         if depth <= i {
             return i;
         }
-        if !path_bit(path, i) {
+        if !path_bits::path_bit(path, i) {
             return i;
         }
         i += 1;
@@ -95,7 +54,7 @@ pub fn walk_bits(
         if !node.is_pair() {
             return Walked::IntoAtom;
         }
-        node = side(pairs, node, path_bit(path, i));
+        node = side(pairs, node, path_bits::path_bit(path, i));
         i += 1;
     }
     Walked::Node(node)

@@ -16,11 +16,12 @@ use Rattle.allocator.specs.HandleLaws.{handle-of-node-of, handle-of-nil, node-o
 use Rattle.reading.specs.Store.{Store, Value, Listed, Led, walk, node-handle, led-to, list-of, above, lead}
 use Rattle.reader_stacks.specs.Layout.{VALUES, listOf, valueAt, valuesOf}
 use Rattle.reader_stacks.proofs.Stacks.{length-values, drop-values}
-use Rattle.path_walk.specs.declared.PathBits.the-variants as path-bits
+use Rattle.path_bits.specs.declared.PathBits.the-variants as path-bits
+use Rattle.path_bits.specs.Answers.{counted}
+use Rattle.path_bits.proofs.Bits.{lowest}
 use Rattle.path_walk.specs.declared.Walked.{Walked}
 use Rattle.path_walk.specs.declared.Walked.the-variants as walked
-use Rattle.path_walk.specs.Answers.{counted, down, Within, Reachable, walkedTo, Walks}
-use Rattle.path_walk.proofs.Bits.{lowest}
+use Rattle.path_walk.specs.Answers.{down, Within, Reachable, walkedTo, Walks}
 use Rattle.stack_list.specs.declared.Built.{Built}
 use Rattle.traverse_path_with_vec.specs.declared.Traversed.{Traversed}
 use Rattle.reading.specs.Sound.{unlisted}

@@ -1,6 +1,6 @@
 // `traverse_path_with_vec` of de_br.rs: what a reference's path leads to, from the stack of values.
 use allocator::NodePtr;
-use path_walk::PathBits;
+use path_bits::PathBits;
 use path_walk::Walked;
 use reader_stacks::VALUES;
 use stack_list::Built;
@@ -32,7 +32,7 @@ pub fn traverse_path_with_vec(
     ensures { λ r. ⌜ ((s : Store) → s .pairs ≡ take (2 * used) (now (pairs .entry)) → s .ghosts ≡ ghosts → LeadsTo (now (work .entry)) (now (pairs .entry)) values used (led (read-path (now (path .entry))) (valuesOf (now (work .entry)) values) s) (now (work .exit)) (now (pairs .exit)) r) ⌝ }
     ensures { λ r. ⌜ SameTotal used ghosts r ⌝ }
 {
-    let PathBits::Bits(count) = path_walk::path_bits(path) else {
+    let PathBits::Bits(count) = path_bits::path_bits(path) else {
         return Traversed::Node(Built {
             node: NodePtr::NIL,
             pairs: used,

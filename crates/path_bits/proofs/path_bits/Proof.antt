@@ -1,12 +1,12 @@
--- `path_walk::path_bits` meets its contract: eight bits for each byte after the first that is not 0, and those of that byte below its most significant set bit.
+-- `path_bits::path_bits` meets its contract: eight bits for each byte after the first that is not 0, and those of that byte below its most significant set bit.
 -- Assumes nothing.
 use Prim.Native.Nat.{ℕ, _<_}
 use native.Mathlib.Omega.{arith}
 use borrow.Author.Needs.{needs}
 use Rattle.words.specs.Lists.{all-of}
-use Rattle.path_walk.proofs.Bits.{counted-none, counted-bits}
-use Rattle.path_walk.proofs.path_bits.Statement.{statement}
-use Rattle.path_walk.proofs.path_bits.Tie as tie
+use Rattle.path_bits.proofs.Bits.{counted-none, counted-bits}
+use Rattle.path_bits.proofs.path_bits.Statement.{statement}
+use Rattle.path_bits.proofs.path_bits.Tie as tie
 
 first-non-zero-requires : tie.Need-first-non-zero-requires
 first-non-zero-requires c κs = search needs

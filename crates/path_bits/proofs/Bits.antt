@@ -16,9 +16,9 @@ use Rattle.path.specs.Bytes.{odd, low-bits, below-top, all-bits, read-path}
 use Rattle.path.specs.BytesLaws.{length-all-bits, length-low-bits, low-bits-at}
 use Rattle.path.specs.Traverse.{top-bit, zeros-in-front}
 use Rattle.path.specs.TraverseLaws.{Top, top-byte, zeros-within, after-zeros, none-all-zeros, read-from}
-use Rattle.path_walk.specs.declared.PathBits.{PathBits}
-use Rattle.path_walk.specs.declared.PathBits.the-variants as path-bits
-use Rattle.path_walk.specs.Answers.{counted}
+use Rattle.path_bits.specs.declared.PathBits.{PathBits}
+use Rattle.path_bits.specs.declared.PathBits.the-variants as path-bits
+use Rattle.path_bits.specs.Answers.{counted}
 
 -- ---- the place of a mask's one bit, halved until 1 is left
 

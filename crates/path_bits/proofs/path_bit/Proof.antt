@@ -1,12 +1,12 @@
--- `path_walk::path_bit` meets its contract: bit i is bit i % 8 of the byte i / 8 from the end.
+-- `path_bits::path_bit` meets its contract: bit i is bit i % 8 of the byte i / 8 from the end.
 -- Assumes nothing.
 use Prim.Native.Nat.{ℕ, _<_}
 use native.Mathlib.Omega.{arith}
 use borrow.Author.Needs.{needs}
 use Rattle.words.specs.Lists.{all-of}
-use Rattle.path_walk.proofs.Bits.{bit-at}
-use Rattle.path_walk.proofs.path_bit.Statement.{statement}
-use Rattle.path_walk.proofs.path_bit.Tie as tie
+use Rattle.path_bits.proofs.Bits.{bit-at}
+use Rattle.path_bits.proofs.path_bit.Statement.{statement}
+use Rattle.path_bits.proofs.path_bit.Tie as tie
 
 sub-byte : tie.Need-sub-byte
 sub-byte c = search needs

@@ -1,9 +1,9 @@
--- `path_walk::place_of` meets its contract: the mask is halved until 1 is left.
+-- `path_bits::place_of` meets its contract: the mask is halved until 1 is left.
 -- Assumes nothing.
 use native.Mathlib.Omega.{arith}
-use Rattle.path_walk.proofs.Bits.{Halved, halved-start, halved-more, halved-end}
-use Rattle.path_walk.proofs.place_of.Statement.{statement}
-use Rattle.path_walk.proofs.place_of.Tie as tie
+use Rattle.path_bits.proofs.Bits.{Halved, halved-start, halved-more, halved-end}
+use Rattle.path_bits.proofs.place_of.Statement.{statement}
+use Rattle.path_bits.proofs.place_of.Tie as tie
 
 abbrev Inv-loop : tie.InvT-loop
 Inv-loop mask rest₀ place₀ rest place = Halved mask rest place
