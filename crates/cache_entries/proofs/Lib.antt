@@ -2,5 +2,3 @@ pub mod Rows
 pub mod Chain
 pub mod NewEntry
 pub mod Single
-pub mod Parents
-pub mod Move

@@ -46,7 +46,7 @@ fn take_sentinel(work: &mut [u32]) -> usize
     if s == 0 {
         return 0;
     }
-    entry_parents::take_parents(work, EntryIndex(s - 1))
+    moved_parents::take_parents(work, EntryIndex(s - 1))
 }
 
 // The cache after the tree of handle root is added: the present sentinel entry's parents move to its root.
@@ -57,5 +57,5 @@ pub fn update(work: &mut [u32], root: NodePtr)
 {
     let n = take_sentinel(work);
     let e = enter(work, root);
-    entry_parents::place_parents(work, e, n);
+    moved_parents::place_parents(work, e, n);
 }

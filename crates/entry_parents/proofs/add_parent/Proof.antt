@@ -3,7 +3,7 @@
 use native.Mathlib.Omega.{arith}
 use lib.ListN.{length-set}
 use borrow.Author.Needs.{needs}
-use Rattle.cache_entries.proofs.Parents.{pushed, replaced}
+use Rattle.entry_parents.proofs.Parents.{pushed, replaced}
 use Rattle.entry_parents.proofs.add_parent.Statement.{statement}
 use Rattle.entry_parents.proofs.add_parent.Tie as tie
 

@@ -1,9 +1,9 @@
 -- `take_parents` meets its contract: the row is copied to MOVED, and its count is 0.
 -- Assumes nothing.
 use borrow.Author.Needs.{needs}
-use Rattle.cache_entries.proofs.Move.{take-row}
-use Rattle.entry_parents.proofs.take_parents.Statement.{statement}
-use Rattle.entry_parents.proofs.take_parents.Tie as tie
+use Rattle.moved_parents.proofs.Move.{take-row}
+use Rattle.moved_parents.proofs.take_parents.Statement.{statement}
+use Rattle.moved_parents.proofs.take_parents.Tie as tie
 
 count-of-requires : tie.Need-count-of-requires
 count-of-requires c κs = search needs

@@ -116,8 +116,8 @@ unfolding w₂
 take-row w w₁ e i n s h q hn few p =
     let u = s .used in
     let g = s .long in
-    let c : w₁ ≡ paste w MOVED (drop (PARENTS + e * 100) w) n = rw q at p in
-    rw q (taken w w₁ e n s h hn few (copied w (PARENTS + e * 100) MOVED n (omega arith) (omega arith) w₁ c))
+    let c : Copied w w₁ (PARENTS + i * 100) MOVED n = copied w (PARENTS + i * 100) MOVED n (omega arith) (omega arith) w₁ p in
+    rw q (taken w w₁ e n s h hn few (rw q at c))
 
 -- ---- the parents in MOVED go to the end of a row: w₁ after the first copy, w₂ after the second
 

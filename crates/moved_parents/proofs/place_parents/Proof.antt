@@ -3,9 +3,9 @@
 use mathlib.Core.Path.{_∙_}
 use lib.ListN.{length-set}
 use borrow.Author.Needs.{needs}
-use Rattle.cache_entries.proofs.Move.{place-row}
-use Rattle.entry_parents.proofs.place_parents.Statement.{statement}
-use Rattle.entry_parents.proofs.place_parents.Tie as tie
+use Rattle.moved_parents.proofs.Move.{place-row}
+use Rattle.moved_parents.proofs.place_parents.Statement.{statement}
+use Rattle.moved_parents.proofs.place_parents.Tie as tie
 
 count-of-requires : tie.Need-count-of-requires
 count-of-requires c κs = search needs
