@@ -71,16 +71,16 @@ use @CALL@ as call
 use @CALL@.Symbol as call-def
 use @CALL@.Symbol.{{name as #call}}
 use @CALL@.Met as call-thm
+use Rattle.read_finished.proofs.read_first as first
+use Rattle.read_finished.proofs.read_first.Symbol as first-def
+use Rattle.read_finished.proofs.read_first.Symbol.{{name as #first}}
+use Rattle.read_finished.proofs.read_first.Met as first-thm
 use Rattle.round_trip.specs.declared.RoundTrip.{{RoundTrip}}
 use Rattle.round_trip.specs.RoundTrip.{{the-session, the-reading, RoundTrips}}
 use Rattle.round_trip.proofs.Returned.{{session-part, reading-part, whole-read}}
 use Rattle.round_trip.proofs.Shared.{{Kept, seen, shares-at, returns-at}}
 use Rattle.round_trip.proofs.RoundTrip as RT
 use Rattle.round_trip.proofs.RoundTrip.Laws as RT′
-use Rattle.round_trip.proofs.read_first as first
-use Rattle.round_trip.proofs.read_first.Symbol as first-def
-use Rattle.round_trip.proofs.read_first.Symbol.{{name as #first}}
-use Rattle.round_trip.proofs.read_first.Met as first-thm
 use Rattle.round_trip.proofs.round_trip.Key.{{name as #trip}}
 use Rattle.round_trip.proofs.round_trip as trip
 use Rattle.round_trip.proofs.round_trip.Statement as stated
@@ -219,5 +219,5 @@ round-trip-spec 𝓤 H 𝓜 𝓖 𝓡 =
     (tables 𝓤 H 𝓜 𝓡 code.env .C) (tables 𝓤 H 𝓜 𝓡 code.env .Λ) #trip code.function (code.unfolded 𝓤 H 𝓜 𝓡)
     (trip-meets 𝓤 H (𝓖 .A) (givenOf 𝓤 H 𝓜 𝓖) (𝓜 .mem) (𝓡 .run) (tablesOf 𝓤 H 𝓜 (tables 𝓤 H 𝓜 𝓡 code.env))
     (cited 𝓤 H (Session 𝓤 H (𝓖 .A) (𝓜 .mem) (𝓡 .run)) 𝓜 𝓡 code.env #call call-def.routine code.calls-@KEY@ (call-thm.met 𝓤 H 𝓜 𝓖 𝓡))
-    (cited 𝓤 H (Read 𝓤 H (𝓖 .A) (𝓜 .mem) (𝓡 .run)) 𝓜 𝓡 code.env #first first-def.routine code.calls-round-trip·read-first (first-thm.met 𝓤 H 𝓜 𝓖 𝓡)))
+    (cited 𝓤 H (Read 𝓤 H (𝓖 .A) (𝓜 .mem) (𝓡 .run)) 𝓜 𝓡 code.env #first first-def.routine code.calls-read-finished·read-first (first-thm.met 𝓤 H 𝓜 𝓖 𝓡)))
 '''

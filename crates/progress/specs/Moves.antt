@@ -1,7 +1,6 @@
--- Where a session stands after each move: a refusal, a finished step, an add, a restore. And questions 9 and 10.
+-- Where a session stands after each move: a refusal, a finished step, an add, a restore.
 use Prim.Native.Nat.{ℕ, _+_}
-use mathlib.Core.Bool.{Bool, true, false, cond}
-use lib.Dec.{ltb}
+use mathlib.Core.Bool.{Bool, true, false}
 use Rattle.checkpoints.specs.declared.Checkpoint.{Checkpoint}
 use Rattle.incremental.specs.declared.Place.{Place}
 use Rattle.incremental.specs.declared.Outcome.{Outcome}
@@ -63,10 +62,6 @@ after-outcome p (outcome.Refused n q) = refused-at (moved-to p q (p .adds) false
 -- The progress after a restore.
 abbrev pub undone-at : Progress → Checkpoint → ℕ → Progress
 undone-at p r n = moved-to p (record { opens = r .opens; depth = r .depth; size = r .size }) n false
-
--- Questions 9 and 10, at an add: the number of the first that gets no, or 0.
-abbrev pub question-of : (finished : Bool) → (adds : ℕ) → ℕ
-question-of finished adds = cond finished 9 (cond (ltb adds 16) 0 10)
 
 -- The run ends with a number, and the record stays.
 abbrev pub stopped-at : Progress → ℕ → Checkpoint → StepAnswer

@@ -1,14 +1,11 @@
 -- What the two calls give, from their contracts: the session's part, the reading's part, and that the plain filling's whole tree was read.
 -- Assumes nothing.
-use Prim.Native.Nat.{ℕ, min}
+use Prim.Native.Nat.{ℕ}
 use mathlib.Core.Path.{_≡_, refl, sym, ap, subst, _∙_}
 use mathlib.Core.Bool.{true, _&&_}
 use mathlib.Core.List.{List}
-use native.Mathlib.Omega.{arith}
 use lib.Dec.{leb}
-use lib.ListN.{length, take}
-use lib.Seq.{length-take-le, take-all}
-use Rattle.words.specs.Choice.{by-lt}
+use lib.ListN.{length}
 use Rattle.reading.specs.Call as read
 use Rattle.read_answer.specs.Answer.{slices as store-slices}
 use Rattle.serializer.specs.Demand3.{ReadAs}
@@ -16,21 +13,6 @@ use Rattle.serializer.specs.Call.{Slices, Result}
 use Rattle.checkpoints.specs.declared.Checkpoint.{Checkpoint}
 use Rattle.session_call.specs.Outcome.{ReadsBack}
 use Rattle.round_trip.specs.RoundTrip.{the-session, the-reading, RoundTrips}
-
--- Where the size is past the end, the whole list is taken.
-take-lesser : (m n : ℕ) (l : List ℕ) → m ≡ min n (length l) → take m l ≡ take n l
-take-lesser m n l e =
-    by-lt n (length l) (λ h. let same : m ≡ n = omega arith in ap (λ (k : ℕ). take k l) same)
-    (λ h. take-all m l (omega arith) ∙ sym (take-all n l h))
-
--- The count of bytes that are lent.
-pub lesser-many : (m n : ℕ) (l : List ℕ) → m ≡ min n (length l) → m ≡ length (take m l)
-lesser-many m n l e = sym (length-take-le m l (omega arith))
-
--- What the reading call gives of the lesser count of bytes is what it gives of the size.
-pub first-read : (m n : ℕ) (o : List ℕ) → m ≡ min n (length o) → (lent : read.Slices) (r : read.Result) → r ≡ read.reading (take m o) lent
-    → r ≡ read.reading (take n o) lent
-first-read m n o e lent r is = is ∙ ap (λ (x : List ℕ). read.reading x lent) (take-lesser m n o e)
 
 -- Question 1 asks only for lengths.
 same-enough : (w w′ p a b : List ℕ) → length w′ ≡ length w → read.long-enough (store-slices w p a b) ≡ true → read.long-enough (store-slices w′ p a b) ≡ true

@@ -3,9 +3,6 @@ use checkpoints::Checkpoint;
 use read_answer::ReadAnswer;
 use session_answer::SessionAnswer;
 ghost use mathlib.Core.Path.{_≡_};
-ghost use Prim.Native.Nat.{min};
-ghost use lib.ListN.{length, take};
-ghost use Rattle.reading.specs.Call.{reading};
 ghost use Rattle.read_answer.specs.Answer.{slices as store-slices};
 ghost use Rattle.de_br.specs.Outcome.{resultOf};
 ghost use Rattle.session_call.specs.Outcome.{slices, result-of};
@@ -15,33 +12,6 @@ ghost use Rattle.round_trip.specs.RoundTrip.{the-session, the-reading, R
 pub struct RoundTrip {
     pub session: SessionAnswer,
     pub read: ReadAnswer,
-}
-
-// The size, or the output's length where that is less.
-fn lesser(output: &[u8], size: u32) -> usize
-    ensures { λ r. ⌜ r ≡ min size (length (now (output .entry))) ⌝ }
-{
-    let n = output.len();
-    let m = size as usize;
-    if m < n {
-        return m;
-    }
-    n
-}
-
-// The bytes that the session wrote are read.
-fn read_first(
-    output: &[u8],
-    session: SessionAnswer,
-    work: &mut [u32],
-    pairs: &mut [u32],
-    atoms: &mut [u32],
-    bytes: &mut [u8],
-) -> ReadAnswer
-    ensures { λ r. ⌜ resultOf r (now (work .exit)) (now (pairs .exit)) (now (atoms .exit)) (now (bytes .exit)) ≡ reading (take (session .size) (now (output .entry))) (store-slices (now (work .entry)) (now (pairs .entry)) (now (atoms .entry)) (now (bytes .entry))) ⌝ }
-{
-    let n = lesser(output, session.size);
-    de_br::nikvoldra_read(&output[..n], work, pairs, atoms, bytes)
 }
 
 // The session call, and then the reading call with the bytes that it wrote. Both use the same work.
@@ -60,6 +30,6 @@ pub fn round_trip(
     ensures { λ r. ⌜ RoundTrips (now (file .entry)) (store-slices (now (work .entry)) (now (pairs .entry)) (now (atoms .entry)) (now (bytes .entry))) (r .session .steps) (now (words .exit)) (resultOf (r .read) (now (work .exit)) (now (pairs .exit)) (now (atoms .exit)) (now (bytes .exit))) ⌝ }
 {
     let session = session_call::nikvoldra_session(file, work, words, checkpoints, output);
-    let read = read_first(output, session, work, pairs, atoms, bytes);
+    let read = read_finished::read_first(output, session, work, pairs, atoms, bytes);
     RoundTrip { session, read }
 }

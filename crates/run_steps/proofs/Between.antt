@@ -13,7 +13,7 @@ use Rattle.session_file.specs.File.{Step}
 use Rattle.session_file.specs.Places.{StepsAt}
 use Rattle.progress.specs.declared.Progress.{Progress}
 use Rattle.progress.specs.declared.StepAnswer.{StepAnswer}
-use Rattle.progress.specs.Stored.{bit}
+use Rattle.step_records.specs.Stored.{bit}
 use Rattle.steps.specs.State.{the-file, Underway, Stands, slot-for}
 use Rattle.steps.specs.Steps.{Ready, Onward}
 use Rattle.steps.proofs.Answers.{stands-on, under, ended}

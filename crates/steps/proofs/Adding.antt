@@ -38,7 +38,7 @@ use Rattle.incremental.proofs.Frames.{todo-same, rights-same, pairs-few}
 use Rattle.incremental.specs.declared.Outcome.{Outcome}
 use Rattle.incremental.specs.declared.Outcome.the-variants as outcome
 use Rattle.progress.specs.declared.Progress.{Progress}
-use Rattle.progress.specs.Stored.{bit, record-of}
+use Rattle.step_records.specs.Stored.{bit, record-of}
 use Rattle.progress.specs.Moves.{noted-at, after-outcome}
 use Rattle.steps.specs.State.{whole-run, after-words, waits, At, Before, History, Stocked, Underway, Ended, slot-for}
 use Rattle.steps.specs.Steps.{Adding, Added}

@@ -22,8 +22,9 @@ use Rattle.incremental.specs.declared.Outcome.{Outcome}
 use Rattle.incremental.specs.declared.Outcome.the-variants as outcome
 use Rattle.progress.specs.declared.Progress.{Progress}
 use Rattle.progress.specs.declared.StepAnswer.{StepAnswer}
-use Rattle.progress.specs.Stored.{bit, record-of}
-use Rattle.progress.specs.Moves.{refused-at, noted-at, after-outcome, undone-at, question-of, stopped-at}
+use Rattle.step_records.specs.Stored.{bit, record-of}
+use Rattle.progress.specs.Moves.{refused-at, noted-at, after-outcome, undone-at, stopped-at}
+use Rattle.step_records.specs.Questions.{question-of}
 use Rattle.steps.specs.State.{after-words, waits, size-at, Underway, Ended, Stands, slot-for}
 use Rattle.steps.specs.Steps.{Comes, Adding, Added, Undoing, Undone, Ready, Onward}
 use Rattle.steps.proofs.Slots.{nth-none}

@@ -26,7 +26,7 @@ use Rattle.tree_cache.proofs.Frames.{tables-kept}
 use Rattle.incremental.specs.State.{todo-of, Running, Writes}
 use Rattle.incremental.proofs.Frames.{todo-same, rights-same, pairs-few}
 use Rattle.progress.specs.declared.Progress.{Progress}
-use Rattle.progress.specs.Stored.{bit, with-entry}
+use Rattle.step_records.specs.Stored.{bit, with-entry}
 use Rattle.progress.specs.Moves.{noted-at, undone-at}
 use Rattle.steps.specs.State.{whole-run, after-words, Before, History, Stocked, Underway, slot-for}
 use Rattle.steps.specs.Steps.{Undoing, Undone}

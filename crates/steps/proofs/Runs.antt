@@ -18,7 +18,7 @@ use Rattle.serializer.specs.Writer.{Todo, parse, Outcome, Session, settle, add-
 use Rattle.serializer.specs.Steps.{UndoState, undo-state, room-in, restored, Run, finished-bit, word-of, stop-at, with-word, after-add, unless-full, run-steps}
 use Rattle.serializer.specs.FindPath.{find-in}
 use Rattle.serializer.specs.Trees.{nth}
-use Rattle.progress.specs.Stored.{bit}
+use Rattle.step_records.specs.Stored.{bit}
 use Rattle.steps.specs.State.{after-words, waits}
 
 module _ (space : ℕ) (f : File) (past : List UndoState) (s : Session) where

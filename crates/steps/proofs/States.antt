@@ -24,7 +24,7 @@ use Rattle.layout.specs.Layout.{OPEN, USED, COPIES, COPY}
 use Rattle.undo.specs.Contracts.{copied-open, copied-stack, copied-marks}
 use Rattle.incremental.specs.State.{todo-of}
 use Rattle.progress.specs.declared.Progress.{Progress}
-use Rattle.progress.specs.Stored.{bit}
+use Rattle.step_records.specs.Stored.{bit}
 use Rattle.progress.specs.Moves.{noted-at}
 use Rattle.steps.specs.State.{whole-run, after-words, At, Before, size-at, History, Stocked, Underway}
 use Rattle.steps.proofs.Slots.{nth-low, nth-snoc, nth-take, set-here, set-there}

@@ -23,7 +23,7 @@ use Rattle.undo.specs.Contracts.{copied-open, copied-stack, copied-marks}
 use Rattle.tree_cache.specs.Meaning.{Tables, unmapped}
 use Rattle.incremental.specs.State.{AtomPlaces, AtomsThere, todo-of, Running, Writes}
 use Rattle.progress.specs.declared.Progress.{Progress}
-use Rattle.progress.specs.Stored.{bit}
+use Rattle.step_records.specs.Stored.{bit}
 
 -- ---- the file of the bytes, and its whole run
 

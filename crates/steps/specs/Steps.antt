@@ -24,7 +24,7 @@ use Rattle.incremental.specs.declared.Place.{Place}
 use Rattle.incremental.specs.declared.Outcome.{Outcome}
 use Rattle.progress.specs.declared.Progress.{Progress}
 use Rattle.progress.specs.declared.StepAnswer.{StepAnswer}
-use Rattle.progress.specs.Stored.{bit, with-entry}
+use Rattle.step_records.specs.Stored.{bit, with-entry}
 use Rattle.progress.specs.Moves.{after-outcome}
 use Rattle.steps.specs.State.{Underway, Stands, slot-for}
 

@@ -20,8 +20,8 @@ pub fn slot_of(file: &[u8], at: usize, adds: usize) -> usize
     ensures { λ k. ⌜ (k < 16) × ((ss : List Step) → StepsAt (now (file .entry)) at ss → k ≡ slot-for ss adds) ⌝ }
 {
     match file_parts::next_step(file, at) {
-        NextStep::Add { node: _, next: _ } => progress::within(adds),
-        NextStep::Restore { number, next: _ } => progress::within(number as usize),
+        NextStep::Add { node: _, next: _ } => step_records::within(adds),
+        NextStep::Restore { number, next: _ } => step_records::within(number as usize),
         NextStep::End => 0,
     }
 }
@@ -48,7 +48,7 @@ fn undo(work: &mut [u32], depth: usize, number: usize, c: Checkpoint)
     ensures { λ _. ⌜ Undone (now (work .entry)) (now (work .exit)) number c ⌝ }
 {
     undo::restore(work, number, c.opens as usize, depth, c.depth as usize);
-    progress::bring_entry(work, c.sentinel);
+    step_records::bring_entry(work, c.sentinel);
 }
 
 // An add: questions 9 and 10; the tree is added, and the step's word written unless the add is refused.
@@ -65,17 +65,17 @@ fn add_step(
     requires { ⌜ (Ready (now file) (the-file (now file)) (now work) (now words) (now output) p c) × (Comes (now file) (p .at) (next-step.Add node next)) ⌝ }
     ensures { λ a. ⌜ Onward (now (file .entry)) (the-file (now (file .entry))) (now (work .entry)) (now (words .entry)) (now (output .entry)) p c (now (work .exit)) (now (words .exit)) (now (output .exit)) a ⌝ }
 {
-    let number = progress::question(p.finished, p.adds);
+    let number = step_records::question(p.finished, p.adds);
     if number != 0 {
         return progress::stop(p, number, c);
     }
-    let saved = progress::record_of(work, p);
+    let saved = step_records::record_of(work, p);
     let q = add(file, work, output, p, node);
     if q.done {
         return StepAnswer { state: q, saved };
     }
     StepAnswer {
-        state: progress::note(words, q, next),
+        state: step_records::note(words, q, next),
         saved,
     }
 }
@@ -101,7 +101,7 @@ fn restore_step(
     undo(work, p.depth, n, c);
     let q = progress::undone(p, n, c);
     StepAnswer {
-        state: progress::note(words, q, next),
+        state: step_records::note(words, q, next),
         saved: c,
     }
 }
@@ -140,6 +140,6 @@ pub fn bounded_step(
     requires { ⌜ Ready (now file) (the-file (now file)) (now work) (now words) (take 65535 (now output)) p c ⌝ }
     ensures { λ a. ⌜ Onward (now (file .entry)) (the-file (now (file .entry))) (now (work .entry)) (now (words .entry)) (take 65535 (now (output .entry))) p c (now (work .exit)) (now (words .exit)) (take 65535 (now (output .exit))) a ⌝ }
 {
-    let space = progress::space_of(output);
+    let space = step_records::space_of(output);
     core_step(file, work, words, &mut output[..space], p, c)
 }

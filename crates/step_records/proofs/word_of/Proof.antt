@@ -1,10 +1,10 @@
--- `progress::word_of` gives a step's word.
+-- `step_records::word_of` gives a step's word.
 -- Assumes nothing.
 use mathlib.Core.Path.{refl}
 use native.Mathlib.Omega.{arith}
 use borrow.Author.Needs.{needs}
-use Rattle.progress.proofs.word_of.Statement.{statement}
-use Rattle.progress.proofs.word_of.Tie as tie
+use Rattle.step_records.proofs.word_of.Statement.{statement}
+use Rattle.step_records.proofs.word_of.Tie as tie
 
 cast-twice : tie.Need-cast-twice
 cast-twice c = search needs

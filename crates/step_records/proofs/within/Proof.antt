@@ -1,12 +1,12 @@
--- `progress::within` gives a number below 16, or 0.
+-- `step_records::within` gives a number below 16, or 0.
 -- Assumes nothing.
 use mathlib.Core.Path.{sym}
 use native.Mathlib.Omega.{arith}
 use lib.Dec.{ltb}
 use borrow.Author.Tests.{lt-ltb, le-ltb}
 use Rattle.words.specs.Choice.{cond-true, cond-false}
-use Rattle.progress.proofs.within.Statement.{statement}
-use Rattle.progress.proofs.within.Tie as tie
+use Rattle.step_records.proofs.within.Statement.{statement}
+use Rattle.step_records.proofs.within.Tie as tie
 
 returns : tie.Need-returns
 returns c = let n = c .before .args .n in (c .if1 .taken, sym (cond-true (ltb n 16) n 0 (lt-ltb n 16 (c .if1 .taken))))

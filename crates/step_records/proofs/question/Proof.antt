@@ -1,10 +1,10 @@
--- `progress::question` asks questions 9 and 10.
+-- `step_records::question` asks questions 9 and 10.
 -- Assumes nothing.
 use mathlib.Core.Path.{refl}
 use borrow.Author.Tests.{lt-ltb, le-ltb}
 use borrow.Author.Needs.{needs}
-use Rattle.progress.proofs.question.Statement.{statement}
-use Rattle.progress.proofs.question.Tie as tie
+use Rattle.step_records.proofs.question.Statement.{statement}
+use Rattle.step_records.proofs.question.Tie as tie
 
 returns : tie.Need-returns
 returns c = search needs

@@ -1,11 +1,11 @@
--- `round_trip::read_first` gives what reading the first `size` bytes gives.
+-- `read_finished::read_first` gives what reading the first `size` bytes gives.
 -- Assumes nothing.
 use borrow.Author.Needs.{needs}
 use Rattle.read_answer.specs.Answer.{slices}
 use Rattle.de_br.specs.Outcome.{resultOf}
-use Rattle.round_trip.proofs.Returned.{lesser-many, first-read}
-use Rattle.round_trip.proofs.read_first.Statement.{statement}
-use Rattle.round_trip.proofs.read_first.Tie as tie
+use Rattle.read_finished.proofs.Finished.{lesser-many, first-read}
+use Rattle.read_finished.proofs.read_first.Statement.{statement}
+use Rattle.read_finished.proofs.read_first.Tie as tie
 
 lesser-requires : tie.Need-lesser-requires
 lesser-requires c κs = search needs

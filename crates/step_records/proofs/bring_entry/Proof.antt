@@ -1,4 +1,4 @@
--- `progress::bring_entry` stores a record's sentinel entry, if there is one.
+-- `step_records::bring_entry` stores a record's sentinel entry, if there is one.
 -- Assumes nothing.
 use Prim.Native.Nat.{ℕ, zero, suc}
 use mathlib.Core.Path.{_≡_, refl, sym, ap}
@@ -6,9 +6,9 @@ use mathlib.Core.List.{List}
 use lib.ListN.{set}
 use borrow.Author.Needs.{needs}
 use Rattle.layout.specs.Layout.{SENTINEL-ENTRY}
-use Rattle.progress.specs.Stored.{with-entry}
-use Rattle.progress.proofs.bring_entry.Statement.{statement}
-use Rattle.progress.proofs.bring_entry.Tie as tie
+use Rattle.step_records.specs.Stored.{with-entry}
+use Rattle.step_records.proofs.bring_entry.Statement.{statement}
+use Rattle.step_records.proofs.bring_entry.Tie as tie
 
 entry-set : (v : List ℕ) (r : ℕ) → (r ≡ 0 → ⊥) → set v SENTINEL-ENTRY r ≡ with-entry v r
 entry-set v zero n = absurd (n refl)
