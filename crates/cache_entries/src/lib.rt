@@ -1,5 +1,6 @@
 // The entries of the tree cache, in work: their keys and lengths, and the lookup of a key by chains.
 use layout::EntryIndex;
+use words::wide;
 ghost use mathlib.Core.Path.{_≡_};
 ghost use mathlib.Core.Option.{none};
 ghost use Prim.Native.Nat.{_+_, _^_, _≤_, _<_};
@@ -7,13 +8,6 @@ ghost use Rattle.words.specs.Words.{at};
 ghost use Rattle.layout.specs.Layout.{USED, COUNTS, ENTRIES};
 ghost use Rattle.layout.specs.Rows.{length-of, rows-of, slot-of, Sound};
 ghost use Rattle.cache_entries.specs.Contracts.{find-row, option-of, Inserted, Interned};
-
-// A word as a place.
-pub fn wide(x: u32) -> usize
-    ensures { λ r. ⌜ r ≡ x ⌝ }
-{
-    x as usize
-}
 
 // A word as a half of a length.
 fn long(x: u32) -> u64

@@ -1,18 +1,13 @@
 // update of tree_cache.rs, over the entries in work: the trees of the file entered, and the present sentinel entry's parents moved to an added root.
 use allocator::NodePtr;
 use layout::EntryIndex;
+use words::wide;
 ghost use mathlib.Core.Path.{_≡_};
 ghost use Prim.Native.Nat.{_+_, _*_, _<_};
 ghost use Rattle.words.specs.Words.{at};
 ghost use Rattle.layout.specs.Layout.{PAIR-COUNT, USED, ENTRIES};
 ghost use Rattle.tree_cache.specs.Meaning.{Names, Whole, unmapped};
 ghost use Rattle.tree_cache.specs.Contracts.{Entered, Room, Cleared, Updated};
-
-fn wide(x: u32) -> usize
-    ensures { λ r. ⌜ r ≡ x ⌝ }
-{
-    x as usize
-}
 
 // The entry of the tree of handle h, made where it is missing: children first, left before right.
 pub fn enter(work: &mut [u32], h: NodePtr) -> EntryIndex

@@ -1,6 +1,7 @@
 // incremental.rs: after a value, the right side of the innermost open pair, or that pair closed.
 use incremental::Next;
 use incremental::Place;
+use words::wide;
 ghost use mathlib.Core.Path.{_≡_};
 ghost use mathlib.Core.List.{List};
 ghost use Prim.Native.Nat.{ℕ, _+_, _-_, _≤_, _<_};
@@ -12,12 +13,6 @@ ghost use Rattle.tree_cache.specs.Meaning.{Whole};
 ghost use Rattle.incremental.specs.declared.Next.the-variants.{Parse, Close};
 ghost use Rattle.incremental.specs.State.{Standing};
 ghost use Rattle.incremental.specs.Contracts.{Runs, Turns, Falls, Closes};
-
-fn wide(x: u32) -> usize
-    ensures { λ r. ⌜ r ≡ x ⌝ }
-{
-    x as usize
-}
 
 // The two values of pair i, on top of `depth` entries, become one.
 fn close_pair(work: &mut [u32], depth: usize, i: usize)

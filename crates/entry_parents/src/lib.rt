@@ -21,7 +21,7 @@ pub fn add_parent(work: &mut [u32], e: EntryIndex, parent: EntryIndex, right: bo
     ensures { λ _. ⌜ ParentAdded (now (work .entry)) (now (work .exit)) (e .0) (parent .0) right ⌝ }
 {
     let n = cache_entries::count_of(work, e);
-    let i = cache_entries::wide(e.0);
+    let i = words::wide(e.0);
     let up = parent.0;
     let position = position_of(right);
     let link = up * 2 + position;
@@ -29,7 +29,7 @@ pub fn add_parent(work: &mut [u32], e: EntryIndex, parent: EntryIndex, right: bo
         work[layout::PARENTS + i * 100 + n] = link;
         work[layout::COUNTS + i] = (n + 1) as u32;
     } else {
-        let slot = cache_entries::wide((up + position) % 100);
+        let slot = words::wide((up + position) % 100);
         work[layout::PARENTS + i * 100 + slot] = link;
     }
 }

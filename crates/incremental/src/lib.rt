@@ -1,6 +1,7 @@
 // incremental.rs: what comes next in the loop that writes; a reference or an atom written, and its entry put on the stack.
 use allocator::NodePtr;
 use layout::EntryIndex;
+use words::wide;
 use write_item::Put;
 ghost use mathlib.Core.Path.{_≡_};
 ghost use mathlib.Core.Bool.{true};
@@ -44,12 +45,6 @@ pub enum Outcome {
     Done(Place),
     Stopped(Place),
     Refused(u32, Place),
-}
-
-fn wide(x: u32) -> usize
-    ensures { λ r. ⌜ r ≡ x ⌝ }
-{
-    x as usize
 }
 
 // Listed atom i, from where it lies in the file.

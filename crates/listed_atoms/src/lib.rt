@@ -1,17 +1,11 @@
 // The file's listed atoms where they lie in the file: slot, length, equality.
+use words::wide;
 ghost use mathlib.Core.Path.{_≡_};
 ghost use Prim.Native.Nat.{_≤_, _<_};
 ghost use lib.ListN.{length};
 ghost use Rattle.words.specs.Lists.{same};
 ghost use Rattle.atom.specs.Write.{serialized-length};
 ghost use Rattle.listed_atoms.specs.Listed.{start-of, end-of, atom-bytes, Inside, slot-of};
-
-// A word as a place.
-fn wide(x: u32) -> usize
-    ensures { λ r. ⌜ r ≡ x ⌝ }
-{
-    x as usize
-}
 
 // A byte as a word.
 fn word(x: u8) -> u32

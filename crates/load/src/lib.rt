@@ -1,17 +1,11 @@
 // The tables of the listed atoms in work: for each atom the first one with the same bytes, and its serialized length.
+use words::wide;
 ghost use mathlib.Core.Path.{_≡_};
 ghost use Prim.Native.Nat.{ℕ, _+_, _≤_, _<_};
 ghost use lib.ListN.{length};
 ghost use Rattle.listed_atoms.specs.Listed.{atom-bytes, Inside, slot-of};
 ghost use Rattle.load.specs.Load.{Ready, Kept, Loaded};
 ghost use Rattle.load.specs.Chains.{first-of, Loading};
-
-// A word as a place.
-fn wide(x: u32) -> usize
-    ensures { λ r. ⌜ r ≡ x ⌝ }
-{
-    x as usize
-}
 
 // The first atom with the bytes of atom i, where all atoms before i are loaded; i itself where none of them has its bytes.
 fn find_first(work: &[u32], file: &[u8], i: usize, slot: usize) -> usize

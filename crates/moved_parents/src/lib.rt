@@ -13,7 +13,7 @@ pub fn take_parents(work: &mut [u32], e: EntryIndex) -> usize
     ensures { λ n. ⌜ Taken (now (work .entry)) (now (work .exit)) (e .0) n ⌝ }
 {
     let n = cache_entries::count_of(work, e);
-    let i = cache_entries::wide(e.0);
+    let i = words::wide(e.0);
     words::copy_within(work, layout::PARENTS + i * 100, layout::MOVED, n);
     work[layout::COUNTS + i] = 0;
     n
@@ -34,7 +34,7 @@ pub fn place_parents(work: &mut [u32], e: EntryIndex, moved: usize)
     let n = cache_entries::count_of(work, e);
     let dropped = over(n + moved);
     let kept = n - dropped;
-    let i = cache_entries::wide(e.0);
+    let i = words::wide(e.0);
     let row = layout::PARENTS + i * 100;
     words::copy_within(work, row + dropped, row, kept);
     words::copy_within(work, layout::MOVED, row + kept, moved);

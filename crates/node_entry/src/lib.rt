@@ -2,6 +2,7 @@
 use allocator::NodePtr;
 use cache_entries::Found;
 use layout::EntryIndex;
+use words::wide;
 ghost use mathlib.Core.Path.{_≡_};
 ghost use mathlib.Core.Bool.{true};
 ghost use Prim.Native.Nat.{_<_};
@@ -10,12 +11,6 @@ ghost use Rattle.allocator.specs.Handle.{node-of, is-atom};
 ghost use Rattle.layout.specs.Layout.{PAIR-COUNT};
 ghost use Rattle.tree_cache.specs.Meaning.{Names, Whole};
 ghost use Rattle.node_entry.specs.Contracts.{PairEntry, AtomEntry, EntryOf};
-
-fn wide(x: u32) -> usize
-    ensures { λ r. ⌜ r ≡ x ⌝ }
-{
-    x as usize
-}
 
 // The entry of pair i; entry 0 where it has none.
 pub fn pair_entry(work: &[u32], i: usize) -> EntryIndex

@@ -3,6 +3,7 @@ use allocator::NodePtr;
 use incremental::Next;
 use incremental::Place;
 use layout::EntryIndex;
+use words::wide;
 use write_item::Put;
 ghost use mathlib.Core.Path.{_≡_};
 ghost use mathlib.Core.Bool.{true};
@@ -16,12 +17,6 @@ ghost use Rattle.incremental.specs.Contracts.{Turns, Falls, Found};
 
 // The most pairs that may be open: question 12.
 const MAX_OPEN: usize = 4096;
-
-fn wide(x: u32) -> usize
-    ensures { λ r. ⌜ r ≡ x ⌝ }
-{
-    x as usize
-}
 
 // A pair in full: its `ff`; its left side is next.
 pub fn open_pair(

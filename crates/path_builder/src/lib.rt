@@ -1,5 +1,6 @@
 // Builds a path backwards, from the target. The bytes are big-endian, the left-most at index 0, and the path is built from left to right, since
 // it is followed from right to left. The store is lent, one byte in each word.
+use words::wide;
 ghost use mathlib.Core.Path.{_≡_};
 ghost use mathlib.Core.List.{List};
 ghost use Prim.Native.Nat.{ℕ, _+_, _%_, _<_};
@@ -18,12 +19,6 @@ pub struct PathBuilder {
     pub in_use: u32,
     // the place that the next bit goes to (counts down)
     pub bit_pos: u8,
-}
-
-fn wide(x: u32) -> usize
-    ensures { λ r. ⌜ r ≡ x ⌝ }
-{
-    x as usize
 }
 
 // The bit of a step.

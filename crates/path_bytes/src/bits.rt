@@ -32,7 +32,7 @@ pub fn next_bit(work: &[u32], x: usize, a: usize) -> Bits
     Bits {
         v: work[layout::NODES + a] % 2,
         x: 0,
-        a: search_list::wide(work[layout::PREVS + a]),
+        a: words::wide(work[layout::PREVS + a]),
     }
 }
 

@@ -21,8 +21,8 @@ pub fn path_bytes(work: &[u32], slot: usize, out: &mut [u8])
     ensures { λ _. ⌜ Written (now (work .entry)) slot (now (out .entry)) (now (out .exit)) ⌝ }
 {
     let k = path_length(work, slot);
-    let mut x = search_list::wide(search_list::extra_of(work, slot));
-    let mut a = search_list::wide(search_list::node_of(work, slot));
+    let mut x = words::wide(search_list::extra_of(work, slot));
+    let mut a = words::wide(search_list::node_of(work, slot));
     let mut j = k;
     while j > 0 {
         let b = bits::next_byte(work, x, a);

@@ -2,6 +2,7 @@
 use checkpoints::Checkpoint;
 use incremental::Outcome;
 use incremental::Place;
+use words::wide;
 ghost use mathlib.Core.Path.{_≡_};
 ghost use Prim.Native.Nat.{_<_};
 ghost use Rattle.progress.specs.Moves.{refused-at, moved-to, after-outcome, undone-at, stopped-at};
@@ -24,12 +25,6 @@ pub struct Progress {
 pub struct StepAnswer {
     pub state: Progress,
     pub saved: Checkpoint,
-}
-
-fn wide(x: u32) -> usize
-    ensures { λ r. ⌜ r ≡ x ⌝ }
-{
-    x as usize
 }
 
 // The run ends with a number, 0 for none.

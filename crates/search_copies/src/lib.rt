@@ -18,12 +18,12 @@ pub fn add_node(work: &mut [u32], c: usize, m: usize)
 {
     let a = search_list::node_of(work, c);
     let v = search_list::place_of(work, c);
-    let l = search_list::len_of(work, search_list::wide(a));
+    let l = search_list::len_of(work, words::wide(a));
     let k = m + 1;
     work[layout::PREVS + k] = a;
     work[layout::NODES + k] = v;
     work[layout::LENS + k] = (l + 1) as u32;
-    search_list::mark(work, search_list::wide(v) / 2);
+    search_list::mark(work, words::wide(v) / 2);
 }
 
 // A path with the bits of node m at parent i of entry e, unless that is seen. Each of these functions gives how many paths there are then.
@@ -33,7 +33,7 @@ fn add_copy(work: &mut [u32], e: usize, i: usize, n: usize, m: usize) -> usize
     ensures { λ r. ⌜ Relisted (now (work .entry)) (now (work .exit)) m r (trails-of (now (work .entry)) n ++ upward (seen-of (now (work .entry)) m) (node-bits (now (work .entry)) m) (parent-of (at (now (work .entry)) (PARENTS + e * 100 + i)) ∷ [])) ⌝ }
 {
     let v = search_list::parent_at(work, e, i);
-    if search_list::is_seen(work, search_list::wide(v) / 2) {
+    if search_list::is_seen(work, words::wide(v) / 2) {
         return n;
     }
     search_list::put_path(work, n, m as u32, v, 0);

@@ -2,6 +2,7 @@
 // entry visited with the position bit, and how many bits that makes. A path is three words: its node, its place, and its bits after the node's.
 use layout::PREVS;
 use layout::SEEN;
+use words::wide;
 ghost use mathlib.Core.Path.{_≡_};
 ghost use Prim.Native.Nat.{_+_, _*_, _≤_, _<_};
 ghost use lib.ListN.{length};
@@ -15,13 +16,6 @@ pub enum Turned {
     On(usize, usize, usize),
     Result(usize),
     Capped,
-}
-
-// A word as a number.
-pub fn wide(x: u32) -> usize
-    ensures { λ r. ⌜ r ≡ x ⌝ }
-{
-    x as usize
 }
 
 // How many parents entry e has.

@@ -18,10 +18,7 @@ pub fn first_unseen(work: &[u32], e: usize) -> usize
     let all = search_list::count_of(work, e);
     let mut i = 0;
     while i < all {
-        if !search_list::is_seen(
-            work,
-            search_list::wide(search_list::parent_at(work, e, i)) / 2,
-        ) {
+        if !search_list::is_seen(work, words::wide(search_list::parent_at(work, e, i)) / 2) {
             return i;
         }
         i += 1;

@@ -16,7 +16,7 @@ fn visit(work: &mut [u32], c: usize, n: usize, m: usize, d: usize) -> Turned
 {
     let next = c + 1;
     let nodes = m + 1;
-    let e = search_list::wide(search_list::place_of(work, c)) / 2;
+    let e = words::wide(search_list::place_of(work, c)) / 2;
     search_copies::add_node(work, c, m);
     let k = search_moves::first_unseen(work, e);
     if k < search_list::count_of(work, e) {
@@ -30,7 +30,7 @@ fn step_entry(work: &mut [u32], c: usize, n: usize, m: usize, d: usize) -> Turne
     requires { ⌜ (Working (now work) d n m) × (c < n) × (extra-at (now work) c ≡ 0) ⌝ }
     ensures { λ r. ⌜ Steps (now (work .entry)) (now (work .exit)) d c n m r ⌝ }
 {
-    if search_list::is_seen(work, search_list::wide(search_list::place_of(work, c)) / 2) {
+    if search_list::is_seen(work, words::wide(search_list::place_of(work, c)) / 2) {
         let last = n - 1;
         search_moves::drop_path(work, c, last, m);
         return Turned::On(c, last, m);

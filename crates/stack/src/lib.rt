@@ -5,6 +5,7 @@ use layout::MOVED;
 use layout::STACK;
 use layout::TOPS;
 use layout::WRITTEN;
+use words::wide;
 ghost use mathlib.Core.Path.{_≡_};
 ghost use Prim.Native.Nat.{ℕ, _+_, _≤_, _<_};
 ghost use lib.ListN.{length};
@@ -14,12 +15,6 @@ ghost use Rattle.stack.specs.Contracts.{Stacked, Pushed, Popped, PoppedT
 
 // An entry is marked written only from this length on.
 const MIN_SERIALIZED_LENGTH: u64 = 4;
-
-fn wide(x: u32) -> usize
-    ensures { λ r. ⌜ r ≡ x ⌝ }
-{
-    x as usize
-}
 
 // Entry e goes on top of the `depth` entries that are there.
 pub fn push(work: &mut [u32], depth: usize, e: EntryIndex)

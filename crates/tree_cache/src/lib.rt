@@ -1,6 +1,7 @@
 // The words of the tree cache: pairs and their entries, the keys and lengths of atoms, and the length of a pair.
 use allocator::NodePtr;
 use allocator::ObjectType;
+use words::wide;
 ghost use mathlib.Core.Path.{_≡_};
 ghost use mathlib.Core.Bool.{true};
 ghost use lib.Dec.{eqb};
@@ -17,12 +18,6 @@ ghost use Rattle.tree_cache.specs.Contracts.{is-listed, Stands, Measured
 
 // The first word of an atom's key; the second one is its handle.
 pub const ATOM_KEY: u32 = 0xfffffffe;
-
-fn wide(x: u32) -> usize
-    ensures { λ r. ⌜ r ≡ x ⌝ }
-{
-    x as usize
-}
 
 fn long(x: u32) -> u64
     ensures { λ r. ⌜ r ≡ x ⌝ }

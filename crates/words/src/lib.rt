@@ -1,4 +1,4 @@
-// Slices of words and bytes: clear, copy, compare; bytes read as a number. What other crates do to a lent slice.
+// Slices of words and bytes: clear, copy, compare; a word and bytes read as a number. What other crates do to a lent slice.
 ghost use mathlib.Core.Path.{_≡_};
 ghost use Prim.Native.Nat.{_+_, _≤_, _<_};
 ghost use lib.ListN.{length, replicate, drop};
@@ -6,6 +6,13 @@ ghost use lib.Seq.{paste};
 ghost use Rattle.words.specs.BigEndian.{«number-after»};
 ghost use Rattle.words.specs.Lists.{same};
 ghost use Rattle.words.specs.Words.{part};
+
+// A word as a place.
+pub fn wide(x: u32) -> usize
+    ensures { λ r. ⌜ r ≡ x ⌝ }
+{
+    x as usize
+}
 
 // All words are zero.
 pub fn clear(words: &mut [u32])

@@ -23,7 +23,7 @@ use Rattle.tree_cache.proofs.left_of.Reads as left-of-reads
 use Rattle.tree_cache.proofs.map_of.Reads as map-of-reads
 use Rattle.make_entry.proofs.meet_sentinel.Reads as meet-sentinel-reads
 use Rattle.tree_cache.proofs.right_of.Reads as right-of-reads
-use Rattle.cache_update.proofs.wide.Reads as wide-reads
+use Rattle.words.proofs.wide.Reads as wide-reads
 use Rattle.cache_update.proofs.+enter.{statement}
 use Rattle.cache_update.proofs.+enter.Tie.{close}
 
