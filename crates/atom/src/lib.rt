@@ -1,1 +1,1 @@
-// The format of an atom in a serialized tree: definitions and laws alone. The crates write_atom and parse_atom have the code.
+// The format of an atom in a serialized tree: definitions and laws alone. The crates prefix, write_atom, decode_size and parse_atom have the code.
