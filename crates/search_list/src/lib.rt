@@ -90,7 +90,9 @@ pub fn is_seen(work: &[u32], e: usize) -> bool
     requires { ⌜ (524288 ≤ length (now work)) × (e < ENTRIES) ⌝ }
     ensures { λ b. ⌜ b ≡ seen-at (now (work .entry)) e ⌝ }
 {
-    path::bitset::is_visited(&work[SEEN..PREVS], e)
+    // A local: with a literal there the proof takes seconds.
+    let from = SEEN;
+    path::bitset::is_visited(&work[from..PREVS], e)
 }
 
 // Entry e is seen.

@@ -61,7 +61,9 @@ pub fn is_marked(work: &[u32], e: EntryIndex) -> bool
     ensures { λ r. ⌜ r ≡ marked-at (now (work .entry)) (e .0) ⌝ }
 {
     let x = wide(e.0);
-    path::bitset::is_visited(&work[WRITTEN..MOVED], x)
+    // A local: with a literal there the proof takes longer.
+    let from = WRITTEN;
+    path::bitset::is_visited(&work[from..MOVED], x)
 }
 
 // Marks entry e written.

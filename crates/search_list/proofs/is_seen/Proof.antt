@@ -7,6 +7,9 @@ use borrow.Author.Needs.{needs}
 use Rattle.search_list.proofs.is_seen.Statement.{statement}
 use Rattle.search_list.proofs.is_seen.Tie as tie
 
+mul-is-visited : tie.Need-mul-is-visited
+mul-is-visited c = search needs
+
 sub-is-visited : tie.Need-sub-is-visited
 sub-is-visited c = search needs
 
@@ -26,4 +29,4 @@ returns c = let s = c .before .before .before in c .is-visited .ensures ∙ seen
 pub is-seen-spec : {M : Type 1} → statement M
 is-seen-spec =
     tie.close
-    (tie.spec sub-is-visited part-is-visited-start part-is-visited-end is-visited-requires returns)
+    (tie.spec mul-is-visited sub-is-visited part-is-visited-start part-is-visited-end is-visited-requires returns)

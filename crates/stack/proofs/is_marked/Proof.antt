@@ -10,6 +10,9 @@ use Rattle.stack.proofs.is_marked.Tie as tie
 wide-requires : tie.Need-wide-requires
 wide-requires c κs = search needs
 
+mul-is-visited : tie.Need-mul-is-visited
+mul-is-visited c = search needs
+
 sub-is-visited : tie.Need-sub-is-visited
 sub-is-visited c = search needs
 
@@ -33,6 +36,7 @@ is-marked-spec =
     tie.close
     (tie.spec
     wide-requires
+    mul-is-visited
     sub-is-visited
     part-is-visited-start
     part-is-visited-end
