@@ -5,44 +5,16 @@ use mathlib.Core.Path.{_≡_, refl, sym, ap, _∙_}
 use mathlib.Core.List.{List, [], _∷_, _++_, map}
 use native.Mathlib.Omega.{arith}
 use native.Mathlib.Decide.{decLt}
-use lib.ListN.{length, getD, set, take, drop, length-set, length-append, length-drop, length-map, List·getD-append}
-use lib.Seq.{paste, length-paste, length-paste-head, length-take-le, getD-set-same, getD-set-other, ext-getD, getD-take, getD-drop, getD-append-add}
+use lib.ListN.{length, getD, set, drop, length-set, length-append, length-drop, length-map, List·getD-append}
+use lib.Seq.{paste, getD-set-same, getD-set-other, ext-getD, getD-drop, getD-append-add}
 use Rattle.words.specs.Words.{at, part}
 use Rattle.words.proofs.Words.{part-length, part-at, map-append}
-use Rattle.words.proofs.Copies.{paste-other}
+use Rattle.words.proofs.Copies.{Copied, copied, copied-away}
 use Rattle.serializer.specs.Cache.{move-parents, no-parents}
 use Rattle.layout.specs.Layout.{MOVED, USED, COUNTS, PARENTS, SEEN, ENTRIES}
 use Rattle.layout.specs.Rows.{parent-of, parents-of, Sound}
 use Rattle.cache_entries.specs.Contracts.{moved-of, MovedLinks, Taken, Placed}
 use Rattle.cache_entries.proofs.Single.{RowOnly, row-used, row-sound, row-rows, row-keys, row-counts, row-high}
-
--- The n words from `from` on now also stand from `to` on.
-pub record Copied (w w′ : List ℕ) (from to n : ℕ) : Type 0 where
-  pub len : length w′ ≡ length w
-  pub here : (i : ℕ) → i < n → at w′ (to + i) ≡ at w (from + i)
-  pub other : (k : ℕ) → ((j : ℕ) → j < n → k ≡ to + j → ⊥) → at w′ k ≡ at w k
-
-module _ (w : List ℕ) (from to n : ℕ) (f : from + n ≤ length w) (t : to + n ≤ length w) where
-  source : n ≤ length (drop from w)
-  source = simp length-drop (omega arith)
-
-  paste-here : (i : ℕ) → i < n → at (paste w to (drop from w) n) (to + i) ≡ at w (from + i)
-  paste-here i h =
-      let a : length (take to w) ≡ to = length-take-le to w (omega arith) in
-      List·getD-append (take to w ++ take n (drop from w)) (drop (to + n) w) 0 (to + i) (omega (arith, length-paste-head w to (drop from w) n (omega arith) source))
-      ∙ ap (λ (x : ℕ). getD (take to w ++ take n (drop from w)) (x + i) 0) (sym a) ∙ getD-append-add (take to w) (take n (drop from w)) i 0
-      ∙ getD-take n (drop from w) i 0 h ∙ getD-drop from w i 0
-
-  paste-away : (k : ℕ) → ((j : ℕ) → j < n → k ≡ to + j → ⊥) → at (paste w to (drop from w) n) k ≡ at w k
-  paste-away k q = paste-other w to (drop from w) n k (omega arith) source (λ a. go a (decLt k (to + n)))
-    where
-      go : to ≤ k → Dec (k < to + n) → to + n ≤ k
-      go a (yes b) = absurd (q (k - to) (omega arith) (omega arith))
-      go a (no b) = omega arith
-
-  pub copied : (w′ : List ℕ) → w′ ≡ paste w to (drop from w) n → Copied w w′ from to n
-  copied w′ e =
-      rw e (record { len = length-paste w to (drop from w) n t source; here = paste-here; other = paste-away })
 
 -- Two parts with the same words.
 part-copied : (w w′ : List ℕ) (a b n : ℕ) → a + n ≤ length w′ → b + n ≤ length w → ((i : ℕ) → i < n → at w′ (a + i) ≡ at w (b + i)) → part w′ a n ≡ part w b n
@@ -70,7 +42,7 @@ module _ (w w₁ : List ℕ) (e n : ℕ) (s : Sound w) (h : e < at w USED) (hn :
 
   apart : (k : ℕ) → (k ≡ COUNTS + e → ⊥) → ((j : ℕ) → j < n → k ≡ MOVED + j → ⊥) → at w₂ k ≡ at w k
   unfolding w₂
-  apart k a b = getD-set-other w₁ (COUNTS + e) k 0 0 a ∙ m .other k b
+  apart k a b = getD-set-other w₁ (COUNTS + e) k 0 0 a ∙ copied-away w w₁ (PARENTS + e * 100) MOVED n m k b
 
   moved-word : (i : ℕ) → i < n → at w₂ (MOVED + i) ≡ at w (PARENTS + e * 100 + i)
   unfolding w₂
@@ -142,7 +114,7 @@ module _ (w w₁ w₂ : List ℕ) (e n m d : ℕ) (s : Sound w) (h : e < at w US
   unfolding w₃
   away k p z =
       getD-set-other w₂ (COUNTS + e) k (n - d + m) 0 p
-      ∙ b .other k (λ j l q. z (n - d + j) (omega arith) (omega arith)) ∙ a .other k (λ j l q. z j (omega arith) (omega arith))
+      ∙ copied-away w₁ w₂ MOVED (PARENTS + e * 100 + (n - d)) m b k (λ j l q. z (n - d + j) (omega arith) (omega arith)) ∙ copied-away w w₁ (PARENTS + e * 100 + d) (PARENTS + e * 100) (n - d) a k (λ j l q. z j (omega arith) (omega arith))
 
   in-row : (i : ℕ) → at w₃ (PARENTS + e * 100 + i) ≡ at w₂ (PARENTS + e * 100 + i)
   unfolding w₃
@@ -156,12 +128,12 @@ module _ (w w₁ w₂ : List ℕ) (e n m d : ℕ) (s : Sound w) (h : e < at w US
   front : (i : ℕ) → i < n - d → at w₃ (PARENTS + e * 100 + i) ≡ at w (PARENTS + e * 100 + (d + i))
   front i l =
       let q : PARENTS + e * 100 + d + i ≡ PARENTS + e * 100 + (d + i) = omega arith in
-      in-row i ∙ b .other (PARENTS + e * 100 + i) (omega arith) ∙ a .here i l ∙ ap (at w) q
+      in-row i ∙ copied-away w₁ w₂ MOVED (PARENTS + e * 100 + (n - d)) m b (PARENTS + e * 100 + i) (omega arith) ∙ a .here i l ∙ ap (at w) q
 
   back : (i : ℕ) → n - d ≤ i → i < n - d + m → at w₃ (PARENTS + e * 100 + i) ≡ at w (MOVED + (i - (n - d)))
   back i l k =
       let q : PARENTS + e * 100 + i ≡ PARENTS + e * 100 + (n - d) + (i - (n - d)) = omega arith in
-      in-row i ∙ ap (at w₂) q ∙ b .here (i - (n - d)) (omega arith) ∙ a .other (MOVED + (i - (n - d))) (omega arith)
+      in-row i ∙ ap (at w₂) q ∙ b .here (i - (n - d)) (omega arith) ∙ copied-away w w₁ (PARENTS + e * 100 + d) (PARENTS + e * 100) (n - d) a (MOVED + (i - (n - d))) (omega arith)
 
   links : (i : ℕ) → i < n - d + m → Dec (i < n - d) → at w₃ (PARENTS + e * 100 + i) < 2 * at w USED
   links i l (yes q) = let u = s .used in rw (front i q) (s .links e (d + i) (omega arith) (omega arith))

@@ -1,36 +1,14 @@
--- Laws of the copies of undo: what a copy leaves, and what the copies of a save and of a restore leave together.
+-- Laws of the copies of undo: what the copies of a save and of a restore leave together.
 -- Assumes nothing.
-use mathlib.Core.Path.{_≡_, sym, ap, _∙_}
-use mathlib.Core.List.{List, _++_}
+use mathlib.Core.Path.{_≡_, _∙_}
+use mathlib.Core.List.{List}
 use Prim.Native.Nat.{ℕ, _+_, _≤_, _<_}
 use native.Mathlib.Omega.{arith}
-use lib.ListN.{length, getD, take, drop, length-drop, List·getD-append}
-use lib.Seq.{paste, length-paste-head, getD-take, getD-drop, getD-append-add, length-take-le}
 use Rattle.words.specs.Words.{at}
-use Rattle.words.proofs.Copies.{paste-other}
+use Rattle.words.proofs.Copies.{Copied}
 use Rattle.layout.specs.Layout.{OPEN, STACK, WRITTEN, MOVED, COPIES, ENTRIES, DEPTH}
 use Rattle.undo.specs.Contracts.{PoppedAll, PushedAll, copied-open, copied-stack, copied-marks, Saved, Restored}
 use Rattle.stack.proofs.Stacks.{stacked-same}
-
--- The n words from `from` on stand from `to` on, and nothing else is touched.
-pub record Copied (w w′ : List ℕ) (from to n : ℕ) : Type 0 where
-  pub here : (i : ℕ) → i < n → at w′ (to + i) ≡ at w (from + i)
-  pub other : (j : ℕ) → (to ≤ j → to + n ≤ j) → at w′ j ≡ at w j
-
-module _ (w : List ℕ) (from to n : ℕ) (f : from + n ≤ length w) (t : to + n ≤ length w) where
-  enough : n ≤ length (drop from w)
-  enough = simp length-drop (omega arith)
-
-  copied-here : (i : ℕ) → i < n → at (paste w to (drop from w) n) (to + i) ≡ at w (from + i)
-  copied-here i l =
-      List·getD-append (take to w ++ take n (drop from w)) (drop (to + n) w) 0 (to + i)
-      (omega (arith, length-paste-head w to (drop from w) n (omega arith) enough))
-      ∙ ap (λ (k : ℕ). getD (take to w ++ take n (drop from w)) (k + i) 0) (sym (length-take-le to w (omega arith)))
-      ∙ getD-append-add (take to w) (take n (drop from w)) i 0 ∙ getD-take n (drop from w) i 0 l ∙ getD-drop from w i 0
-
-  pub copied : (w′ : List ℕ) → w′ ≡ paste w to (drop from w) n → Copied w w′ from to n
-  copied w′ e =
-      rw e (record { here = copied-here; other = λ j o. paste-other w to (drop from w) n j (omega arith) enough o })
 
 -- The three copies of a save.
 pub saved : (w u v w′ : List ℕ) (k opens d : ℕ) → opens ≤ 4096 → d ≤ DEPTH

@@ -11,8 +11,9 @@ use native.Mathlib.Decide.{decLt}
 use lib.Dec.{eqb}
 use borrow.Author.Tests.{eq-eqb, ne-eqb}
 use lib.ListN.{length, getD, take, drop, set, length-take, length-drop, List·getD-append}
-use lib.Seq.{paste, paste-suc, length-paste-head, getD-take, getD-drop, drop-cons, drop-length, getD-append-add}
+use lib.Seq.{paste, paste-suc, length-paste, length-paste-head, length-take-le, getD-take, getD-drop, drop-cons, drop-length, getD-append-add}
 use Rattle.words.specs.Lists.{same}
+use Rattle.words.specs.Words.{at}
 
 -- a turn of a copy
 pub paste-more : (d : List ℕ) (p : ℕ) (s : List ℕ) (i : ℕ) → p + i < length d → i < length s
@@ -49,6 +50,40 @@ within-more d from to count i h k apart l =
     low : to ≤ from + i → Dec (from < to) → to + i ≤ from + i
     low q (yes m) = absurd (omega (arith, apart m))
     low q (no m) = omega arith
+
+-- The n words from `from` on stand from `to` on, and nothing else is touched.
+pub record Copied (w w′ : List ℕ) (from to n : ℕ) : Type 0 where
+  pub len : length w′ ≡ length w
+  pub here : (i : ℕ) → i < n → at w′ (to + i) ≡ at w (from + i)
+  pub other : (k : ℕ) → (to ≤ k → to + n ≤ k) → at w′ k ≡ at w k
+
+module _ (w : List ℕ) (from to n : ℕ) (f : from + n ≤ length w) (t : to + n ≤ length w) where
+  enough : n ≤ length (drop from w)
+  enough = simp length-drop (omega arith)
+
+  copied-here : (i : ℕ) → i < n → at (paste w to (drop from w) n) (to + i) ≡ at w (from + i)
+  copied-here i l =
+      List·getD-append (take to w ++ take n (drop from w)) (drop (to + n) w) 0 (to + i)
+      (omega (arith, length-paste-head w to (drop from w) n (omega arith) enough))
+      ∙ ap (λ (k : ℕ). getD (take to w ++ take n (drop from w)) (k + i) 0) (sym (length-take-le to w (omega arith)))
+      ∙ getD-append-add (take to w) (take n (drop from w)) i 0 ∙ getD-take n (drop from w) i 0 l ∙ getD-drop from w i 0
+
+  pub copied : (w′ : List ℕ) → w′ ≡ paste w to (drop from w) n → Copied w w′ from to n
+  copied w′ e =
+      rw e
+      (record {
+        len = length-paste w to (drop from w) n t enough;
+        here = copied-here;
+        other = λ k o. paste-other w to (drop from w) n k (omega arith) enough o;
+      })
+
+-- A word at none of the places that were written.
+pub copied-away : (w w′ : List ℕ) (from to n : ℕ) → Copied w w′ from to n → (k : ℕ) → ((j : ℕ) → j < n → k ≡ to + j → ⊥) → at w′ k ≡ at w k
+copied-away w w′ from to n c k q = c .other k (λ a. go a (decLt k (to + n)))
+  where
+    go : to ≤ k → Dec (k < to + n) → to + n ≤ k
+    go a (yes b) = absurd (q (k - to) (omega arith) (omega arith))
+    go a (no b) = omega arith
 
 -- ---- comparison
 

@@ -4,7 +4,8 @@ use native.Mathlib.Omega.{arith}
 use borrow.Author.Needs.{needs}
 use Rattle.layout.specs.Layout.{OPEN, WRITTEN}
 use Rattle.undo.specs.Contracts.{copied-open, copied-marks}
-use Rattle.undo.proofs.Copied.{copied, restored, entries-still}
+use Rattle.words.proofs.Copies.{copied}
+use Rattle.undo.proofs.Copied.{restored, entries-still}
 use Rattle.undo.proofs.restore.Statement.{statement}
 use Rattle.undo.proofs.restore.Tie as tie
 

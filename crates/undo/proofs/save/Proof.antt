@@ -4,7 +4,8 @@ use native.Mathlib.Omega.{arith}
 use borrow.Author.Needs.{needs}
 use Rattle.layout.specs.Layout.{OPEN, STACK, WRITTEN}
 use Rattle.undo.specs.Contracts.{copied-open, copied-stack, copied-marks}
-use Rattle.undo.proofs.Copied.{copied, saved}
+use Rattle.words.proofs.Copies.{copied}
+use Rattle.undo.proofs.Copied.{saved}
 use Rattle.undo.proofs.save.Statement.{statement}
 use Rattle.undo.proofs.save.Tie as tie
 
