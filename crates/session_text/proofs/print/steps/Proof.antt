@@ -1,9 +1,9 @@
--- `session::print::steps` is safe and ends. The measure is the number of words left to print.
+-- `session_text::print::steps` is safe and ends. The measure is the number of words left to print.
 -- Assumes nothing.
 use Prim.Native.Nat.{_-_, _≤_}
 use borrow.Author.Needs.{needs}
-use Rattle.session.proofs.print.steps.Statement.{statement}
-use Rattle.session.proofs.print.steps.Tie as tie
+use Rattle.session_text.proofs.print.steps.Statement.{statement}
+use Rattle.session_text.proofs.print.steps.Tie as tie
 
 abbrev Inv-loop : tie.InvT-loop
 Inv-loop words count n i₀ i = i ≤ n

@@ -1,8 +1,8 @@
--- `session::items::items` is safe and ends. The measure is the count of bytes left.
+-- `session_text::items::items` is safe and ends. The measure is the count of bytes left.
 -- Assumes nothing.
 use borrow.Author.Needs.{needs}
-use Rattle.session.proofs.items.items.Statement.{statement}
-use Rattle.session.proofs.items.items.Tie as tie
+use Rattle.session_text.proofs.items.items.Statement.{statement}
+use Rattle.session_text.proofs.items.items.Tie as tie
 
 abbrev Inv-loop : tie.InvT-loop
 Inv-loop output position₀ left₀ position left = Unit {0}

@@ -1,9 +1,9 @@
--- `session::items::output` is safe and ends.
+-- `session_text::items::output` is safe and ends.
 -- Assumes nothing.
 use borrow.Author.Needs.{needs}
 use Rattle.text.proofs.Counted.{counted}
-use Rattle.session.proofs.items.output.Statement.{statement}
-use Rattle.session.proofs.items.output.Tie as tie
+use Rattle.session_text.proofs.items.output.Statement.{statement}
+use Rattle.session_text.proofs.items.output.Tie as tie
 
 least-requires : tie.Need-least-requires
 least-requires c κs = search needs
