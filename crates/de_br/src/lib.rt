@@ -25,7 +25,7 @@ fn read_in(
     match read_items::read_all(input, work, pairs, atoms, bytes) {
         Outcome::Accepted(r) => {
             let a = read_answer::answer(work, r);
-            words::clear(work);
+            slices::clear(work);
             a
         }
         Outcome::Refused(n) => {

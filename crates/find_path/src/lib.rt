@@ -53,7 +53,7 @@ fn clear_seen(work: &mut [u32])
     requires { ⌜ 524288 ≤ length (now work) ⌝ }
     ensures { λ _. ⌜ Cleared (now (work .entry)) (now (work .exit)) ⌝ }
 {
-    words::clear(&mut work[SEEN..PREVS]);
+    slices::clear(&mut work[SEEN..PREVS]);
 }
 
 // One path, with no bits, at entry e, position 1.

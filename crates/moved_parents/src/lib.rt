@@ -14,7 +14,7 @@ pub fn take_parents(work: &mut [u32], e: EntryIndex) -> usize
 {
     let n = cache_entries::count_of(work, e);
     let i = words::wide(e.0);
-    words::copy_within(work, layout::PARENTS + i * 100, layout::MOVED, n);
+    slices::copy_within(work, layout::PARENTS + i * 100, layout::MOVED, n);
     work[layout::COUNTS + i] = 0;
     n
 }
@@ -36,7 +36,7 @@ pub fn place_parents(work: &mut [u32], e: EntryIndex, moved: usize)
     let kept = n - dropped;
     let i = words::wide(e.0);
     let row = layout::PARENTS + i * 100;
-    words::copy_within(work, row + dropped, row, kept);
-    words::copy_within(work, layout::MOVED, row + kept, moved);
+    slices::copy_within(work, row + dropped, row, kept);
+    slices::copy_within(work, layout::MOVED, row + kept, moved);
     work[layout::COUNTS + i] = (kept + moved) as u32;
 }

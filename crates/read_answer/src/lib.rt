@@ -47,16 +47,16 @@ pub fn long_enough(work: &[u32], pairs: &[u32], atoms: &[u32], bytes: &[u8]) -> 
 pub fn clear_store(pairs: &mut [u32], atoms: &mut [u32], bytes: &mut [u8])
     ensures { λ _. ⌜ (now (pairs .exit) ≡ zeroed (now (pairs .entry))) × (now (atoms .exit) ≡ zeroed (now (atoms .entry))) × (now (bytes .exit) ≡ zeroed (now (bytes .entry))) ⌝ }
 {
-    words::clear(pairs);
-    words::clear(atoms);
-    words::clear_bytes(bytes);
+    slices::clear(pairs);
+    slices::clear(atoms);
+    slices::clear_bytes(bytes);
 }
 
 // A refused reading leaves nothing.
 pub fn clear_all(work: &mut [u32], pairs: &mut [u32], atoms: &mut [u32], bytes: &mut [u8])
     ensures { λ _. ⌜ (now (work .exit) ≡ zeroed (now (work .entry))) × (now (pairs .exit) ≡ zeroed (now (pairs .entry))) × (now (atoms .exit) ≡ zeroed (now (atoms .entry))) × (now (bytes .exit) ≡ zeroed (now (bytes .entry))) ⌝ }
 {
-    words::clear(work);
+    slices::clear(work);
     clear_store(pairs, atoms, bytes);
 }
 

@@ -23,9 +23,9 @@ fn clear_rest(work: &mut [u32], words: &mut [u32], output: &mut [u8], refused: b
     }
     let steps = p.steps;
     let size = p.size;
-    words::clear(work);
-    words::clear(&mut words[steps..]);
-    words::clear_bytes(&mut output[size..]);
+    slices::clear(work);
+    slices::clear(&mut words[steps..]);
+    slices::clear_bytes(&mut output[size..]);
 }
 
 // The answer, after what is left is cleared.

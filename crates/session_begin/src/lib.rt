@@ -21,7 +21,7 @@ fn clear_tables(work: &mut [u32])
     requires { ⌜ 524288 ≤ length (now work) ⌝ }
     ensures { λ _. ⌜ TablesClear (now (work .exit)) ⌝ }
 {
-    words::clear(&mut work[..layout::PARENTS]);
+    slices::clear(&mut work[..layout::PARENTS]);
 }
 
 // The places of the atoms and the handles of the pairs go to work; the words after them are zero, up to the rows of parents.

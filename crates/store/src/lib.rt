@@ -32,7 +32,7 @@ fn new_listed(atoms: &mut [u32], bytes: &mut [u8], used: usize, size: usize, blo
     ensures { λ r. ⌜ ListedAppended (now (atoms .entry)) (now (bytes .entry)) used size (now (blob .entry)) (now (atoms .exit)) (now (bytes .exit)) (r .node .0) (r .atoms) (r .bytes) ⌝ }
 {
     let end = size + blob.len();
-    words::copy_bytes(blob, bytes, size);
+    slices::copy_bytes(blob, bytes, size);
     atoms[2 * used] = size as u32;
     atoms[2 * used + 1] = end as u32;
     NewAtom {

@@ -26,9 +26,9 @@ pub fn save(work: &mut [u32], k: usize, opens: usize, depth: usize)
     ensures { λ _. ⌜ Saved (now (work .entry)) (now (work .exit)) k opens depth ⌝ }
 {
     let to = COPIES + k * COPY;
-    words::copy_within(work, OPEN, to, opens);
-    words::copy_within(work, STACK, to + COPIED_STACK, depth);
-    words::copy_within(work, WRITTEN, to + COPIED_MARKS, MARKS);
+    slices::copy_within(work, OPEN, to, opens);
+    slices::copy_within(work, STACK, to + COPIED_STACK, depth);
+    slices::copy_within(work, WRITTEN, to + COPIED_MARKS, MARKS);
 }
 
 // All `depth` entries go.
@@ -64,6 +64,6 @@ pub fn restore(work: &mut [u32], k: usize, opens: usize, present: usize, depth: 
     let from = COPIES + k * COPY;
     pop_all(work, present);
     push_all(work, from + COPIED_STACK, depth);
-    words::copy_within(work, from, OPEN, opens);
-    words::copy_within(work, from + COPIED_MARKS, WRITTEN, MARKS);
+    slices::copy_within(work, from, OPEN, opens);
+    slices::copy_within(work, from + COPIED_MARKS, WRITTEN, MARKS);
 }

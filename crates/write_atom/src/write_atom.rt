@@ -27,6 +27,6 @@ pub fn write_atom(output: &mut [u8], position: usize, atom: &[u8]) -> WriteAtom
         return WriteAtom::Full;
     }
     prefix::write_prefix(output, position, width, atom.len() as u64);
-    words::copy_bytes(atom, output, position + width);
+    slices::copy_bytes(atom, output, position + width);
     WriteAtom::Next(position + total)
 }

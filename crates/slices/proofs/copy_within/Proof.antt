@@ -1,4 +1,4 @@
--- `words::copy_within` meets its contract. The invariant: the first `moved` words are copied; those still to come are as they were.
+-- `slices::copy_within` meets its contract. The invariant: the first `moved` words are copied; those still to come are as they were.
 -- Assumes nothing.
 use mathlib.Core.Path.{_≡_, refl, _∙_, ap}
 use mathlib.Core.List.{List}
@@ -7,9 +7,9 @@ use native.Mathlib.Omega.{arith}
 use lib.ListN.{length, set, getD, drop, length-set}
 use lib.Seq.{paste, paste-zero}
 use borrow.Author.Needs.{needs}
 use Rattle.words.proofs.Copies.{within-more}
-use Rattle.words.proofs.copy_within.Statement.{statement}
-use Rattle.words.proofs.copy_within.Tie as tie
+use Rattle.slices.proofs.copy_within.Statement.{statement}
+use Rattle.slices.proofs.copy_within.Tie as tie
 
 abbrev Inv-loop : tie.InvT-loop
 Inv-loop words₀ from to count moved₀ words moved = (moved ≤ count) × (length words ≡ length words₀) × (words ≡ paste words₀ to (drop from words₀) moved)

@@ -1,4 +1,4 @@
--- `words::copy_bytes` meets its contract. The invariant: the first `copied` bytes of `from` stand in `to`.
+-- `slices::copy_bytes` meets its contract. The invariant: the first `copied` bytes of `from` stand in `to`.
 -- Assumes nothing.
 use mathlib.Core.Path.{_≡_, refl, _∙_, ap}
 use mathlib.Core.List.{List}
@@ -6,9 +6,9 @@ use Prim.Native.Nat.{ℕ, _≤_, _-_, _+_}
 use native.Mathlib.Omega.{arith}
 use lib.ListN.{length, set, getD, length-set}
 use lib.Seq.{paste, paste-zero}
 use Rattle.words.proofs.Copies.{paste-more}
-use Rattle.words.proofs.copy_bytes.Statement.{statement}
-use Rattle.words.proofs.copy_bytes.Tie as tie
+use Rattle.slices.proofs.copy_bytes.Statement.{statement}
+use Rattle.slices.proofs.copy_bytes.Tie as tie
 
 abbrev Inv-loop : tie.InvT-loop
 Inv-loop from to₀ position copied₀ to copied = (copied ≤ length from) × (length to ≡ length to₀) × (to ≡ paste to₀ position from copied)
