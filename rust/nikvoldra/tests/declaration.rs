@@ -360,11 +360,11 @@ fn numbers() {
 /// The programs say the same words on standard error.
 #[test]
 fn words_of_the_programs() {
-    for (program, numbers) in [
-        ("session", (1..=13).collect::<Vec<u32>>()),
+    for (printing, numbers) in [
+        ("session_text", (1..=13).collect::<Vec<u32>>()),
         ("read", vec![1, 2, 14, 15, 16]),
     ] {
-        let source = text(&format!("crates/{program}/src/print.rt"));
+        let source = text(&format!("crates/{printing}/src/print.rt"));
         // an arm may be on one line or on three
         let source = source.replace("say( b", "say(b").replace("\", )", "\")");
         let said = between(&source, "match number {", "_ =>").trim();
@@ -372,6 +372,6 @@ fn words_of_the_programs() {
             let refusal = Refusal::from_number(number).unwrap();
             format!("{number} => say(b\"{refusal}\\n\"),")
         });
-        assert_eq!(said, expected.collect::<Vec<_>>().join(" "), "{program}");
+        assert_eq!(said, expected.collect::<Vec<_>>().join(" "), "{printing}");
     }
 }
