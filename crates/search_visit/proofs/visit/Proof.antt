@@ -1,12 +1,12 @@
--- `search_step::visit` meets its contract: the path goes to the first unseen parent, or is dropped where there is none.
+-- `search_visit::visit` meets its contract: the path goes to the first unseen parent, or is dropped where there is none.
 -- Assumes nothing.
 use native.Mathlib.Omega.{arith}
 use mathlib.Core.Path.{_∙_}
 use Rattle.search_list.proofs.Upward.{low-links}
 use Rattle.search_list.proofs.TurnLaws.{few, entry-low, visit-asks, visit-asks-2, visit-up, visit-off}
 use borrow.Author.Needs.{needs}
-use Rattle.search_step.proofs.visit.Statement.{statement}
-use Rattle.search_step.proofs.visit.Tie as tie
+use Rattle.search_visit.proofs.visit.Statement.{statement}
+use Rattle.search_visit.proofs.visit.Tie as tie
 
 add-next : tie.Need-add-next
 add-next c = search needs

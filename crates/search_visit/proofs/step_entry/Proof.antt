@@ -1,4 +1,4 @@
--- `search_step::step_entry` meets its contract: a path at a seen entry is dropped, visit 1,025 ends the search, any other is a visit.
+-- `search_visit::step_entry` meets its contract: a path at a seen entry is dropped, visit 1,025 ends the search, any other is a visit.
 -- Assumes nothing.
 use native.Mathlib.Omega.{arith}
 use mathlib.Core.Path.{_≡_, ap, sym, subst, _∙_}
@@ -7,8 +7,8 @@ use Rattle.search_list.specs.Steps.{PathsOK}
 use Rattle.search_list.specs.State.{seen-at}
 use Rattle.search_list.proofs.TurnLaws.{few, entry-low, entry-seen, entry-capped}
 use borrow.Author.Needs.{needs}
-use Rattle.search_step.proofs.step_entry.Statement.{statement}
-use Rattle.search_step.proofs.step_entry.Tie as tie
+use Rattle.search_visit.proofs.step_entry.Statement.{statement}
+use Rattle.search_visit.proofs.step_entry.Tie as tie
 
 place-of-requires : tie.Need-place-of-requires
 place-of-requires c κs = search needs
