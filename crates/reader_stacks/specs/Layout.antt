@@ -1,12 +1,11 @@
 -- The reader's stacks in work: what the words stand for, and what each function leaves.
-use Prim.Native.Nat.{ℕ, zero, suc, _+_, _-_, _*_, _≤_}
+use Prim.Native.Nat.{ℕ, zero, suc, _+_, _*_, _≤_}
 use mathlib.Core.Path.{_≡_}
 use mathlib.Core.List.{List, [], _∷_}
 use mathlib.Core.Option.{Option, none, some}
-use lib.ListN.{take, drop}
 use Rattle.words.specs.Words.{at}
 use Rattle.reading.specs.Format.{ParseOp, SExp, Cons}
-use Rattle.reading.specs.Store.{Store, Value, join-values}
+use Rattle.reading.specs.Store.{Value}
 
 abbrev pub OPS : ℕ
 OPS = 0
@@ -46,10 +45,3 @@ pub record PushedValue (w w′ : List ℕ) (n node : ℕ) : Type 0 where
 pub record PushedPair (w w′ : List ℕ) (n : ℕ) : Type 0 where
   pub ops : opsOf w′ (n + 2) ≡ SExp ∷ Cons ∷ opsOf w n
   pub values : (m : ℕ) → valuesOf w′ m ≡ valuesOf w m
-
--- The two topmost values are joined as `join-values` says, in any store whose pairs are those in use; the rest is as it was.
-pub record Joined (w p : List ℕ) (values used : ℕ) (w′ p′ : List ℕ) : Type 0 where
-  pub values-are : (s : Store) → s .pairs ≡ take (2 * used) p → valuesOf w′ (values - 1) ≡ join-values (valuesOf w values) s .values
-  pub pairs-are : (s : Store) → s .pairs ≡ take (2 * used) p → take (2 * (used + 1)) p′ ≡ join-values (valuesOf w values) s .store .pairs
-  pub pairs-rest : drop (2 * (used + 1)) p′ ≡ drop (2 * (used + 1)) p
-  pub ops : (m : ℕ) → m ≤ VALUES → opsOf w′ m ≡ opsOf w m

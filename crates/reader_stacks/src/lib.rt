@@ -1,8 +1,8 @@
 // The reader's two stacks in work.
 use allocator::NodePtr;
-ghost use Prim.Native.Nat.{_+_, _*_, _^_, _≤_, _<_};
+ghost use Prim.Native.Nat.{_+_, _≤_, _<_};
 ghost use lib.ListN.{length};
-ghost use Rattle.reader_stacks.specs.Layout.{PushedValue, PushedPair, Joined};
+ghost use Rattle.reader_stacks.specs.Layout.{PushedValue, PushedPair};
 
 // The operations that are left to do are words from OPS on, 0 to read a tree and 1 to join two; the last one is done first.
 pub const OPS: usize = 0;
@@ -26,15 +26,4 @@ pub fn push_pair(work: &mut [u32], used: usize)
 {
     work[OPS + used] = 1;
     work[OPS + used + 1] = 0;
-}
-
-// The two topmost of `values` values become the pair of the second and the first, after the `used` pairs that are there.
-pub fn join(work: &mut [u32], pairs: &mut [u32], values: usize, used: usize)
-    requires { ⌜ (524288 ≤ length (now work)) × (2 ≤ values) × (values ≤ 131072) × (2 * used + 2 ≤ length (now pairs)) × (used < 2 ^ 26) ⌝ }
-    ensures { λ _. ⌜ Joined (now (work .entry)) (now (pairs .entry)) values used (now (work .exit)) (now (pairs .exit)) ⌝ }
-{
-    let right = NodePtr(work[VALUES + 2 * (values - 1)]);
-    let left = NodePtr(work[VALUES + 2 * (values - 2)]);
-    let node = store::new_pair(pairs, used, left, right);
-    push_value(work, values - 2, node);
 }

@@ -10,8 +10,9 @@ use Rattle.words.specs.Words.{at}
 use Rattle.reading.specs.Format.{ParseOp, SExp, Cons, settle}
 use Rattle.reading.specs.Store.{Store, Value, Stored, join-values, store-values}
 use Rattle.reading.specs.Sound.{Sound, unlisted, conses, sound-join, sound-two}
-use Rattle.reader_stacks.specs.Layout.{OPS, opOf, opsOf, valueAt, valuesOf, Joined}
+use Rattle.reader_stacks.specs.Layout.{OPS, opOf, opsOf, valueAt, valuesOf}
 use Rattle.reader_stacks.proofs.Stacks.{ops-more, values-two, length-values, drop-values}
+use Rattle.join_values.specs.Joined.{Joined}
 use Rattle.store.proofs.Stored.{half}
 use Rattle.stack_list.specs.Lists.{HaveLists}
 use Rattle.stack_list.proofs.Adding.{fewer-listed}

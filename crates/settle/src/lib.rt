@@ -35,7 +35,7 @@ fn join_top(work: &mut [u32], pairs: &mut [u32], r: Reader) -> Reader
     let values = r.values;
     let used = r.pairs;
     let listed = stack_list::listed_among(r.listed, values - 2);
-    reader_stacks::join(work, pairs, values, used);
+    join_values::join(work, pairs, values, used);
     Reader {
         position: r.position,
         ops: r.ops - 1,

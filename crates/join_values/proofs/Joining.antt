@@ -10,8 +10,9 @@ use lib.Seq.{paste}
 use Rattle.allocator.specs.Handle.{handle-of, pair}
 use Rattle.reading.specs.Store.{Store, Stored, Value, new-pair, push-made, join-values}
 use Rattle.store.proofs.Stored.{take-two, drop-two, half}
-use Rattle.reader_stacks.specs.Layout.{valueAt, valuesOf, PushedValue, Joined}
+use Rattle.reader_stacks.specs.Layout.{valueAt, valuesOf, PushedValue}
 use Rattle.reader_stacks.proofs.Stacks.{values-two}
+use Rattle.join_values.specs.Joined.{Joined}
 
 -- what `join-values` makes of two values or more
 pub joins : (w : List ℕ) (n : ℕ) → 2 ≤ n → (s : Store)

@@ -1,10 +1,10 @@
--- `reader_stacks::join` meets its contract: `new_pair` appends the pair of the second and the first value, and `push_value` puts it over the second.
+-- `join_values::join` meets its contract: `new_pair` appends the pair of the second and the first value, and `push_value` puts it over the second.
 -- Assumes nothing.
 use native.Mathlib.Omega.{arith}
 use borrow.Author.Needs.{needs}
-use Rattle.reader_stacks.proofs.Joining.{joined}
-use Rattle.reader_stacks.proofs.join.Statement.{statement}
-use Rattle.reader_stacks.proofs.join.Tie as tie
+use Rattle.join_values.proofs.Joining.{joined}
+use Rattle.join_values.proofs.join.Statement.{statement}
+use Rattle.join_values.proofs.join.Tie as tie
 
 sub-t8 : tie.Need-sub-t8
 sub-t8 c = search needs
