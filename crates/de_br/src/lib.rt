@@ -21,7 +21,7 @@ fn read_in(
     requires { ⌜ (long-enough (slices (now work) (now pairs) (now atoms) (now bytes)) ≡ true) × (length (now input) ≤ 65535) ⌝ }
     ensures { λ r. ⌜ resultOf r (now (work .exit)) (now (pairs .exit)) (now (atoms .exit)) (now (bytes .exit)) ≡ after (read-stored (now (input .entry))) (slices (now (work .entry)) (now (pairs .entry)) (now (atoms .entry)) (now (bytes .entry))) ⌝ }
 {
-    read_answer::clear_store(pairs, atoms, bytes);
+    clear_slices::clear_store(pairs, atoms, bytes);
     match read_items::read_all(input, work, pairs, atoms, bytes) {
         Outcome::Accepted(r) => {
             let a = read_answer::answer(work, r);
@@ -29,7 +29,7 @@ fn read_in(
             a
         }
         Outcome::Refused(n) => {
-            read_answer::clear_all(work, pairs, atoms, bytes);
+            clear_slices::clear_all(work, pairs, atoms, bytes);
             read_answer::refusal(n)
         }
     }

@@ -1,7 +1,7 @@
-// The reading call's answer, its question 1, and what it clears.
+// The reading call's answer, and its question 1.
 use settle::Reader;
 ghost use mathlib.Core.Path.{_≡_};
-ghost use Rattle.reading.specs.Call.{refusal as call-refusal, zeroed, long-enough};
+ghost use Rattle.reading.specs.Call.{refusal as call-refusal, long-enough};
 ghost use Rattle.read_answer.specs.Answer.{slices, answerOf, Counts, answerAt};
 
 // The number, 0 for none; the root, and how many pairs, listed atoms, atom bytes and ghost pairs there are.
@@ -41,23 +41,6 @@ pub fn long_enough(work: &[u32], pairs: &[u32], atoms: &[u32], bytes: &[u8]) -> 
         return false;
     }
     65536 <= bytes.len()
-}
-
-// The store is empty.
-pub fn clear_store(pairs: &mut [u32], atoms: &mut [u32], bytes: &mut [u8])
-    ensures { λ _. ⌜ (now (pairs .exit) ≡ zeroed (now (pairs .entry))) × (now (atoms .exit) ≡ zeroed (now (atoms .entry))) × (now (bytes .exit) ≡ zeroed (now (bytes .entry))) ⌝ }
-{
-    slices::clear(pairs);
-    slices::clear(atoms);
-    slices::clear_bytes(bytes);
-}
-
-// A refused reading leaves nothing.
-pub fn clear_all(work: &mut [u32], pairs: &mut [u32], atoms: &mut [u32], bytes: &mut [u8])
-    ensures { λ _. ⌜ (now (work .exit) ≡ zeroed (now (work .entry))) × (now (pairs .exit) ≡ zeroed (now (pairs .entry))) × (now (atoms .exit) ≡ zeroed (now (atoms .entry))) × (now (bytes .exit) ≡ zeroed (now (bytes .entry))) ⌝ }
-{
-    slices::clear(work);
-    clear_store(pairs, atoms, bytes);
 }
 
 // What was read: the one value's node, and the counts.
