@@ -17,10 +17,11 @@ use Rattle.search.specs.PathBits.{Ends, search-ends}
 use Rattle.path.specs.Bytes.{value, octets, path-bytes}
 use Rattle.path.specs.BytesLaws.{length-path-bytes}
 use Rattle.path.specs.Measure.{counted, counted-bytes}
-use Rattle.find_path.specs.declared.Way.the-variants.{By, Nothing}
+use Rattle.search_passes.specs.declared.Way.the-variants.{By, Nothing}
 use Rattle.find_path.specs.declared.Path.the-variants.{At, NoPath}
 use Rattle.search_list.specs.State.{parents-of-all, path-at}
-use Rattle.find_path.specs.Answers.{Finds, counted-of, FoundPath}
+use Rattle.search_passes.specs.Finds.{Finds}
+use Rattle.find_path.specs.Answers.{counted-of, FoundPath}
 use Rattle.layout.specs.Rows.{stack-of}
 
 -- ---- what is counted

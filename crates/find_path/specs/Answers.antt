@@ -1,4 +1,4 @@
--- What the crate's functions answer: the search, and the path that is used.
+-- What the crate's functions answer: the path that is used.
 -- Assumes nothing.
 use mathlib.Core.Path.{_≡_}
 use mathlib.Core.Bool.{Bool}
@@ -9,31 +9,10 @@ use lib.Dec.{eqb}
 use Rattle.path.specs.Measure.{counted, counted-bytes}
 use Rattle.search.specs.Search.{search, used}
 use Rattle.layout.specs.Rows.{stack-of}
-use Rattle.find_path.specs.declared.Way.{Way}
-use Rattle.find_path.specs.declared.Way.the-variants.{By, Nothing}
 use Rattle.find_path.specs.declared.Path.{Path}
 use Rattle.find_path.specs.declared.Path.the-variants.{At, NoPath}
 use Rattle.search_list.specs.State.{parents-of-all, path-at, Readable}
 use Rattle.search_list.specs.Steps.{Kept}
-
--- ---- the search
-
-abbrev pub way-of : List ℕ → Way → Option (List Bool)
-way-of w (By i) = some (path-at w i)
-way-of w Nothing = none
-
--- A path that was found can be read.
-abbrev pub Usable : List ℕ → Way → Type 0
-Usable w (By i) = Readable w i
-Usable w Nothing = Unit {0}
-
--- What the search of entry e gives, of length len and from a stack of d entries.
-pub record Finds (w w′ : List ℕ) (d len e : ℕ) (r : Way) : Type 0 where
-  pub answer : search (parents-of-all w) (stack-of w d) len e ≡ way-of w′ r
-  pub usable : Usable w′ r
-  pub kept : Kept w w′
-
--- ---- the path that is used
 
 -- What `serialized_length` counts for a path of n bits, the first of which is set.
 abbrev pub counted-of : ℕ → ℕ

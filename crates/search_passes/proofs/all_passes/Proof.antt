@@ -1,12 +1,12 @@
--- `find_path::all_passes` meets its contract: the passes that are left give what all passes give.
+-- `search_passes::all_passes` meets its contract: the passes that are left give what all passes give.
 -- Assumes nothing.
-use Rattle.find_path.proofs.PassLaws.{Searching, search-start, search-more, search-found, search-over, search-empty, search-end}
+use Rattle.search_passes.proofs.PassLaws.{Searching, search-start, search-more, search-found, search-over, search-empty, search-end}
 use borrow.Author.Needs.{needs}
 use Prim.Native.Nat.{_-_, _+_}
 use mathlib.Core.Path.{_∙_}
 use native.Mathlib.Omega.{arith}
-use Rattle.find_path.proofs.all_passes.Statement.{statement}
-use Rattle.find_path.proofs.all_passes.Tie as tie
+use Rattle.search_passes.proofs.all_passes.Statement.{statement}
+use Rattle.search_passes.proofs.all_passes.Tie as tie
 
 abbrev Inv-loop : tie.InvT-loop
 Inv-loop work₀ e len d limit l₀ n₀ m₀ work l n m = Searching work₀ work d e limit l n m

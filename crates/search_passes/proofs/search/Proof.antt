@@ -1,11 +1,11 @@
--- `find_path::search` meets its contract: what the cache ensures is what the passes need.
+-- `search_passes::search` meets its contract: what the cache ensures is what the passes need.
 -- Assumes nothing.
 use native.Mathlib.Omega.{arith}
 use Rattle.layout.specs.Layout.{ENTRIES}
 use Rattle.search_list.proofs.Premises.{sound-links, unseen-all}
 use borrow.Author.Needs.{needs}
-use Rattle.find_path.proofs.search.Statement.{statement}
-use Rattle.find_path.proofs.search.Tie as tie
+use Rattle.search_passes.proofs.search.Statement.{statement}
+use Rattle.search_passes.proofs.search.Tie as tie
 
 all-passes-requires : tie.Need-all-passes-requires
 all-passes-requires c κs =

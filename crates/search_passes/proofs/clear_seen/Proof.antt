@@ -1,11 +1,11 @@
--- `find_path::clear_seen` meets its contract: the words of the bit set come back zero.
+-- `search_passes::clear_seen` meets its contract: the words of the bit set come back zero.
 -- Assumes nothing.
 use mathlib.Core.Path.{_∙_}
 use Rattle.words.specs.Words.{part}
 use Rattle.search_list.proofs.Marks.{seen-length, cleared}
 use borrow.Author.Needs.{needs}
-use Rattle.find_path.proofs.clear_seen.Statement.{statement}
-use Rattle.find_path.proofs.clear_seen.Tie as tie
+use Rattle.search_passes.proofs.clear_seen.Statement.{statement}
+use Rattle.search_passes.proofs.clear_seen.Tie as tie
 
 sub-clear : tie.Need-sub-clear
 sub-clear c = search needs

@@ -1,12 +1,12 @@
--- `find_path::pass` meets its contract: the pass from each slot on is the whole pass.
+-- `search_passes::pass` meets its contract: the pass from each slot on is the whole pass.
 -- Assumes nothing.
 use borrow.Author.Needs.{needs}
-use Rattle.find_path.proofs.PassLaws.{Walking, walking-start, walking-more, walking-result, walking-capped, walking-end}
+use Rattle.search_passes.proofs.PassLaws.{Walking, walking-start, walking-more, walking-result, walking-capped, walking-end}
 use Rattle.search_list.specs.Cursor.{ahead}
 use Rattle.search_list.specs.State.{trails-of}
 use mathlib.Core.Path.{_∙_}
-use Rattle.find_path.proofs.pass.Statement.{statement}
-use Rattle.find_path.proofs.pass.Tie as tie
+use Rattle.search_passes.proofs.pass.Statement.{statement}
+use Rattle.search_passes.proofs.pass.Tie as tie
 
 abbrev Inv-loop : tie.InvT-loop
 Inv-loop work₀ l count nodes d c₀ n₀ m₀ work c n m = Walking work₀ work d l count nodes c n m

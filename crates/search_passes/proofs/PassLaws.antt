@@ -20,15 +20,16 @@ use Rattle.words.specs.Words.{at, tabulate}
 use Rattle.search_list.specs.Cursor.{goes, Mid}
 use Rattle.search_list.proofs.CursorLaws.{at-end, all-longer}
 use Rattle.search_list.specs.declared.Turned.the-variants.{On, Result, Capped}
-use Rattle.find_path.specs.declared.Passing.the-variants.{Ended, Over, Next}
-use Rattle.find_path.specs.declared.Way.{Way}
-use Rattle.find_path.specs.declared.Way.the-variants.{By, Nothing}
+use Rattle.search_passes.specs.declared.Passing.the-variants.{Ended, Over, Next}
+use Rattle.search_passes.specs.declared.Way.{Way}
+use Rattle.search_passes.specs.declared.Way.the-variants.{By, Nothing}
 use Rattle.layout.specs.Layout.{SEEN, LENS, COUNTS, ENTRIES}
 use Rattle.path.specs.Bytes.{odd}
 use Rattle.search_list.specs.State.{seen-at, chain, node-bits, trail-of, trails-of, parents-of-all, seen-of, count-at}
 use Rattle.search_list.specs.Steps.{unseen, Links, Working, Kept, Stored, Turns, Cleared}
-use Rattle.find_path.specs.Passes.{Passes, Started, Limit}
-use Rattle.find_path.specs.Answers.{Finds}
+use Rattle.search_limit.specs.Limit.{Limit}
+use Rattle.search_passes.specs.Passes.{Passes, Started}
+use Rattle.search_passes.specs.Finds.{Finds}
 use Rattle.layout.specs.Rows.{stack-of, Tops}
 use Rattle.search_list.proofs.Trails.{length-trails}
 use Rattle.search_list.proofs.Upward.{low-links, low-parents}

@@ -1,16 +1,16 @@
--- What a pass and the start of a search leave, and the last pass.
+-- What a pass and the start of a search leave.
 -- Assumes nothing.
 use mathlib.Core.Path.{_≡_}
 use mathlib.Core.Bool.{true}
 use mathlib.Core.List.{List, [], _∷_}
-use Prim.Native.Nat.{ℕ, _+_, _*_, _-_, _≤_, _<_}
+use Prim.Native.Nat.{ℕ, _+_}
 use Rattle.search.specs.Search.{atEntry, Passed, found, gone, left}
 use Rattle.layout.specs.Rows.{stack-of}
 use Rattle.search_list.specs.State.{parents-of-all, seen-of, path-at, trails-of, Readable}
 use Rattle.search_list.specs.Cursor.{goes, Mid}
 use Rattle.search_list.specs.Steps.{Kept, Nodes, PathsOK, Working}
-use Rattle.find_path.specs.declared.Passing.{Passing}
-use Rattle.find_path.specs.declared.Passing.the-variants.{Ended, Over, Next}
+use Rattle.search_passes.specs.declared.Passing.{Passing}
+use Rattle.search_passes.specs.declared.Passing.the-variants.{Ended, Over, Next}
 
 -- ---- a pass
 
@@ -39,9 +39,3 @@ pub record Started (w w′ : List ℕ) (e : ℕ) : Type 0 where
   pub paths : PathsOK w′ 0 1
   pub trails : trails-of w′ 1 ≡ atEntry [] e true ∷ []
   pub kept : Kept w w′
-
--- The last pass: no path has more than 8,192 bits.
-pub record Limit (len r : ℕ) : Type 0 where
-  pub most : r ≤ 8192
-  pub exact : 8 * (len - 1) ≤ 8192 → r ≡ 8 * (len - 1)
-  pub beyond : 8192 < 8 * (len - 1) → r ≡ 8192

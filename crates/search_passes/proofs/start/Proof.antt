@@ -1,12 +1,12 @@
--- `find_path::start` meets its contract: no node, no entry seen, and one path.
+-- `search_passes::start` meets its contract: no node, no entry seen, and one path.
 -- Assumes nothing.
-use Rattle.find_path.proofs.PassLaws.{started}
+use Rattle.search_passes.proofs.PassLaws.{started}
 use lib.ListN.{length-set}
 use mathlib.Core.Path.{_∙_}
 use native.Mathlib.Omega.{arith}
 use borrow.Author.Needs.{needs}
-use Rattle.find_path.proofs.start.Statement.{statement}
-use Rattle.find_path.proofs.start.Tie as tie
+use Rattle.search_passes.proofs.start.Statement.{statement}
+use Rattle.search_passes.proofs.start.Tie as tie
 
 clear-seen-requires : tie.Need-clear-seen-requires
 clear-seen-requires c κs = search needs
