@@ -1,4 +1,4 @@
--- `cache_update::enter` meets its contract. The measure: one more than the number of the pair, or 0 for an atom.
+-- `enter_tree::enter` meets its contract. The measure: one more than the number of the pair, or 0 for an atom.
 -- Assumes nothing.
 use Prim.Native.Nat.{ℕ, _<_}
 use mathlib.Core.Path.{sym, _∙_}
@@ -13,9 +13,9 @@ use Rattle.allocator.proofs.NodePtr.index.Reads as index-reads
 use Rattle.allocator.proofs.NodePtr.is_atom.Reads as is-atom-reads
 use Rattle.tree_cache.specs.Contracts.{span}
 use Rattle.tree_cache.proofs.Entering.{pair-low, sentinel-entered, atom-entered, span-a, span-b, span-h, left-asks, right-asks, join-asks, pair-entered, test-same, test-other, test-pair, known-at, room-one}
-use Rattle.cache_update.proofs.enter.Reads as enter
-use Rattle.cache_update.proofs.enter.Kinds as enter-kinds
-use Rattle.cache_update.proofs.+enter.Lts-enter as enter-lts
+use Rattle.enter_tree.proofs.enter.Reads as enter
+use Rattle.enter_tree.proofs.enter.Kinds as enter-kinds
+use Rattle.enter_tree.proofs.+enter.Lts-enter as enter-lts
 use Rattle.make_entry.proofs.enter_atom.Reads as enter-atom-reads
 use Rattle.tree_cache.proofs.is_sentinel.Reads as is-sentinel-reads
 use Rattle.make_entry.proofs.join.Reads as join-reads
@@ -24,8 +24,8 @@ use Rattle.tree_cache.proofs.map_of.Reads as map-of-reads
 use Rattle.make_entry.proofs.meet_sentinel.Reads as meet-sentinel-reads
 use Rattle.tree_cache.proofs.right_of.Reads as right-of-reads
 use Rattle.words.proofs.wide.Reads as wide-reads
-use Rattle.cache_update.proofs.+enter.{statement}
-use Rattle.cache_update.proofs.+enter.Tie.{close}
+use Rattle.enter_tree.proofs.+enter.{statement}
+use Rattle.enter_tree.proofs.+enter.Tie.{close}
 
 abbrev μ-enter : Measures 1 enter-kinds.ps ℕ
 μ-enter κs a = span (node-of (a .1 .0 .0))

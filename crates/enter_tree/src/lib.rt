@@ -1,0 +1,31 @@
+// update of tree_cache.rs, over the entries in work: the trees of the file entered.
+use allocator::NodePtr;
+use layout::EntryIndex;
+use words::wide;
+ghost use Rattle.words.specs.Words.{at};
+ghost use Rattle.layout.specs.Layout.{PAIR-COUNT};
+ghost use Rattle.tree_cache.specs.Meaning.{Names, Whole};
+ghost use Rattle.tree_cache.specs.Contracts.{Entered, Room};
+
+// The entry of the tree of handle h, made where it is missing: children first, left before right.
+pub fn enter(work: &mut [u32], h: NodePtr) -> EntryIndex
+    requires { ⌜ (Whole (now work)) × (Names (now work) (at (now work) PAIR-COUNT) (h .0)) × (Room (now work) (h .0)) ⌝ }
+    ensures { λ x. ⌜ Entered (now (work .entry)) (now (work .exit)) (h .0) (x .0) ⌝ }
+{
+    if tree_cache::is_sentinel(work, h) {
+        return make_entry::meet_sentinel(work);
+    }
+    if h.is_atom() {
+        return make_entry::enter_atom(work, h);
+    }
+    let i = wide(h.index());
+    let k = tree_cache::map_of(work, i);
+    if k != 0 {
+        return EntryIndex(k - 1);
+    }
+    let a = tree_cache::left_of(work, i);
+    let b = tree_cache::right_of(work, i);
+    let l = enter(work, a);
+    let r = enter(work, b);
+    make_entry::join(work, i, l, r)
+}
