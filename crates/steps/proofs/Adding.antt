@@ -35,8 +35,8 @@ use Rattle.tree_cache.specs.Contracts.{Updated}
 use Rattle.incremental.specs.State.{AtomPlaces, AtomsThere, todo-of, Running, Writes}
 use Rattle.incremental.specs.Contracts.{place-of, Fine, goes-on, comes-to, Leads, ended}
 use Rattle.incremental.proofs.Frames.{todo-same, rights-same, pairs-few}
-use Rattle.incremental.specs.declared.Outcome.{Outcome}
-use Rattle.incremental.specs.declared.Outcome.the-variants as outcome
+use Rattle.writer_place.specs.declared.Outcome.{Outcome}
+use Rattle.writer_place.specs.declared.Outcome.the-variants as outcome
 use Rattle.progress.specs.declared.Progress.{Progress}
 use Rattle.step_records.specs.Stored.{bit, record-of}
 use Rattle.progress.specs.Moves.{noted-at, after-outcome}

@@ -18,8 +18,8 @@ use Rattle.session_file.specs.declared.NextStep.the-variants as next-step
 use Rattle.serializer.specs.Steps.{Run, stop-at, run-steps}
 use Rattle.incremental.specs.State.{todo-of}
 use Rattle.incremental.specs.Contracts.{Fine, ended as ended-at}
-use Rattle.incremental.specs.declared.Outcome.{Outcome}
-use Rattle.incremental.specs.declared.Outcome.the-variants as outcome
+use Rattle.writer_place.specs.declared.Outcome.{Outcome}
+use Rattle.writer_place.specs.declared.Outcome.the-variants as outcome
 use Rattle.progress.specs.declared.Progress.{Progress}
 use Rattle.progress.specs.declared.StepAnswer.{StepAnswer}
 use Rattle.step_records.specs.Stored.{bit, record-of}

@@ -20,8 +20,8 @@ use Rattle.tree_cache.specs.Contracts.{Updated}
 use Rattle.incremental.specs.State.{AtomPlaces, Running}
 use Rattle.incremental.specs.Contracts.{Turns, ended}
 use Rattle.incremental.specs.declared.Next.the-variants as next
-use Rattle.incremental.specs.declared.Place.{Place}
-use Rattle.incremental.specs.declared.Outcome.{Outcome}
+use Rattle.writer_place.specs.declared.Place.{Place}
+use Rattle.writer_place.specs.declared.Outcome.{Outcome}
 use Rattle.progress.specs.declared.Progress.{Progress}
 use Rattle.progress.specs.declared.StepAnswer.{StepAnswer}
 use Rattle.step_records.specs.Stored.{bit, with-entry}

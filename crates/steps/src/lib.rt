@@ -1,10 +1,10 @@
 // incremental.rs and the session file: the steps of a session.
 use allocator::NodePtr;
 use checkpoints::Checkpoint;
-use incremental::Place;
 use progress::Progress;
 use progress::StepAnswer;
 use session_file::NextStep;
+use writer_place::Place;
 ghost use mathlib.Core.Path.{_≡_};
 ghost use mathlib.Core.List.{List};
 ghost use Prim.Native.Nat.{_<_};
