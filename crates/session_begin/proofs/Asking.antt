@@ -12,7 +12,7 @@ use Rattle.session_file.specs.File.{Got, File, refused, version-1, file}
 use Rattle.session_file.specs.Checked.{Passed, Checks}
 use Rattle.session_file.specs.CheckedLaws.{Accepted, accepted, rejected}
 use Rattle.session_file.specs.declared.Checked.{Checked}
-use Rattle.steps.specs.State.{contents-of, the-file}
+use Rattle.session_state.specs.State.{contents-of, the-file}
 use Rattle.session_begin.specs.declared.Begun.{Begun}
 use Rattle.session_begin.specs.Opened.{Opened, start-at}
 use Rattle.session_begin.specs.Begins.{are-long, asked, refused-with, Starts, Begins}

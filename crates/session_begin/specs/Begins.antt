@@ -8,7 +8,7 @@ use lib.ListN.{length}
 use Rattle.session_file.specs.File.{File, Got, got, refused, version-1, file}
 use Rattle.checkpoints.specs.declared.Checkpoint.{Checkpoint}
 use Rattle.progress.specs.declared.Progress.{Progress}
-use Rattle.steps.specs.State.{the-file, Underway}
+use Rattle.session_state.specs.State.{the-file, Underway}
 use Rattle.session_begin.specs.declared.Begun.{Begun}
 
 -- Question 1, of the lengths of work, words and checkpoint records.

@@ -6,7 +6,7 @@ ghost use Prim.Native.Nat.{_≤_};
 ghost use lib.ListN.{length};
 ghost use Rattle.words.specs.Lists.{Bytes};
 ghost use Rattle.session_file.specs.Checked.{Passed};
-ghost use Rattle.steps.specs.State.{the-file};
+ghost use Rattle.session_state.specs.State.{the-file};
 ghost use Rattle.session_begin.specs.Opened.{TablesClear, Placed, Opened, start-at};
 ghost use Rattle.session_begin.specs.Begins.{are-long, asked, refused-with, Begins};
 

@@ -18,7 +18,7 @@ use Rattle.serializer.specs.Demand3.{demand-3}
 use Rattle.serializer.specs.Call.{Slices, Result, untouched, after-run, after-file, session}
 use Rattle.checkpoints.specs.declared.Checkpoint.{Checkpoint}
 use Rattle.checkpoints.specs.Records.{blank}
-use Rattle.steps.specs.State.{contents-of, the-file, whole-run, Ended}
+use Rattle.session_state.specs.State.{contents-of, the-file, whole-run, Ended}
 use Rattle.progress.specs.declared.Progress.{Progress}
 use Rattle.run_steps.specs.Driven.{Going, Driven}
 use Rattle.session_begin.specs.declared.Begun.{Begun}
