@@ -1,7 +1,7 @@
 // incremental.rs: after a value, the right side of the innermost open pair, or that pair closed.
 use incremental::Next;
-use incremental::Place;
 use words::wide;
+use writer_place::Place;
 ghost use mathlib.Core.Path.{_≡_};
 ghost use mathlib.Core.List.{List};
 ghost use Prim.Native.Nat.{ℕ, _+_, _-_, _≤_, _<_};

@@ -21,7 +21,7 @@ use Rattle.stack.specs.Contracts.{PoppedTwo}
 use Rattle.stack.proofs.Marks.{marked-same}
 use Rattle.tree_cache.specs.Meaning.{Tables, Names, Holds, Whole}
 use Rattle.tree_cache.proofs.Entering.{names-grow}
-use Rattle.incremental.specs.declared.Place.{Place}
+use Rattle.writer_place.specs.declared.Place.{Place}
 use Rattle.incremental.specs.declared.Next.the-variants.{Parse, Close, Done}
 use Rattle.incremental.specs.State.{left-to-write, todo-of, rights-left, Standing, Writes, WriterOnly}
 use Rattle.incremental.specs.Contracts.{Runs, goes-on, Turns, Falls, Closes}

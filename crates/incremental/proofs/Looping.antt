@@ -8,7 +8,7 @@ use Rattle.words.specs.Words.{at}
 use Rattle.allocator.specs.declared.NodePtr.{NodePtr}
 use Rattle.layout.specs.Layout.{PAIR-COUNT}
 use Rattle.tree_cache.specs.Meaning.{Names, Whole}
-use Rattle.incremental.specs.declared.Place.{Place}
+use Rattle.writer_place.specs.declared.Place.{Place}
 use Rattle.incremental.specs.declared.Next.{Next}
 use Rattle.incremental.specs.declared.Next.the-variants.{Parse}
 use Rattle.incremental.specs.State.{AtomPlaces}

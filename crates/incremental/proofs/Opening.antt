@@ -31,7 +31,7 @@ use Rattle.write_item.specs.declared.Put.the-variants as item
 use Rattle.write_item.specs.Answers.{written}
 use Rattle.tree_cache.specs.Meaning.{Tables, Names}
 use Rattle.tree_cache.proofs.Entering.{names-grow, pair-low, is-node}
-use Rattle.incremental.specs.declared.Place.{Place}
+use Rattle.writer_place.specs.declared.Place.{Place}
 use Rattle.incremental.specs.declared.Next.{Next}
 use Rattle.incremental.specs.declared.Next.the-variants.{Parse, Refused}
 use Rattle.incremental.specs.State.{todo-of, Standing, Writes}

@@ -27,7 +27,7 @@ use Rattle.tree_cache.specs.Meaning.{Tables, Names, Whole, Holds}
 use Rattle.tree_cache.proofs.Entering.{sentinel-is}
 use Rattle.node_entry.specs.Contracts.{EntryOf}
 use Rattle.find_in.specs.Contracts.{FindsIn}
-use Rattle.incremental.specs.declared.Place.{Place}
+use Rattle.writer_place.specs.declared.Place.{Place}
 use Rattle.incremental.specs.declared.Next.{Next}
 use Rattle.incremental.specs.declared.Next.the-variants.{Parse, Stopped}
 use Rattle.incremental.specs.State.{AtomPlaces, AtomsThere, todo-of, Writes, WriterOnly}

@@ -37,7 +37,7 @@ use Rattle.write_item.specs.Answers.{written}
 use Rattle.tree_cache.specs.Meaning.{bytes-named, Tables, Holds}
 use Rattle.tree_cache.proofs.Entering.{names-pair, is-leaf, is-node}
 use Rattle.find_in.specs.Contracts.{LengthOf, steps-of}
-use Rattle.incremental.specs.declared.Place.{Place}
+use Rattle.writer_place.specs.declared.Place.{Place}
 use Rattle.incremental.specs.declared.Next.{Next}
 use Rattle.incremental.specs.declared.Next.the-variants.{Parse, Close, Refused}
 use Rattle.incremental.specs.State.{AtomsThere, todo-of, Writes}

@@ -25,11 +25,11 @@ use Rattle.write_item.specs.Answers.{written}
 use Rattle.tree_cache.specs.Meaning.{bytes-named, Tables, Names}
 use Rattle.node_entry.specs.Contracts.{PairEntry, EntryOf}
 use Rattle.find_in.specs.Contracts.{LengthOf, FindsIn}
-use Rattle.incremental.specs.declared.Place.{Place}
+use Rattle.writer_place.specs.declared.Place.{Place}
 use Rattle.incremental.specs.declared.Next.{Next}
 use Rattle.incremental.specs.declared.Next.the-variants.{Parse, Close, Done, Stopped, Refused}
-use Rattle.incremental.specs.declared.Outcome.{Outcome}
-use Rattle.incremental.specs.declared.Outcome.the-variants as outcome
+use Rattle.writer_place.specs.declared.Outcome.{Outcome}
+use Rattle.writer_place.specs.declared.Outcome.the-variants as outcome
 use Rattle.incremental.specs.State.{AtomsThere, todo-of, Running, Writes, WriterOnly}
 
 -- ---- what comes next

@@ -3,6 +3,7 @@ use allocator::NodePtr;
 use layout::EntryIndex;
 use words::wide;
 use write_item::Put;
+use writer_place::Place;
 ghost use mathlib.Core.Path.{_≡_};
 ghost use mathlib.Core.Bool.{true};
 ghost use mathlib.Core.List.{List};
@@ -22,26 +23,12 @@ ghost use Rattle.incremental.specs.declared.Next.the-variants.{Parse};
 ghost use Rattle.incremental.specs.State.{AtomPlaces, bytes-at};
 ghost use Rattle.incremental.specs.Contracts.{Turns, Falls, Found, AtomPut, Pushes};
 
-// How many pairs are open, how many entries stand on the stack, and how many bytes are written.
-pub struct Place {
-    pub opens: usize,
-    pub depth: usize,
-    pub size: usize,
-}
-
 // What comes next in the loop.
 pub enum Next {
     // This node is written.
     Parse(Place, NodePtr),
     // A value was written: the pair that it completes is closed.
     Close(Place),
-    Done(Place),
-    Stopped(Place),
-    Refused(u32, Place),
-}
-
-// All is written; the loop stands at the open place; the question of this number got no.
-pub enum Outcome {
     Done(Place),
     Stopped(Place),
     Refused(u32, Place),

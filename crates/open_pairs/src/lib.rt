@@ -1,10 +1,10 @@
 // incremental.rs: a pair opened; its left side is next.
 use allocator::NodePtr;
 use incremental::Next;
-use incremental::Place;
 use layout::EntryIndex;
 use words::wide;
 use write_item::Put;
+use writer_place::Place;
 ghost use mathlib.Core.Path.{_≡_};
 ghost use mathlib.Core.Bool.{true};
 ghost use mathlib.Core.List.{List};

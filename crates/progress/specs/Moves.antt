@@ -2,9 +2,9 @@
 use Prim.Native.Nat.{ℕ, _+_}
 use mathlib.Core.Bool.{Bool, true, false}
 use Rattle.checkpoints.specs.declared.Checkpoint.{Checkpoint}
-use Rattle.incremental.specs.declared.Place.{Place}
-use Rattle.incremental.specs.declared.Outcome.{Outcome}
-use Rattle.incremental.specs.declared.Outcome.the-variants as outcome
+use Rattle.writer_place.specs.declared.Place.{Place}
+use Rattle.writer_place.specs.declared.Outcome.{Outcome}
+use Rattle.writer_place.specs.declared.Outcome.the-variants as outcome
 use Rattle.progress.specs.declared.Progress.{Progress}
 use Rattle.progress.specs.declared.StepAnswer.{StepAnswer}
 

@@ -1,8 +1,8 @@
 // Where a session stands between two steps, and how an add, a restore and a refusal move it.
 use checkpoints::Checkpoint;
-use incremental::Outcome;
-use incremental::Place;
 use words::wide;
+use writer_place::Outcome;
+use writer_place::Place;
 ghost use mathlib.Core.Path.{_≡_};
 ghost use Prim.Native.Nat.{_<_};
 ghost use Rattle.progress.specs.Moves.{refused-at, moved-to, after-outcome, undone-at, stopped-at};

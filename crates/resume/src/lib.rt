@@ -2,9 +2,9 @@
 use allocator::NodePtr;
 use find_path::Path;
 use incremental::Next;
-use incremental::Outcome;
-use incremental::Place;
 use layout::EntryIndex;
+use writer_place::Outcome;
+use writer_place::Place;
 ghost use Rattle.words.specs.Words.{at};
 ghost use lib.ListN.{length};
 ghost use Rattle.layout.specs.Layout.{PAIR-COUNT};

@@ -14,9 +14,9 @@ use Rattle.session_file.specs.Places.{StepsAt}
 use Rattle.progress.specs.declared.Progress.{Progress}
 use Rattle.progress.specs.declared.StepAnswer.{StepAnswer}
 use Rattle.step_records.specs.Stored.{bit}
-use Rattle.steps.specs.State.{the-file, Underway, Stands, slot-for}
-use Rattle.steps.specs.Steps.{Ready, Onward}
-use Rattle.steps.proofs.Answers.{stands-on, under, ended}
+use Rattle.session_state.specs.State.{the-file, Underway, Stands, slot-for}
+use Rattle.session_state.specs.Steps.{Ready, Onward}
+use Rattle.session_state.proofs.Answers.{stands-on, under, ended}
 use Rattle.run_steps.specs.Driven.{Going, Driven}
 
 -- What the slices hold, and where the run stands.

@@ -6,7 +6,7 @@ use mathlib.Core.List.{List}
 use lib.ListN.{take}
 use Rattle.checkpoints.specs.declared.Checkpoint.{Checkpoint}
 use Rattle.progress.specs.declared.Progress.{Progress}
-use Rattle.steps.specs.State.{the-file, Underway, Ended}
+use Rattle.session_state.specs.State.{the-file, Underway, Ended}
 
 -- A run that is not over is under way.
 abbrev pub Going : (input w words : List ℕ) (rows : List Checkpoint) (out : List ℕ) (p : Progress) → (done : Bool) → Type 0

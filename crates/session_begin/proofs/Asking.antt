@@ -1,36 +1,25 @@
 -- The start of the session call: questions 1 to 8 are those of the definition, and a file that passes can be run.
 -- Assumes nothing.
-use Prim.Native.Nat.{ℕ, _≤_, _<_}
+use Prim.Native.Nat.{ℕ, _≤_}
 use mathlib.Core.Path.{_≡_, refl, sym, ap, subst, _∙_}
 use mathlib.Core.Bool.{Bool, true, false, cond, _&&_}
 use mathlib.Core.List.{List}
 use native.Mathlib.Omega.{arith}
 use lib.Dec.{leb}
 use lib.ListN.{length}
-use borrow.Author.Tests.{leb-true, le-leb, lt-leb}
+use borrow.Author.Tests.{leb-true}
 use Rattle.session_file.specs.File.{Got, File, refused, version-1, file}
 use Rattle.session_file.specs.Checked.{Passed, Checks}
 use Rattle.session_file.specs.CheckedLaws.{Accepted, accepted, rejected}
 use Rattle.session_file.specs.declared.Checked.{Checked}
-use Rattle.steps.specs.State.{contents-of, the-file}
+use Rattle.session_state.specs.State.{contents-of, the-file}
+use Rattle.session_lengths.specs.Lengths.{are-long}
 use Rattle.session_begin.specs.declared.Begun.{Begun}
 use Rattle.session_begin.specs.Opened.{Opened, start-at}
-use Rattle.session_begin.specs.Begins.{are-long, asked, refused-with, Starts, Begins}
+use Rattle.session_begin.specs.Begins.{asked, refused-with, Starts, Begins}
 use Rattle.session_begin.proofs.Starting.{starts}
 
 -- ---- question 1
-
-both : (x y : Bool) → x ≡ true → x && y ≡ y
-both x y e = rw e refl
-
-pub enough : (w ws cs : ℕ) → 524288 ≤ w → 1024 ≤ ws → leb 16 cs ≡ are-long w ws cs
-enough w ws cs a b = sym (both (leb 524288 w) _ (le-leb 524288 w a) ∙ both (leb 1024 ws) _ (le-leb 1024 ws b))
-
-pub short-work : (w ws cs : ℕ) → w < 524288 → false ≡ are-long w ws cs
-short-work w ws cs a = rw (lt-leb 524288 w a) refl
-
-pub short-words : (w ws cs : ℕ) → 524288 ≤ w → ws < 1024 → false ≡ are-long w ws cs
-short-words w ws cs a b = rw (le-leb 524288 w a, lt-leb 1024 ws b) refl
 
 -- What question 1 was answered by.
 pub record Long (w ws cs : ℕ) : Type 0 where

@@ -25,7 +25,7 @@ use Rattle.tree_cache.specs.Meaning.{Handles}
 use Rattle.tree_cache.proofs.Fresh.{Sorted, tables-handles, fresh-whole, fresh-holds, fresh-room, fresh-counts}
 use Rattle.incremental.specs.State.{todo-of, rights-left}
 use Rattle.checkpoints.specs.declared.Checkpoint.{Checkpoint}
-use Rattle.steps.specs.State.{whole-run, At, Underway}
+use Rattle.session_state.specs.State.{whole-run, At, Underway}
 use Rattle.session_begin.specs.Opened.{Opened, start-at}
 
 -- Questions 5 and 7 were answered.

@@ -1,19 +1,15 @@
 -- Questions 1 to 8 of a session call, and what its run starts with.
 use Prim.Native.Nat.{ℕ, _≤_}
 use mathlib.Core.Path.{_≡_}
-use mathlib.Core.Bool.{Bool, true, false, cond, _&&_}
+use mathlib.Core.Bool.{true, false, cond}
 use mathlib.Core.List.{List}
-use lib.Dec.{leb}
 use lib.ListN.{length}
 use Rattle.session_file.specs.File.{File, Got, got, refused, version-1, file}
 use Rattle.checkpoints.specs.declared.Checkpoint.{Checkpoint}
 use Rattle.progress.specs.declared.Progress.{Progress}
-use Rattle.steps.specs.State.{the-file, Underway}
+use Rattle.session_state.specs.State.{the-file, Underway}
+use Rattle.session_lengths.specs.Lengths.{are-long}
 use Rattle.session_begin.specs.declared.Begun.{Begun}
-
--- Question 1, of the lengths of work, words and checkpoint records.
-abbrev pub are-long : (work words records : ℕ) → Bool
-are-long work words records = leb 524288 work && (leb 1024 words && leb 16 records)
 
 -- Questions 1 to 8, of the bytes and of these lengths: the contents of the file, or the question that gets no.
 abbrev pub asked : (input : List ℕ) (work words records : ℕ) → Got File

@@ -6,9 +6,9 @@ ghost use Prim.Native.Nat.{_≤_};
 ghost use lib.ListN.{length};
 ghost use Rattle.words.specs.Lists.{Bytes};
 ghost use Rattle.session_file.specs.Checked.{Passed};
-ghost use Rattle.steps.specs.State.{the-file};
+ghost use Rattle.session_state.specs.State.{the-file};
 ghost use Rattle.session_begin.specs.Opened.{TablesClear, Placed, Opened, start-at};
-ghost use Rattle.session_begin.specs.Begins.{are-long, asked, refused-with, Begins};
+ghost use Rattle.session_begin.specs.Begins.{asked, refused-with, Begins};
 
 // Where the run starts, and how many checkpoint records are to be cleared after it. With 1 to 8 the run is over before it starts, and no record is cleared.
 pub struct Begun {
@@ -55,19 +55,6 @@ fn open(file: &[u8], work: &mut [u32], checked: Checked)
     work[layout::SENTINEL] = checked.sentinel;
 }
 
-// Question 1, of the lengths of the slices: are they long enough?
-fn long_enough(work: usize, words: usize, records: usize) -> bool
-    ensures { λ r. ⌜ r ≡ are-long work words records ⌝ }
-{
-    if work < 524288 {
-        return false;
-    }
-    if words < 1024 {
-        return false;
-    }
-    16 <= records
-}
-
 // The call ends with this number.
 fn refused(number: u32) -> Begun
     ensures { λ r. ⌜ r ≡ record { start = refused-with number; records = 0 } ⌝ }
@@ -108,7 +95,7 @@ fn started(at: usize, records: usize) -> Begun
 pub fn begin(file: &[u8], work: &mut [u32], words: usize, records: usize) -> Begun
     ensures { λ b. ⌜ (Bytes (now (file .entry))) × (Begins (now (file .entry)) (now (work .entry)) words records (now (work .exit)) b (asked (now (file .entry)) (length (now (work .entry))) words records)) ⌝ }
 {
-    if !long_enough(work.len(), words, records) {
+    if !session_lengths::long_enough(work.len(), words, records) {
         return refused(1);
     }
     let checked = check_file::check(file);

@@ -18,11 +18,12 @@ use Rattle.serializer.specs.Demand3.{demand-3}
 use Rattle.serializer.specs.Call.{Slices, Result, untouched, after-run, after-file, session}
 use Rattle.checkpoints.specs.declared.Checkpoint.{Checkpoint}
 use Rattle.checkpoints.specs.Records.{blank}
-use Rattle.steps.specs.State.{contents-of, the-file, whole-run, Ended}
+use Rattle.session_state.specs.State.{contents-of, the-file, whole-run, Ended}
 use Rattle.progress.specs.declared.Progress.{Progress}
 use Rattle.run_steps.specs.Driven.{Going, Driven}
 use Rattle.session_begin.specs.declared.Begun.{Begun}
-use Rattle.session_begin.specs.Begins.{are-long, asked, refused-with, Begins}
+use Rattle.session_lengths.specs.Lengths.{are-long}
+use Rattle.session_begin.specs.Begins.{asked, refused-with, Begins}
 use Rattle.session_answer.specs.declared.SessionAnswer.{SessionAnswer}
 use Rattle.session_answer.specs.Answer.{answer-of, answer-at, Cleared}
 use Rattle.session_call.specs.Outcome.{slices, result-of, ReadsBack}

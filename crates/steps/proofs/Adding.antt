@@ -35,16 +35,16 @@ use Rattle.tree_cache.specs.Contracts.{Updated}
 use Rattle.incremental.specs.State.{AtomPlaces, AtomsThere, todo-of, Running, Writes}
 use Rattle.incremental.specs.Contracts.{place-of, Fine, goes-on, comes-to, Leads, ended}
 use Rattle.incremental.proofs.Frames.{todo-same, rights-same, pairs-few}
-use Rattle.incremental.specs.declared.Outcome.{Outcome}
-use Rattle.incremental.specs.declared.Outcome.the-variants as outcome
+use Rattle.writer_place.specs.declared.Outcome.{Outcome}
+use Rattle.writer_place.specs.declared.Outcome.the-variants as outcome
 use Rattle.progress.specs.declared.Progress.{Progress}
 use Rattle.step_records.specs.Stored.{bit, record-of}
 use Rattle.progress.specs.Moves.{noted-at, after-outcome}
-use Rattle.steps.specs.State.{whole-run, after-words, waits, At, Before, History, Stocked, Underway, Ended, slot-for}
-use Rattle.steps.specs.Steps.{Adding, Added}
-use Rattle.steps.proofs.Frames.{places-kept, atoms-kept, whole-kept, holds-kept, unmapped-kept, all-counts-kept}
-use Rattle.steps.proofs.Runs.{run-add, words-ended}
-use Rattle.steps.proofs.States.{at-kept, history-more, go-on}
+use Rattle.session_state.specs.State.{whole-run, after-words, waits, At, Before, History, Stocked, Underway, Ended, slot-for}
+use Rattle.steps.specs.Contracts.{Adding, Added}
+use Rattle.session_state.proofs.Frames.{places-kept, atoms-kept, whole-kept, holds-kept, unmapped-kept, all-counts-kept}
+use Rattle.session_state.proofs.Runs.{run-add, words-ended}
+use Rattle.session_state.proofs.States.{at-kept, history-more, go-on}
 
 -- ---- what an add takes
 

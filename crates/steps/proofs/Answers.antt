@@ -1,75 +1,39 @@
--- What a step's answer means: the run goes on, or it is over.
+-- What the answer of an add means, and that of the end: the run goes on, or it is over. What each call of an add asks.
 -- Assumes nothing.
 use Prim.Native.Nat.{ℕ, suc, _+_, _*_, _≤_, _<_}
 use mathlib.Core.Path.{_≡_, refl, sym, ap, subst, _∙_}
 use mathlib.Core.Bool.{Bool, true, false, cond}
-use mathlib.Core.List.{List, _∷_}
+use mathlib.Core.List.{List}
 use native.Mathlib.Omega.{arith}
 use lib.Dec.{ltb}
-use lib.ListN.{length, getD, set, take}
+use lib.ListN.{length, set}
 use borrow.Author.Tests.{ltb-true, ltb-false}
-use Rattle.words.specs.Words.{at}
-use Rattle.checkpoints.specs.Records.{blank}
 use Rattle.checkpoints.specs.declared.Checkpoint.{Checkpoint}
 use Rattle.path.specs.Measure.{counted}
 use Rattle.allocator.specs.declared.NodePtr.{NodePtr}
-use Rattle.session_file.specs.File.{File, Step, restore}
+use Rattle.session_file.specs.File.{File, Step}
 use Rattle.session_file.specs.declared.NextStep.the-variants as next-step
-use Rattle.serializer.specs.Steps.{Run, stop-at, run-steps}
+use Rattle.serializer.specs.Steps.{run-steps}
 use Rattle.incremental.specs.State.{todo-of}
 use Rattle.incremental.specs.Contracts.{Fine, ended as ended-at}
-use Rattle.incremental.specs.declared.Outcome.{Outcome}
-use Rattle.incremental.specs.declared.Outcome.the-variants as outcome
+use Rattle.writer_place.specs.declared.Outcome.{Outcome}
+use Rattle.writer_place.specs.declared.Outcome.the-variants as outcome
 use Rattle.progress.specs.declared.Progress.{Progress}
 use Rattle.progress.specs.declared.StepAnswer.{StepAnswer}
 use Rattle.step_records.specs.Stored.{bit, record-of}
-use Rattle.progress.specs.Moves.{refused-at, noted-at, after-outcome, undone-at, stopped-at}
+use Rattle.progress.specs.Moves.{noted-at, after-outcome, stopped-at}
 use Rattle.step_records.specs.Questions.{question-of}
-use Rattle.steps.specs.State.{after-words, waits, size-at, Underway, Ended, Stands, slot-for}
-use Rattle.steps.specs.Steps.{Comes, Adding, Added, Undoing, Undone, Ready, Onward}
-use Rattle.steps.proofs.Slots.{nth-none}
-use Rattle.steps.proofs.Runs.{run-ends, run-finished, run-full, run-beyond, words-ended}
+use Rattle.session_state.specs.State.{waits, Underway, Ended, slot-for}
+use Rattle.session_state.specs.Steps.{Comes, Ready, Onward}
+use Rattle.steps.specs.Contracts.{Adding, Added}
+use Rattle.session_state.proofs.Runs.{run-ends, run-finished, run-full}
 use Rattle.steps.proofs.Adding.{adding, added-on, added-off}
-use Rattle.steps.proofs.Restoring.{slot, undoing, restored-on}
-
-module _ (input : List ℕ) (f : File) (w words : List ℕ) (rows : List Checkpoint) (out : List ℕ) (t : Progress) where
-  pub stands-on : t .done ≡ false → Underway input f w words rows out t → Stands input f w words rows out t (t .done)
-  stands-on d u = subst (λ (b : Bool). Stands input f w words rows out t b) (sym d) u
-
-  pub stands-off : t .done ≡ true → Ended f words out t → Stands input f w words rows out t (t .done)
-  stands-off d u = subst (λ (b : Bool). Stands input f w words rows out t b) (sym d) u
-
-  pub under : t .done ≡ false → Stands input f w words rows out t (t .done) → Underway input f w words rows out t
-  under d s = subst (λ (b : Bool). Stands input f w words rows out t b) d s
-
-  pub ended : t .done ≡ true → Stands input f w words rows out t (t .done) → Ended f words out t
-  ended d s = subst (λ (b : Bool). Stands input f w words rows out t b) d s
+use Rattle.session_state.proofs.Answers.{stands-on, stands-off, stops}
 
 module _ (input : List ℕ) (f : File) (w words out : List ℕ) (p : Progress) (c : Checkpoint) where
-  -- The run is over at a step.
-  over : (rows : List Checkpoint) (u : Underway input f w words rows out p) (n : ℕ)
-      → run-steps counted (length out) f (u .left) (u .past) (u .session) ≡ stop-at n (u .session) → Ended f words out (refused-at p n)
-  over rows u n e =
-      record {
-        session = u .session;
-        size-is = u .present .writes .size-is;
-        bytes-are = u .present .writes .bytes-are;
-        short = u .present .running .short;
-        few-steps = omega (arith, u .few-steps);
-        many-words = u .many-words;
-        same = u .same ∙ ap (λ (r : Run). after-words (take (p .steps) words) r) e ∙ words-ended (take (p .steps) words) n (u .session);
-      }
-
-  -- The answer of a step that is refused, or of the end.
-  stops : (n : ℕ) (a : StepAnswer) → a ≡ stopped-at p n c
-      → ((rows : List Checkpoint) (u : Underway input f w words rows out p) → run-steps counted (length out) f (u .left) (u .past) (u .session) ≡ stop-at n (u .session))
-      → Onward input f w words out p c w words out a
-  stops n a is h =
-      subst (λ (x : StepAnswer). Onward input f w words out p c w words out x) (sym is) (λ rows u r. (over rows u n (h rows u), omega arith))
-
   pub stops-at-end : (a : StepAnswer) → a ≡ stopped-at p 0 c → Comes input (p .at) next-step.End → Onward input f w words out p c w words out a
   stops-at-end a is comes =
-      stops 0 a is (λ rows u.
+      stops input f w words out p c 0 a is (λ rows u.
       let e = comes (u .left) (u .steps-there) in
       ap (λ (ss : List Step). run-steps counted (length out) f ss (u .past) (u .session)) e ∙ run-ends (length out) f (u .past) (u .session))
 
@@ -77,7 +41,7 @@ module _ (input : List ℕ) (f : File) (w words out : List ℕ) (p : Progress) (
     -- Question 9.
     stops-9 : (a : StepAnswer) → a ≡ stopped-at p 9 c → p .finished ≡ true → Onward input f w words out p c w words out a
     stops-9 a is fin =
-        stops 9 a is (λ rows u.
+        stops input f w words out p c 9 a is (λ rows u.
         let e = comes (u .left) (u .steps-there) in
         ap (λ (ss : List Step). run-steps counted (length out) f ss (u .past) (u .session)) (e .1)
         ∙ run-finished (length out) f (u .past) (u .session) (node .0) (e .0)
@@ -86,7 +50,7 @@ module _ (input : List ℕ) (f : File) (w words out : List ℕ) (p : Progress) (
     -- Question 10.
     stops-10 : (a : StepAnswer) → a ≡ stopped-at p 10 c → p .finished ≡ false → 16 ≤ p .adds → Onward input f w words out p c w words out a
     stops-10 a is fin full =
-        stops 10 a is (λ rows u.
+        stops input f w words out p c 10 a is (λ rows u.
         let e = comes (u .left) (u .steps-there) in
         ap (λ (ss : List Step). run-steps counted (length out) f ss (u .past) (u .session)) (e .1)
         ∙ run-full (length out) f (u .past) (u .session) (node .0) (e .0) (todo-of f w (p .opens))
@@ -163,50 +127,3 @@ module _ (input : List ℕ) (f : File) (w words out : List ℕ) (p : Progress) (
                   (added-on input f w words rows out p node next (e .0) u (e .1) (e .2) fin few w′ out′ q ad words′ (a .state) d ws is)),
               omega arith,
             )
-
-  module _ (n next : ℕ) (comes : Comes input (p .at) (next-step.Restore n next)) where
-    -- Question 11.
-    pub stops-11 : (a : StepAnswer) → a ≡ stopped-at p 11 c → p .adds ≤ n → Onward input f w words out p c w words out a
-    stops-11 a is beyond =
-        stops 11 a is (λ rows u.
-        let e = comes (u .left) (u .steps-there) in
-        ap (λ (ss : List Step). run-steps counted (length out) f ss (u .past) (u .session)) (e .1)
-        ∙ run-beyond (length out) f (u .past) (u .session) n (e .0) (nth-none (u .past) n (omega (arith, u .history .long))))
-
-    module _ (few : n < p .adds) where
-      pub undo-asks : Ready input f w words out p c → Undoing w (p .depth) n c
-      undo-asks r =
-          let u = r .underway in
-          let e = comes (u .left) (u .steps-there) in
-          undoing input f w words (r .rows) out p n next (e .0) u (e .1) few c (r .record-is)
-
-      pub restore-note-asks : Ready input f w words out p c → (q : Progress) → q ≡ undone-at p c n
-          → (q .steps < length words) × (q .size ≤ 65535) × (q .steps < 1024)
-      restore-note-asks r q is =
-          let u = r .underway in
-          let e = comes (u .left) (u .steps-there) in
-          let l : length (u .left) ≡ suc (length (e .0)) = ap length (e .1) in
-          let s : q .steps ≡ p .steps = ap (λ (x : Progress). x .steps) is in
-          let z : q .size ≡ c .size = ap (λ (x : Progress). x .size) is in
-          let k : c .size ≤ 65535 = size-low (r .rows) u (r .record-is) (e .0) (e .1) in
-          (omega (arith, u .few-steps, u .many-words), omega arith, omega (arith, u .few-steps))
-        where
-          size-low : (rows : List Checkpoint) (u : Underway input f w words rows out p) → getD rows (slot-for (u .left) (p .adds)) blank ≡ c
-              → (rest : List Step) → u .left ≡ restore n ∷ rest → c .size ≤ 65535
-          size-low rows u r-is rest e =
-              let s = slot input f w words rows out p n next rest u e few c r-is in
-              let z : size-at rows n ≡ c .size = ap (λ (k : ℕ). size-at rows k) (sym s) ∙ ap (λ (x : Checkpoint). x .size) r-is in
-              omega (arith, u .history .sizes n few, u .present .running .fits, u .present .running .short)
-
-      pub restores-on : (w′ : List ℕ) → length w′ ≡ length w → Undone w w′ n c → (words′ : List ℕ) (q : Progress) (a : StepAnswer) → q ≡ undone-at p c n
-          → words′ ≡ set words (q .steps) (q .size * 2 + bit (q .finished)) → a .state ≡ noted-at q next → a .saved ≡ c
-          → Onward input f w words out p c w′ words′ out a
-      restores-on w′ long un words′ q a qi ws is sv rows u r-is =
-          let e = comes (u .left) (u .steps-there) in
-          let s : a .state .steps ≡ p .steps + 1 = ap (λ (x : Progress). x .steps) is ∙ ap (λ (x : Progress). x .steps + 1) qi in (
-            stands-on input f w′ words′ (set rows (slot-for (u .left) (p .adds)) (a .saved)) out (a .state)
-                (ap (λ (x : Progress). x .done) is ∙ ap (λ (x : Progress). x .done) qi)
-                (subst (λ (x : Checkpoint). Underway input f w′ words′ (set rows (slot-for (u .left) (p .adds)) x) out (a .state)) (sym sv)
-                (restored-on input f w words rows out p n next (e .0) u (e .1) few c r-is w′ long un (e .2) words′ q (a .state) qi ws is)),
-            omega arith,
-          )

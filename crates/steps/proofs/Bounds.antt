@@ -11,7 +11,7 @@ use Rattle.checkpoints.specs.declared.Checkpoint.{Checkpoint}
 use Rattle.session_file.specs.File.{File}
 use Rattle.progress.specs.declared.Progress.{Progress}
 use Rattle.progress.specs.declared.StepAnswer.{StepAnswer}
-use Rattle.steps.specs.Steps.{Ready, Onward}
+use Rattle.session_state.specs.Steps.{Ready, Onward}
 
 take-used : (n : ℕ) (o : List ℕ) → n ≡ min (length o) 65535 → take n o ≡ take 65535 o
 take-used n o e =

@@ -1,30 +1,15 @@
 // incremental.rs and the session file: the steps of a session.
 use allocator::NodePtr;
 use checkpoints::Checkpoint;
-use incremental::Place;
 use progress::Progress;
 use progress::StepAnswer;
 use session_file::NextStep;
-ghost use mathlib.Core.Path.{_≡_};
-ghost use mathlib.Core.List.{List};
-ghost use Prim.Native.Nat.{_<_};
+use writer_place::Place;
 ghost use lib.ListN.{take};
-ghost use Rattle.session_file.specs.File.{Step};
-ghost use Rattle.session_file.specs.Places.{StepsAt};
 ghost use Rattle.session_file.specs.declared.NextStep.the-variants as next-step;
-ghost use Rattle.steps.specs.State.{the-file, slot-for};
-ghost use Rattle.steps.specs.Steps.{Adding, Added, Undoing, Undone, Comes, Ready, Onward};
-
-// The checkpoint record that the step at this place takes and stores.
-pub fn slot_of(file: &[u8], at: usize, adds: usize) -> usize
-    ensures { λ k. ⌜ (k < 16) × ((ss : List Step) → StepsAt (now (file .entry)) at ss → k ≡ slot-for ss adds) ⌝ }
-{
-    match file_parts::next_step(file, at) {
-        NextStep::Add { node: _, next: _ } => step_records::within(adds),
-        NextStep::Restore { number, next: _ } => step_records::within(number as usize),
-        NextStep::End => 0,
-    }
-}
+ghost use Rattle.session_state.specs.State.{the-file};
+ghost use Rattle.session_state.specs.Steps.{Comes, Ready, Onward};
+ghost use Rattle.steps.specs.Contracts.{Adding, Added};
 
 // The tree of a handle is added: the state is saved, the tree entered in the cache, and written up to the next open place.
 fn add(file: &[u8], work: &mut [u32], output: &mut [u8], p: Progress, node: NodePtr) -> Progress
@@ -40,15 +25,6 @@ fn add(file: &[u8], work: &mut [u32], output: &mut [u8], p: Progress, node: Node
     };
     let o = resume::resume(work, file, output, place, node);
     progress::after_outcome(p, o)
-}
-
-// The state of copy `number` and its record is the present one again, over a stack of `depth` entries. Entries are not freed.
-fn undo(work: &mut [u32], depth: usize, number: usize, c: Checkpoint)
-    requires { ⌜ Undoing (now work) depth number c ⌝ }
-    ensures { λ _. ⌜ Undone (now (work .entry)) (now (work .exit)) number c ⌝ }
-{
-    undo::restore(work, number, c.opens as usize, depth, c.depth as usize);
-    step_records::bring_entry(work, c.sentinel);
 }
 
 // An add: questions 9 and 10; the tree is added, and the step's word written unless the add is refused.
@@ -80,32 +56,6 @@ fn add_step(
     }
 }
 
-// A restore: question 11; the state before an add is the present one again, and the step's word is written.
-fn restore_step(
-    file: &[u8],
-    work: &mut [u32],
-    words: &mut [u32],
-    output: &[u8],
-    p: Progress,
-    number: u32,
-    next: usize,
-    c: Checkpoint,
-) -> StepAnswer
-    requires { ⌜ (Ready (now file) (the-file (now file)) (now work) (now words) (now output) p c) × (Comes (now file) (p .at) (next-step.Restore number next)) ⌝ }
-    ensures { λ a. ⌜ Onward (now (file .entry)) (the-file (now (file .entry))) (now (work .entry)) (now (words .entry)) (now (output .entry)) p c (now (work .exit)) (now (words .exit)) (now (output .entry)) a ⌝ }
-{
-    let n = number as usize;
-    if n >= p.adds {
-        return progress::stop(p, 11, c);
-    }
-    undo(work, p.depth, n, c);
-    let q = progress::undone(p, n, c);
-    StepAnswer {
-        state: step_records::note(words, q, next),
-        saved: c,
-    }
-}
-
 // One step of the file: an add, a restore, or the end. It takes the session's state and one checkpoint record, and gives the state and the record to store.
 pub fn core_step(
     file: &[u8],
@@ -122,7 +72,7 @@ pub fn core_step(
     match file_parts::next_step(file, at) {
         NextStep::Add { node, next } => { add_step(file, work, words, output, p, node, next, c) }
         NextStep::Restore { number, next } => {
-            restore_step(file, work, words, output, p, number, next, c)
+            restore::restore_step(file, work, words, output, p, number, next, c)
         }
         NextStep::End => progress::stop(p, 0, c),
     }

@@ -4,7 +4,7 @@ use mathlib.Core.Path.{refl}
 use native.Mathlib.Omega.{arith}
 use lib.ListN.{length-set}
 use borrow.Author.Needs.{needs}
-use Rattle.steps.specs.State.{the-file}
+use Rattle.session_state.specs.State.{the-file}
 use Rattle.session_begin.proofs.Opening.{firsts-ask, opened}
 use Rattle.session_begin.proofs.open.Statement.{statement}
 use Rattle.session_begin.proofs.open.Tie as tie

@@ -2,7 +2,7 @@
 -- Assumes nothing.
 use mathlib.Core.Path.{refl}
 use borrow.Author.Needs.{needs}
-use Rattle.steps.specs.State.{the-file}
+use Rattle.session_state.specs.State.{the-file}
 use Rattle.steps.proofs.Answers as answers
 use Rattle.steps.proofs.add_step.Statement.{statement}
 use Rattle.steps.proofs.add_step.Tie as tie

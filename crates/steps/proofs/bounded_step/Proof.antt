@@ -1,7 +1,7 @@
 -- `steps::bounded_step` makes a step with the first 65,535 bytes of the output.
 -- Assumes nothing.
 use borrow.Author.Needs.{needs}
-use Rattle.steps.specs.State.{the-file}
+use Rattle.session_state.specs.State.{the-file}
 use Rattle.steps.proofs.Bounds.{used-many, used-ready, used-onward}
 use Rattle.steps.proofs.bounded_step.Statement.{statement}
 use Rattle.steps.proofs.bounded_step.Tie as tie

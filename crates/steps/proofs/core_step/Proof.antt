@@ -4,7 +4,7 @@ use mathlib.Core.Path.{subst}
 use borrow.Author.Needs.{needs}
 use Rattle.session_file.specs.Loaded.{FirstStep}
 use Rattle.session_file.specs.declared.NextStep.{NextStep}
-use Rattle.steps.specs.State.{the-file}
+use Rattle.session_state.specs.State.{the-file}
 use Rattle.steps.proofs.Answers.{stops-at-end}
 use Rattle.steps.proofs.core_step.Statement.{statement}
 use Rattle.steps.proofs.core_step.Tie as tie

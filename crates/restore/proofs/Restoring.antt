@@ -28,12 +28,12 @@ use Rattle.incremental.proofs.Frames.{todo-same, rights-same, pairs-few}
 use Rattle.progress.specs.declared.Progress.{Progress}
 use Rattle.step_records.specs.Stored.{bit, with-entry}
 use Rattle.progress.specs.Moves.{noted-at, undone-at}
-use Rattle.steps.specs.State.{whole-run, after-words, Before, History, Stocked, Underway, slot-for}
-use Rattle.steps.specs.Steps.{Undoing, Undone}
-use Rattle.steps.proofs.Slots.{Found, nth-found, set-same, set-there, set-here}
-use Rattle.steps.proofs.Frames.{places-kept, atoms-kept, whole-kept, holds-kept, unmapped-kept, all-counts-kept}
-use Rattle.steps.proofs.Runs.{run-restore}
-use Rattle.steps.proofs.States.{history-back, go-on}
+use Rattle.session_state.specs.State.{whole-run, after-words, Before, History, Stocked, Underway, slot-for}
+use Rattle.restore.specs.Contracts.{Undoing, Undone}
+use Rattle.session_state.proofs.Slots.{Found, nth-found, set-same, set-there, set-here}
+use Rattle.session_state.proofs.Frames.{places-kept, atoms-kept, whole-kept, holds-kept, unmapped-kept, all-counts-kept}
+use Rattle.session_state.proofs.Runs.{run-restore}
+use Rattle.session_state.proofs.States.{history-back, go-on}
 
 -- ---- the sentinel's entry
 

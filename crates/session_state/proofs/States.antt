@@ -26,9 +26,9 @@ use Rattle.incremental.specs.State.{todo-of}
 use Rattle.progress.specs.declared.Progress.{Progress}
 use Rattle.step_records.specs.Stored.{bit}
 use Rattle.progress.specs.Moves.{noted-at}
-use Rattle.steps.specs.State.{whole-run, after-words, At, Before, size-at, History, Stocked, Underway}
-use Rattle.steps.proofs.Slots.{nth-low, nth-snoc, nth-take, set-here, set-there}
-use Rattle.steps.proofs.Runs.{finished-word, word-noted}
+use Rattle.session_state.specs.State.{whole-run, after-words, At, Before, size-at, History, Stocked, Underway}
+use Rattle.session_state.proofs.Slots.{nth-low, nth-snoc, nth-take, set-here, set-there}
+use Rattle.session_state.proofs.Runs.{finished-word, word-noted}
 
 -- ---- the output
 

@@ -14,7 +14,7 @@ use Rattle.session_file.specs.declared.NextStep.the-variants as next-step
 use Rattle.session_file.specs.File.{Step}
 use Rattle.session_file.specs.Loaded.{FirstStep}
 use Rattle.serializer.specs.Trees.{nth}
-use Rattle.steps.specs.State.{slot-for}
+use Rattle.session_state.specs.State.{slot-for}
 
 abbrev pub slot-of-next : NextStep → ℕ → ℕ
 slot-of-next (next-step.Add node next) adds = cond (ltb adds 16) adds 0

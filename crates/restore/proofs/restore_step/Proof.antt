@@ -1,12 +1,12 @@
--- `steps::restore_step` meets its contract: question 11, and a restore whose word is noted.
+-- `restore::restore_step` meets its contract: question 11, and a restore whose word is noted.
 -- Assumes nothing.
 use mathlib.Core.Path.{refl}
 use native.Mathlib.Omega.{arith}
 use borrow.Author.Needs.{needs}
-use Rattle.steps.specs.State.{the-file}
-use Rattle.steps.proofs.Answers as answers
-use Rattle.steps.proofs.restore_step.Statement.{statement}
-use Rattle.steps.proofs.restore_step.Tie as tie
+use Rattle.session_state.specs.State.{the-file}
+use Rattle.restore.proofs.Answers as answers
+use Rattle.restore.proofs.restore_step.Statement.{statement}
+use Rattle.restore.proofs.restore_step.Tie as tie
 
 stop-requires : tie.Need-stop-requires
 stop-requires c κs = search needs

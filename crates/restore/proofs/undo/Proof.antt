@@ -1,8 +1,8 @@
--- `steps::undo` brings back a copy and its record.
+-- `restore::undo` brings back a copy and its record.
 -- Assumes nothing.
 use borrow.Author.Needs.{needs}
-use Rattle.steps.proofs.undo.Statement.{statement}
-use Rattle.steps.proofs.undo.Tie as tie
+use Rattle.restore.proofs.undo.Statement.{statement}
+use Rattle.restore.proofs.undo.Tie as tie
 
 cast-restore : tie.Need-cast-restore
 cast-restore c = search needs

@@ -19,7 +19,7 @@ use Rattle.serializer.specs.Steps.{UndoState, undo-state, room-in, restored, Ru
 use Rattle.serializer.specs.FindPath.{find-in}
 use Rattle.serializer.specs.Trees.{nth}
 use Rattle.step_records.specs.Stored.{bit}
-use Rattle.steps.specs.State.{after-words, waits}
+use Rattle.session_state.specs.State.{after-words, waits}
 
 module _ (space : ℕ) (f : File) (past : List UndoState) (s : Session) where
   pub run-ends : run-steps counted space f [] past s ≡ stop-at 0 s

@@ -1,9 +1,9 @@
--- `session_begin::long_enough` answers question 1.
+-- `session_lengths::long_enough` answers question 1.
 -- Assumes nothing.
 use native.Mathlib.Omega.{arith}
-use Rattle.session_begin.proofs.Asking.{enough, short-work, short-words}
-use Rattle.session_begin.proofs.long_enough.Statement.{statement}
-use Rattle.session_begin.proofs.long_enough.Tie as tie
+use Rattle.session_lengths.proofs.Enough.{enough, short-work, short-words}
+use Rattle.session_lengths.proofs.long_enough.Statement.{statement}
+use Rattle.session_lengths.proofs.long_enough.Tie as tie
 
 returns : tie.Need-returns
 returns c = let a = c .before .args in short-work (a .work) (a .words) (a .records) (c .if1 .taken)

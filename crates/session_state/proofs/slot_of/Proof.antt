@@ -1,12 +1,12 @@
--- `steps::slot_of` gives the record that the step at a place takes.
+-- `session_state::slot_of` gives the record that the step at a place takes.
 -- Assumes nothing.
 use mathlib.Core.Path.{refl}
 use native.Mathlib.Omega.{arith}
 use borrow.Author.Needs.{needs}
 use Rattle.session_file.specs.Places.{StepsAt}
-use Rattle.steps.proofs.Slots.{slot-told}
-use Rattle.steps.proofs.slot_of.Statement.{statement}
-use Rattle.steps.proofs.slot_of.Tie as tie
+use Rattle.session_state.proofs.Slots.{slot-told}
+use Rattle.session_state.proofs.slot_of.Statement.{statement}
+use Rattle.session_state.proofs.slot_of.Tie as tie
 
 next-step-requires : tie.Need-next-step-requires
 next-step-requires c κs = search needs

@@ -1,0 +1,8 @@
+-- Question 1 of a session call.
+use Prim.Native.Nat.{ℕ}
+use mathlib.Core.Bool.{Bool, _&&_}
+use lib.Dec.{leb}
+
+-- Question 1, of the lengths of work, words and checkpoint records.
+abbrev pub are-long : (work words records : ℕ) → Bool
+are-long work words records = leb 524288 work && (leb 1024 words && leb 16 records)

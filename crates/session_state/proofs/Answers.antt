@@ -1,0 +1,53 @@
+-- What a step's answer means: the run goes on, or it is over.
+-- Assumes nothing.
+use Prim.Native.Nat.{ℕ}
+use mathlib.Core.Path.{_≡_, sym, ap, subst, _∙_}
+use mathlib.Core.Bool.{Bool, true, false}
+use mathlib.Core.List.{List}
+use native.Mathlib.Omega.{arith}
+use lib.ListN.{length, take}
+use Rattle.checkpoints.specs.declared.Checkpoint.{Checkpoint}
+use Rattle.path.specs.Measure.{counted}
+use Rattle.session_file.specs.File.{File}
+use Rattle.serializer.specs.Steps.{Run, stop-at, run-steps}
+use Rattle.progress.specs.declared.Progress.{Progress}
+use Rattle.progress.specs.declared.StepAnswer.{StepAnswer}
+use Rattle.progress.specs.Moves.{refused-at, stopped-at}
+use Rattle.session_state.specs.State.{after-words, Underway, Ended, Stands}
+use Rattle.session_state.specs.Steps.{Onward}
+use Rattle.session_state.proofs.Runs.{words-ended}
+
+module _ (input : List ℕ) (f : File) (w words : List ℕ) (rows : List Checkpoint) (out : List ℕ) (t : Progress) where
+  pub stands-on : t .done ≡ false → Underway input f w words rows out t → Stands input f w words rows out t (t .done)
+  stands-on d u = subst (λ (b : Bool). Stands input f w words rows out t b) (sym d) u
+
+  pub stands-off : t .done ≡ true → Ended f words out t → Stands input f w words rows out t (t .done)
+  stands-off d u = subst (λ (b : Bool). Stands input f w words rows out t b) (sym d) u
+
+  pub under : t .done ≡ false → Stands input f w words rows out t (t .done) → Underway input f w words rows out t
+  under d s = subst (λ (b : Bool). Stands input f w words rows out t b) d s
+
+  pub ended : t .done ≡ true → Stands input f w words rows out t (t .done) → Ended f words out t
+  ended d s = subst (λ (b : Bool). Stands input f w words rows out t b) d s
+
+module _ (input : List ℕ) (f : File) (w words out : List ℕ) (p : Progress) (c : Checkpoint) where
+  -- The run is over at a step.
+  over : (rows : List Checkpoint) (u : Underway input f w words rows out p) (n : ℕ)
+      → run-steps counted (length out) f (u .left) (u .past) (u .session) ≡ stop-at n (u .session) → Ended f words out (refused-at p n)
+  over rows u n e =
+      record {
+        session = u .session;
+        size-is = u .present .writes .size-is;
+        bytes-are = u .present .writes .bytes-are;
+        short = u .present .running .short;
+        few-steps = omega (arith, u .few-steps);
+        many-words = u .many-words;
+        same = u .same ∙ ap (λ (r : Run). after-words (take (p .steps) words) r) e ∙ words-ended (take (p .steps) words) n (u .session);
+      }
+
+  -- The answer of a step that is refused, or of the end.
+  pub stops : (n : ℕ) (a : StepAnswer) → a ≡ stopped-at p n c
+      → ((rows : List Checkpoint) (u : Underway input f w words rows out p) → run-steps counted (length out) f (u .left) (u .past) (u .session) ≡ stop-at n (u .session))
+      → Onward input f w words out p c w words out a
+  stops n a is h =
+      subst (λ (x : StepAnswer). Onward input f w words out p c w words out x) (sym is) (λ rows u r. (over rows u n (h rows u), omega arith))

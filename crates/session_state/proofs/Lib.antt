@@ -1,0 +1,5 @@
+pub mod Frames
+pub mod Slots
+pub mod Runs
+pub mod States
+pub mod Answers

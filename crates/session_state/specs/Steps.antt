@@ -1,0 +1,35 @@
+-- What a step takes and leaves, in the terms of the states.
+use Prim.Native.Nat.{ℕ, _+_, _≤_}
+use mathlib.Core.Path.{_≡_}
+use mathlib.Core.List.{List}
+use lib.ListN.{getD, set}
+use Rattle.checkpoints.specs.Records.{blank}
+use Rattle.checkpoints.specs.declared.Checkpoint.{Checkpoint}
+use Rattle.session_file.specs.File.{File, Step}
+use Rattle.session_file.specs.Places.{StepsAt}
+use Rattle.session_file.specs.Loaded.{FirstStep}
+use Rattle.session_file.specs.declared.NextStep.{NextStep}
+use Rattle.progress.specs.declared.Progress.{Progress}
+use Rattle.progress.specs.declared.StepAnswer.{StepAnswer}
+use Rattle.step_records.specs.Stored.{bit}
+use Rattle.session_state.specs.State.{Underway, Stands, slot-for}
+
+-- The step at a place of the file.
+abbrev pub Comes : (input : List ℕ) (place : ℕ) → NextStep → Type 0
+Comes input place r = (ss : List Step) → StepsAt input place ss → FirstStep input ss r
+
+-- A run under way, and the record that its next step takes.
+pub record Ready (input : List ℕ) (f : File) (w words out : List ℕ) (p : Progress) (c : Checkpoint) : Type 0 where
+  pub rows : List Checkpoint
+  pub underway : Underway input f w words rows out p
+  pub record-is : getD rows (slot-for (underway .left) (p .adds)) blank ≡ c
+
+-- One step more is finished, or the run is over.
+abbrev pub Nearer : Progress → Progress → Type 0
+Nearer p q = p .steps + 1 ≤ q .steps + bit (q .done)
+
+-- The step is done, or refused, whatever the other records are.
+abbrev pub Onward : (input : List ℕ) (f : File) (w words out : List ℕ) (p : Progress) (c : Checkpoint) (w′ words′ out′ : List ℕ) (a : StepAnswer) → Type 0
+Onward input f w words out p c w′ words′ out′ a =
+    (rows : List Checkpoint) (u : Underway input f w words rows out p) → getD rows (slot-for (u .left) (p .adds)) blank ≡ c
+    → Stands input f w′ words′ (set rows (slot-for (u .left) (p .adds)) (a .saved)) out′ (a .state) (a .state .done) × Nearer p (a .state)

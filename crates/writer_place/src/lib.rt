@@ -1,0 +1,15 @@
+// incremental.rs: where the loop that writes stands, and how it ends.
+
+// How many pairs are open, how many entries stand on the stack, and how many bytes are written.
+pub struct Place {
+    pub opens: usize,
+    pub depth: usize,
+    pub size: usize,
+}
+
+// All is written; the loop stands at the open place; the question of this number got no.
+pub enum Outcome {
+    Done(Place),
+    Stopped(Place),
+    Refused(u32, Place),
+}
