@@ -100,33 +100,14 @@ impl PathBuilder {
         requires { ⌜ Counts self ⌝ }
         ensures { λ r. ⌜ ((store : List ℕ) → Sound store self → r ≡ length (built store self)) ⌝ }
     {
-        if self.bit_pos == 7 {
-            self.in_use * 8
-        } else {
-            self.in_use * 8 - self.bit_pos as u32 - 1
-        }
+        path_length::len(self.in_use, self.bit_pos)
     }
 
-    // The number of bytes that the path's atom is counted at. The ranges are the Rust's, and its 80 is decimal.
+    // The number of bytes that the path's atom is counted at.
     pub fn serialized_length(self, store: &[u32]) -> u32
         requires { ⌜ Sound (now store) self ⌝ }
         ensures { λ r. ⌜ r ≡ counted (built (now (store .entry)) self) ⌝ }
     {
-        let len = self.in_use;
-        match len {
-            0 => 1,
-            1 => {
-                if self.bit_pos == 7 && store[0] >= 80 {
-                    2
-                } else {
-                    1
-                }
-            }
-            2..=0x3f => 1 + len,
-            0x40..=0x1ff => 2 + len,
-            0x200..=0xfffff => 3 + len,
-            0x1000000..=0x7ffffff => 4 + len,
-            _ => 5 + len,
-        }
+        path_length::serialized_length(self.in_use, self.bit_pos, store)
     }
 }
