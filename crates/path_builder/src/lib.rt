@@ -3,7 +3,7 @@
 use words::wide;
 ghost use mathlib.Core.Path.{_≡_};
 ghost use mathlib.Core.List.{List};
-ghost use Prim.Native.Nat.{ℕ, _+_, _%_, _<_};
+ghost use Prim.Native.Nat.{ℕ};
 ghost use lib.Dec.{eqb};
 ghost use lib.ListN.{length};
 ghost use Rattle.path.specs.Bytes.{bit};
@@ -31,14 +31,6 @@ fn bit_of(dir: ChildPos) -> u32
     }
 }
 
-// The place below; after place 0 it is place 7 of the next byte.
-fn next_place(place: u8) -> u8
-    requires { ⌜ place < 8 ⌝ }
-    ensures { λ r. ⌜ r ≡ (place + 7) % 8 ⌝ }
-{
-    if place == 0 { 7 } else { place - 1 }
-}
-
 impl PathBuilder {
     // No bits.
     pub fn new() -> PathBuilder
@@ -50,26 +42,15 @@ impl PathBuilder {
         }
     }
 
-    // One bit more. A new byte is stored, not added to: nothing is assumed of the words after the bytes in use.
+    // One bit more.
     pub fn push(self, store: &mut [u32], dir: ChildPos) -> PathBuilder
         requires { ⌜ (Sound (now store) self) × (Room (now store) self) ⌝ }
         ensures { λ r. ⌜ Pushed (now (store .entry)) self (right dir) (now (store .exit)) r ⌝ }
     {
-        let bit = bit_of(dir);
-        let n = wide(self.in_use);
-        let place = self.bit_pos;
-        if place == 7 {
-            store[n] = bit << 7;
-            return PathBuilder {
-                in_use: self.in_use + 1,
-                bit_pos: 6,
-            };
-        }
-        let x = store[n - 1];
-        store[n - 1] = x + (bit << (place as u32));
+        let p = push_bit::push_bit(store, self.in_use, self.bit_pos, bit_of(dir));
         PathBuilder {
-            in_use: self.in_use,
-            bit_pos: next_place(place),
+            in_use: p.in_use,
+            bit_pos: p.bit_pos,
         }
     }
 
