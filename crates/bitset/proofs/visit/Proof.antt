@@ -1,11 +1,11 @@
--- `path::bitset::visit` meets its contract: the bit that it tests is the number's, and the store sets that bit alone.
+-- `bitset::visit` meets its contract: the bit that it tests is the number's, and the store sets that bit alone.
 -- Assumes nothing.
 use mathlib.Core.Path.{sym}
-use Rattle.path.specs.BitSetLaws.{bits-of-at}
-use Rattle.path.proofs.Marked.{marked}
+use Rattle.bitset.specs.BitSetLaws.{bits-of-at}
+use Rattle.bitset.proofs.Marked.{marked}
 use borrow.Author.Needs.{needs}
-use Rattle.path.proofs.bitset.visit.Statement.{statement}
-use Rattle.path.proofs.bitset.visit.Tie as tie
+use Rattle.bitset.proofs.visit.Statement.{statement}
+use Rattle.bitset.proofs.visit.Tie as tie
 
 mul-x : tie.Need-mul-x
 mul-x c = search needs

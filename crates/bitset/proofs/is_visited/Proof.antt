@@ -1,10 +1,10 @@
--- `path::bitset::is_visited` meets its contract: the bit that it tests is the number's.
+-- `bitset::is_visited` meets its contract: the bit that it tests is the number's.
 -- Assumes nothing.
 use mathlib.Core.Path.{sym}
-use Rattle.path.specs.BitSetLaws.{bits-of-at}
+use Rattle.bitset.specs.BitSetLaws.{bits-of-at}
 use borrow.Author.Needs.{needs}
-use Rattle.path.proofs.bitset.is_visited.Statement.{statement}
-use Rattle.path.proofs.bitset.is_visited.Tie as tie
+use Rattle.bitset.proofs.is_visited.Statement.{statement}
+use Rattle.bitset.proofs.is_visited.Tie as tie
 
 mul-x : tie.Need-mul-x
 mul-x c = search needs

@@ -10,9 +10,9 @@ use lib.ListN.{length, getD, take, drop, replicate, length-append, List·getD-ap
 use lib.Seq.{getD-append-add, take-at, drop-at}
 use Rattle.words.specs.Choice.{by-lt}
 use Rattle.words.specs.Lists.{All}
 use Rattle.path.specs.Bytes.{odd, value, low-bits}
 use Rattle.path.specs.BytesLaws.{length-low-bits, low-bits-at, value-low-bits}
-use Rattle.path.specs.BitSet.{bits-of}
+use Rattle.bitset.specs.BitSet.{bits-of}
 
 pub length-bits-of : (ws : List ℕ) → length (bits-of ws) ≡ 32 * length ws
 unfolding bits-of

@@ -3,7 +3,7 @@ ghost use mathlib.Core.Path.{_≡_};
 ghost use mathlib.Core.Bool.{true, false};
 ghost use Prim.Native.Nat.{_*_, _<_};
 ghost use lib.ListN.{length, getD, set};
-ghost use Rattle.path.specs.BitSet.{bits-of};
+ghost use Rattle.bitset.specs.BitSet.{bits-of};
 
 // Whether the number is marked.
 pub fn is_visited(bits: &[u32], idx: usize) -> bool

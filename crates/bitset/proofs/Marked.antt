@@ -12,9 +12,9 @@ use lib.Pow.{pow-lt, pow-add, shl-exact, shl-shr}
 use lib.Dec.{eqb}
 use lib.ListN.{length, getD, set, length-set}
 use lib.Seq.{ext-getD, getD-set-same, getD-set-other}
 use Rattle.path.specs.Bytes.{odd}
-use Rattle.path.specs.BitSet.{bits-of}
-use Rattle.path.specs.BitSetLaws.{length-bits-of, bits-of-at}
+use Rattle.bitset.specs.BitSet.{bits-of}
+use Rattle.bitset.specs.BitSetLaws.{length-bits-of, bits-of-at}
 
 -- bit j of 2 ^ i
 pow-bit-same : (i : ℕ) → 2 ^ i / 2 ^ i % 2 ≡ 1
