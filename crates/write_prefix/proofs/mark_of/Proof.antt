@@ -1,10 +1,10 @@
--- `prefix::mark_of` meets its contract: the table's rule, proved once over the widths.
+-- `write_prefix::mark_of` meets its contract: the table's rule, proved once over the widths.
 -- Assumes nothing.
 use Rattle.atom.specs.Prefix.{mark}
 use Rattle.atom.specs.PrefixLaws.{table-at, marks}
 use borrow.Author.Needs.{needs}
-use Rattle.prefix.proofs.mark_of.Statement.{statement}
-use Rattle.prefix.proofs.mark_of.Tie as tie
+use Rattle.write_prefix.proofs.mark_of.Statement.{statement}
+use Rattle.write_prefix.proofs.mark_of.Tie as tie
 
 sub-result : tie.Need-sub-result
 sub-result c = search needs

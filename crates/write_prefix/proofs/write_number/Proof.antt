@@ -1,4 +1,4 @@
--- `prefix::write_number` meets its contract. The invariant: the bytes from `left` on are written, and those before are the bytes of `rest`.
+-- `write_prefix::write_number` meets its contract. The invariant: the bytes from `left` on are written, and those before are the bytes of `rest`.
 -- Assumes nothing.
 use Prim.Native.Nat.{ℕ, _≤_, _-_, _+_, _%_}
 use mathlib.Core.List.{List}
@@ -7,9 +7,9 @@ use native.Mathlib.Omega.{arith}
 use lib.ListN.{length, take, set, length-set}
 use lib.Seq.{take-all}
 use Rattle.words.specs.BigEndian.{big-endian, length-big-endian}
-use Rattle.prefix.proofs.Numbers as numbers
-use Rattle.prefix.proofs.write_number.Statement.{statement}
-use Rattle.prefix.proofs.write_number.Tie as tie
+use Rattle.write_prefix.proofs.Numbers as numbers
+use Rattle.write_prefix.proofs.write_number.Statement.{statement}
+use Rattle.write_prefix.proofs.write_number.Tie as tie
 
 abbrev Inv-loop : tie.InvT-loop
 Inv-loop output₀ position width number left₀ rest₀ output left rest = (left ≤ width) × (length output ≡ length output₀) × (take left (big-endian width number) ≡ big-endian left rest)

@@ -1,4 +1,4 @@
--- `prefix::write_prefix` meets its contract.
+-- `write_prefix::write_prefix` meets its contract.
 -- Assumes nothing.
 use mathlib.Core.Path.{ap, _∙_}
 use Prim.Native.Nat.{ℕ, _+_}
@@ -8,8 +8,8 @@ use Rattle.words.specs.BigEndian.{big-endian}
 use Rattle.atom.specs.Prefix.{prefix}
 use Rattle.atom.specs.WriteLaws.{mark-bound}
 use borrow.Author.Needs.{needs}
-use Rattle.prefix.proofs.write_prefix.Statement.{statement}
-use Rattle.prefix.proofs.write_prefix.Tie as tie
+use Rattle.write_prefix.proofs.write_prefix.Statement.{statement}
+use Rattle.write_prefix.proofs.write_prefix.Tie as tie
 
 returns : tie.Need-returns
 returns c = let a = c .before .before .args in rw (c .if1 .taken) (paste-zero (a .output .now) (a .position) (prefix 0 (a .size)))
