@@ -61,9 +61,9 @@ fn operation(set: &mut [u32; 8], code: u8, idx: usize) -> bool
     requires { ⌜ idx < 256 ⌝ }
 {
     if code == 0 {
-        path::bitset::is_visited(set, idx)
+        bitset::is_visited(set, idx)
     } else {
-        path::bitset::visit(set, idx)
+        bitset::visit(set, idx)
     }
 }
 

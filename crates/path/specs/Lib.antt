@@ -1,5 +1,3 @@
-pub mod BitSet
-pub mod BitSetLaws
 pub mod Bytes
 pub mod BytesLaws
 pub mod Measure

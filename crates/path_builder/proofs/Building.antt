@@ -1,18 +1,22 @@
 -- One bit more in a path builder.
 -- Assumes nothing.
-use Prim.Native.Nat.{ℕ, suc, _+_, _*_, _-_, _/_, _%_, _^_, _<_}
+use Prim.Native.Nat.{ℕ, suc, _+_, _*_, _-_, _/_, _%_, _^_, _≤_, _<_}
 use mathlib.Core.Path.{_≡_, refl, sym, ap, ap₂, subst, _∙_}
 use mathlib.Core.Bool.{Bool, true, false}
 use mathlib.Core.List.{List, [], _∷_, _++_}
 use native.Mathlib.Omega.{arith}
 use native.Mathlib.Nat.{pow-succ', mul-assoc, add-mul, mul-mod-left}
 use native.Mathlib.Numerals.{add-one}
+use native.Mathlib.Decide.{ℕ-discrete}
+use borrow.Author.Tests.{eq-eqb, ne-eqb}
 use lib.ListN.{length, getD, take, drop, set, length-set}
 use lib.Seq.{take-suc, take-suc-set, drop-set-lt, length-take-le, take-take, getD-take}
-use lib.Pow.{shl-shr, shl-lt, shl-exact, shr-lt, split}
+use lib.Pow.{shl-shr, shl-lt, shr-lt, split}
 use Rattle.words.specs.Lists.{Bytes, all-append, all-take, all-at}
 use Rattle.path.specs.Bytes.{bit, value, low-bits, all-bits}
 use Rattle.path.specs.BytesLaws.{odd-value, half-value, shifted-split, value-last}
+use Rattle.push_bit.specs.declared.Place.{Place}
+use Rattle.push_bit.specs.Put.{put, Put}
 use Rattle.path_builder.specs.declared.PathBuilder.{PathBuilder}
 use Rattle.path_builder.specs.Builder.{free, built, Sound, Fresh, Room, Pushed}
 use Rattle.path_builder.specs.BuilderLaws.{length-built}
@@ -95,32 +99,29 @@ fresh = record {
 }
 
 module _ (s : List ℕ) (p : PathBuilder) (b : Bool) (sound : Sound s p) (room : Room s p) where
+  -- There is room for the byte that the next bit goes to.
+  pub next-within : p .«in_use» + (p .«bit_pos» + 1) / 8 ≤ length s
+  next-within = omega (arith, length-built s p sound, room .bytes, sound .counts .place, sound .within)
+
   -- ---- a new byte
 
-  pub new-within : p .«bit_pos» ≡ 7 → p .«in_use» < length s
-  new-within e = omega (arith, length-built s p sound, room .bytes)
-
-  new-byte : p .«bit_pos» ≡ 7 → Pushed s p b (set s (p .«in_use») (bit b * 128 % 2 ^ 32)) (record { «in_use» = p .«in_use» + 1; «bit_pos» = 6 })
-  unfolding built low-bits
-  new-byte e =
-      let f : free p ≡ 0 = omega arith in
-      let byte : bit b * 128 % 2 ^ 32 ≡ 0 + bit b * 2 ^ 7 = omega (arith, bit-small b) in
-      grown s (set s (p .«in_use») (bit b * 128 % 2 ^ 32)) p (record { «in_use» = p .«in_use» + 1; «bit_pos» = 6 }) b (p .«in_use») 7 0 (omega arith) (omega arith) refl
-      (new-within e)
-      (length-set s (p .«in_use») (bit b * 128 % 2 ^ 32))
-      (sound .bytes)
-      (omega (arith, length-built s p sound, room .count))
-      (take-suc-set s (p .«in_use») (bit b * 128 % 2 ^ 32) (new-within e) ∙ ap (λ (v : ℕ). take (p .«in_use») s ++ v ∷ []) byte)
-      (drop-set-lt (suc (p .«in_use»)) s (p .«in_use») (bit b * 128 % 2 ^ 32) (omega arith))
-      (add-one (p .«in_use»))
-      refl
-      (ap (λ (n : ℕ). drop n (all-bits (take (p .«in_use») s))) f ∙ sym (shifted-split 8 (take (p .«in_use») s) 0 (omega arith)))
-
-  pub push-new : p .«bit_pos» ≡ 7 → (n v : ℕ) → n ≡ p .«in_use» → v ≡ bit b
-      → Pushed s p b (set s n (v * 128 % 2 ^ 32)) (record { «in_use» = p .«in_use» + 1; «bit_pos» = 6 })
-  push-new e n v en ev =
-      subst (λ (k : ℕ). Pushed s p b (set s k (v * 128 % 2 ^ 32)) (record { «in_use» = p .«in_use» + 1; «bit_pos» = 6 })) (sym en)
-      (subst (λ (y : ℕ). Pushed s p b (set s (p .«in_use») (y * 128 % 2 ^ 32)) (record { «in_use» = p .«in_use» + 1; «bit_pos» = 6 })) (sym ev) (new-byte e))
+  module _ (s′ : List ℕ) (p′ : PathBuilder) (place : p′ .«bit_pos» ≡ (p .«bit_pos» + 7) % 8) where
+    new-byte : p .«bit_pos» ≡ 7 → s′ ≡ set s (p .«in_use») (bit b * 2 ^ 7) → p′ .«in_use» ≡ p .«in_use» + 1 → Pushed s p b s′ p′
+    unfolding built low-bits
+    new-byte e words used =
+        let f : free p ≡ 0 = omega arith in
+        let byte : bit b * 2 ^ 7 ≡ 0 + bit b * 2 ^ 7 = omega arith in
+        let within : p .«in_use» < length s = omega (arith, next-within) in
+        grown s s′ p p′ b (p .«in_use») 7 0 (omega arith) (omega arith) refl
+        within
+        (ap length words ∙ length-set s (p .«in_use») (bit b * 2 ^ 7))
+        (sound .bytes)
+        (omega (arith, length-built s p sound, room .count))
+        (ap (take (suc (p .«in_use»))) words ∙ take-suc-set s (p .«in_use») (bit b * 2 ^ 7) within ∙ ap (λ (v : ℕ). take (p .«in_use») s ++ v ∷ []) byte)
+        (ap (drop (suc (p .«in_use»))) words ∙ drop-set-lt (suc (p .«in_use»)) s (p .«in_use») (bit b * 2 ^ 7) (omega arith))
+        (used ∙ add-one (p .«in_use»))
+        (place ∙ ap (λ (n : ℕ). (n + 7) % 8) e)
+        (ap (λ (n : ℕ). drop n (all-bits (take (p .«in_use») s))) f ∙ sym (shifted-split 8 (take (p .«in_use») s) 0 (omega arith)))
 
   -- ---- a free place of the last byte
   module _ (d : p .«bit_pos» ≡ 7 → ⊥) where
@@ -133,7 +134,7 @@ module _ (s : List ℕ) (p : PathBuilder) (b : Bool) (sound : Sound s p) (room :
     last-front : take (p .«in_use») s ≡ take (p .«in_use» - 1) s ++ getD s (p .«in_use» - 1) 0 ∷ []
     last-front = ap (λ (n : ℕ). take n s) last-used ∙ take-suc s (p .«in_use» - 1) 0 (omega (arith, last-used, sound .within))
 
-    last-small : getD s (p .«in_use» - 1) 0 < 256
+    pub last-small : getD s (p .«in_use» - 1) 0 < 256
     last-small =
         rw (getD-take (p .«in_use») s (p .«in_use» - 1) 0 (omega (arith, last-used))) at
         (all-at (λ (n : ℕ). n < 256) (take (p .«in_use») s) 0 (p .«in_use» - 1) (sound .bytes) (omega (arith, last-used, length-take-le (p .«in_use») s (sound .within))))
@@ -143,41 +144,32 @@ module _ (s : List ℕ) (p : PathBuilder) (b : Bool) (sound : Sound s p) (room :
         sym (value-last (suc (p .«bit_pos»)) (take (p .«in_use» - 1) s) (getD s (p .«in_use» - 1) 0) (sound .counts .place))
         ∙ ap₂ {C = ℕ} (λ (n : ℕ) (l : List ℕ). value (take n (all-bits l))) (sym last-free) (sym last-front) ∙ sound .unset
 
-    last-shift : bit b * 2 ^ p .«bit_pos» % 2 ^ 32 ≡ bit b * 2 ^ p .«bit_pos»
-    last-shift = shl-exact 1 (p .«bit_pos») 32 (bit-small b) (omega (arith, sound .counts .place))
-
-    last-byte : ℕ → ℕ → ℕ
-    last-byte n v = getD s (n - 1) 0 + v * 2 ^ p .«bit_pos» % 2 ^ 32
-
-    last-put : (n v : ℕ) → n ≡ p .«in_use» → v ≡ bit b → last-byte n v ≡ getD s (p .«in_use» - 1) 0 + bit b * 2 ^ p .«bit_pos»
-    unfolding last-byte
-    last-put n v en ev =
-        ap₂ {C = ℕ} (λ (k y : ℕ). getD s (k - 1) 0 + y * 2 ^ p .«bit_pos» % 2 ^ 32) en ev ∙ ap (λ (y : ℕ). getD s (p .«in_use» - 1) 0 + y) last-shift
-
-    pub push-fits : (n v : ℕ) → n ≡ p .«in_use» → v ≡ bit b → getD s (n - 1) 0 + v * 2 ^ p .«bit_pos» % 2 ^ 32 < 2 ^ 32
-    unfolding last-byte
-    push-fits n v en ev =
-        omega (arith, last-put n v en ev, put-small (p .«bit_pos») (getD s (p .«in_use» - 1) 0) b (sound .counts .place) last-small last-clear)
-
-    more-bits : (q v : ℕ) → q ≡ (p .«bit_pos» + 7) % 8 → v ≡ getD s (p .«in_use» - 1) 0 + bit b * 2 ^ p .«bit_pos»
-        → Pushed s p b (set s (p .«in_use» - 1) v) (record { «in_use» = p .«in_use»; «bit_pos» = q })
+    more-bits : (s′ : List ℕ) (p′ : PathBuilder) → p′ .«bit_pos» ≡ (p .«bit_pos» + 7) % 8
+        → s′ ≡ set s (p .«in_use» - 1) (getD s (p .«in_use» - 1) 0 + bit b * 2 ^ p .«bit_pos») → p′ .«in_use» ≡ p .«in_use» → Pushed s p b s′ p′
     unfolding built
-    more-bits q v eq ev =
-        grown s (set s (p .«in_use» - 1) v) p (record { «in_use» = p .«in_use»; «bit_pos» = q }) b (p .«in_use» - 1) (p .«bit_pos») (getD s (p .«in_use» - 1) 0)
+    more-bits s′ p′ place words used =
+        let v : ℕ = getD s (p .«in_use» - 1) 0 + bit b * 2 ^ p .«bit_pos» in
+        grown s s′ p p′ b (p .«in_use» - 1) (p .«bit_pos») (getD s (p .«in_use» - 1) 0)
         (sound .counts .place) last-small last-clear
         (omega (arith, last-used, sound .within))
-        (length-set s (p .«in_use» - 1) v)
+        (ap length words ∙ length-set s (p .«in_use» - 1) v)
         (subst (λ (l : List ℕ). Bytes l) (take-take (p .«in_use» - 1) (p .«in_use») s (omega arith)) (all-take (λ (n : ℕ). n < 256) (p .«in_use» - 1) (take (p .«in_use») s) (sound .bytes)))
         (omega (arith, last-used, sound .counts .few))
-        (take-suc-set s (p .«in_use» - 1) v (omega (arith, last-used, sound .within)) ∙ ap (λ (y : ℕ). take (p .«in_use» - 1) s ++ y ∷ []) ev)
-        (drop-set-lt (suc (p .«in_use» - 1)) s (p .«in_use» - 1) v (omega arith))
-        last-used
-        eq
+        (ap (take (suc (p .«in_use» - 1))) words ∙ take-suc-set s (p .«in_use» - 1) v (omega (arith, last-used, sound .within)))
+        (ap (drop (suc (p .«in_use» - 1))) words ∙ drop-set-lt (suc (p .«in_use» - 1)) s (p .«in_use» - 1) v (omega arith))
+        (used ∙ last-used)
+        place
         (ap₂ {C = List Bool} (λ (n : ℕ) (l : List ℕ). drop n (all-bits l)) last-free last-front)
 
-    pub push-more : (n v q : ℕ) → n ≡ p .«in_use» → v ≡ bit b → q ≡ (p .«bit_pos» + 7) % 8
-        → Pushed s p b (set s (n - 1) (getD s (n - 1) 0 + v * 2 ^ p .«bit_pos» % 2 ^ 32)) (record { «in_use» = p .«in_use»; «bit_pos» = q })
-    unfolding last-byte
-    push-more n v q en ev eq =
-        subst (λ (k : ℕ). Pushed s p b (set s (k - 1) (last-byte n v)) (record { «in_use» = p .«in_use»; «bit_pos» = q })) (sym en)
-        (more-bits q (last-byte n v) eq (last-put n v en ev))
+  -- ---- either of them
+
+  pub pushed : (v : ℕ) → v ≡ bit b → (s′ : List ℕ) (q : Place) → Put s (p .«in_use») (p .«bit_pos») v s′ q
+      → Pushed s p b s′ (record { «in_use» = q .«in_use»; «bit_pos» = q .«bit_pos» })
+  pushed v ev s′ q h = go (ℕ-discrete (p .«bit_pos») 7)
+    where
+      words : s′ ≡ put s (p .«in_use») (p .«bit_pos») (bit b)
+      words = h .words ∙ ap (put s (p .«in_use») (p .«bit_pos»)) ev
+
+      go : Dec (p .«bit_pos» ≡ 7) → Pushed s p b s′ (record { «in_use» = q .«in_use»; «bit_pos» = q .«bit_pos» })
+      go (yes e) = new-byte s′ _ (h .place) e (rw (eq-eqb (p .«bit_pos») 7 e) at words) (rw (eq-eqb (p .«bit_pos») 7 e) at (h .bytes))
+      go (no d) = more-bits d s′ _ (h .place) (rw (ne-eqb (p .«bit_pos») 7 d) at words) (rw (ne-eqb (p .«bit_pos») 7 d) at (h .bytes))

@@ -3,7 +3,7 @@
 use words::wide;
 ghost use mathlib.Core.Path.{_≡_};
 ghost use mathlib.Core.List.{List};
-ghost use Prim.Native.Nat.{ℕ, _+_, _%_, _<_};
+ghost use Prim.Native.Nat.{ℕ};
 ghost use lib.Dec.{eqb};
 ghost use lib.ListN.{length};
 ghost use Rattle.path.specs.Bytes.{bit};
@@ -31,14 +31,6 @@ fn bit_of(dir: ChildPos) -> u32
     }
 }
 
-// The place below; after place 0 it is place 7 of the next byte.
-fn next_place(place: u8) -> u8
-    requires { ⌜ place < 8 ⌝ }
-    ensures { λ r. ⌜ r ≡ (place + 7) % 8 ⌝ }
-{
-    if place == 0 { 7 } else { place - 1 }
-}
-
 impl PathBuilder {
     // No bits.
     pub fn new() -> PathBuilder
@@ -50,26 +42,15 @@ impl PathBuilder {
         }
     }
 
-    // One bit more. A new byte is stored, not added to: nothing is assumed of the words after the bytes in use.
+    // One bit more.
     pub fn push(self, store: &mut [u32], dir: ChildPos) -> PathBuilder
         requires { ⌜ (Sound (now store) self) × (Room (now store) self) ⌝ }
         ensures { λ r. ⌜ Pushed (now (store .entry)) self (right dir) (now (store .exit)) r ⌝ }
     {
-        let bit = bit_of(dir);
-        let n = wide(self.in_use);
-        let place = self.bit_pos;
-        if place == 7 {
-            store[n] = bit << 7;
-            return PathBuilder {
-                in_use: self.in_use + 1,
-                bit_pos: 6,
-            };
-        }
-        let x = store[n - 1];
-        store[n - 1] = x + (bit << (place as u32));
+        let p = push_bit::push_bit(store, self.in_use, self.bit_pos, bit_of(dir));
         PathBuilder {
-            in_use: self.in_use,
-            bit_pos: next_place(place),
+            in_use: p.in_use,
+            bit_pos: p.bit_pos,
         }
     }
 
@@ -100,33 +81,14 @@ impl PathBuilder {
         requires { ⌜ Counts self ⌝ }
         ensures { λ r. ⌜ ((store : List ℕ) → Sound store self → r ≡ length (built store self)) ⌝ }
     {
-        if self.bit_pos == 7 {
-            self.in_use * 8
-        } else {
-            self.in_use * 8 - self.bit_pos as u32 - 1
-        }
+        path_length::len(self.in_use, self.bit_pos)
     }
 
-    // The number of bytes that the path's atom is counted at. The ranges are the Rust's, and its 80 is decimal.
+    // The number of bytes that the path's atom is counted at.
     pub fn serialized_length(self, store: &[u32]) -> u32
         requires { ⌜ Sound (now store) self ⌝ }
         ensures { λ r. ⌜ r ≡ counted (built (now (store .entry)) self) ⌝ }
     {
-        let len = self.in_use;
-        match len {
-            0 => 1,
-            1 => {
-                if self.bit_pos == 7 && store[0] >= 80 {
-                    2
-                } else {
-                    1
-                }
-            }
-            2..=0x3f => 1 + len,
-            0x40..=0x1ff => 2 + len,
-            0x200..=0xfffff => 3 + len,
-            0x1000000..=0x7ffffff => 4 + len,
-            _ => 5 + len,
-        }
+        path_length::serialized_length(self.in_use, self.bit_pos, store)
     }
 }

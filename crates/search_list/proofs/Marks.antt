@@ -11,8 +11,8 @@ use lib.Seq.{getD-set-same, getD-set-other}
 use Rattle.words.specs.Words.{at, part}
 use Rattle.words.proofs.Words.{part-length, part-at, put-length, put-part, put-at, put-other}
 use Rattle.path.specs.Bytes.{odd}
-use Rattle.path.specs.BitSet.{bits-of}
-use Rattle.path.specs.BitSetLaws.{bits-of-at, length-bits-of}
+use Rattle.bitset.specs.BitSet.{bits-of}
+use Rattle.bitset.specs.BitSetLaws.{bits-of-at, length-bits-of}
 use Rattle.layout.specs.Layout.{SEEN, ENTRIES}
 use Rattle.search_list.specs.State.{seen-at}
 use Rattle.search_list.specs.Steps.{Marked, Cleared}

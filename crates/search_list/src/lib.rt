@@ -92,7 +92,7 @@ pub fn is_seen(work: &[u32], e: usize) -> bool
 {
     // A local: with a literal there the proof takes seconds.
     let from = SEEN;
-    path::bitset::is_visited(&work[from..PREVS], e)
+    bitset::is_visited(&work[from..PREVS], e)
 }
 
 // Entry e is seen.
@@ -100,7 +100,7 @@ pub fn mark(work: &mut [u32], e: usize)
     requires { ⌜ (524288 ≤ length (now work)) × (e < ENTRIES) ⌝ }
     ensures { λ _. ⌜ Marked (now (work .entry)) (now (work .exit)) e ⌝ }
 {
-    path::bitset::visit(&mut work[SEEN..PREVS], e);
+    bitset::visit(&mut work[SEEN..PREVS], e);
 }
 
 // Path i has the bits of node a, is at place v, and has x bits after the node's.

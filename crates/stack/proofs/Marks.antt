@@ -14,8 +14,8 @@ use borrow.Rule.Slice.PartMut.{putMid}
 use Rattle.words.specs.Words.{at, part}
 use Rattle.words.proofs.Words.{part-length, part-at, put-length, put-part, put-other}
 use Rattle.path.specs.Bytes.{odd}
-use Rattle.path.specs.BitSet.{bits-of}
-use Rattle.path.specs.BitSetLaws.{bits-of-at, length-bits-of}
+use Rattle.bitset.specs.BitSet.{bits-of}
+use Rattle.bitset.specs.BitSetLaws.{bits-of-at, length-bits-of}
 use Rattle.layout.specs.Layout.{STACK, WRITTEN, ENTRIES}
 use Rattle.stack.specs.Contracts.{marked-at, Marked, Pushed, PushedMarked}
 use Rattle.stack.proofs.Stacks.{stacked-same, stack-same}

@@ -63,7 +63,7 @@ pub fn is_marked(work: &[u32], e: EntryIndex) -> bool
     let x = wide(e.0);
     // A local: with a literal there the proof takes longer.
     let from = WRITTEN;
-    path::bitset::is_visited(&work[from..MOVED], x)
+    bitset::is_visited(&work[from..MOVED], x)
 }
 
 // Marks entry e written.
@@ -72,7 +72,7 @@ pub fn mark(work: &mut [u32], e: EntryIndex)
     ensures { λ _. ⌜ Marked (now (work .entry)) (now (work .exit)) (e .0) ⌝ }
 {
     let x = wide(e.0);
-    path::bitset::visit(&mut work[WRITTEN..MOVED], x);
+    bitset::visit(&mut work[WRITTEN..MOVED], x);
 }
 
 // Entry e, of length `len`, goes on top of the `depth` entries that are there, and is marked written unless it is too short to be referred to.

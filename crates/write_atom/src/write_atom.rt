@@ -26,7 +26,7 @@ pub fn write_atom(output: &mut [u8], position: usize, atom: &[u8]) -> WriteAtom
     if output.len() - total < position {
         return WriteAtom::Full;
     }
-    prefix::write_prefix(output, position, width, atom.len() as u64);
+    write_prefix::write_prefix(output, position, width, atom.len() as u64);
     slices::copy_bytes(atom, output, position + width);
     WriteAtom::Next(position + total)
 }

@@ -61,7 +61,7 @@ fn put_reference(
     ensures { λ _. ⌜ now (output .exit) ≡ paste (paste (set (now (output .entry)) size 0xfe) (size + 1) (prefix width count) width) (size + 1 + width) («path-bytes» («path-at» (now (work .entry)) slot)) count ⌝ }
 {
     output[size] = BACK_REFERENCE;
-    prefix::write_prefix(output, size + 1, width, count as u64);
+    write_prefix::write_prefix(output, size + 1, width, count as u64);
     put_path(work, slot, output, size + 1 + width, count);
 }
 

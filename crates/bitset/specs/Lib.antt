@@ -1,0 +1,2 @@
+pub mod BitSet
+pub mod BitSetLaws
