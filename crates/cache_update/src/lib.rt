@@ -18,7 +18,7 @@ pub fn enter(work: &mut [u32], h: NodePtr) -> EntryIndex
         return make_entry::meet_sentinel(work);
     }
     if h.is_atom() {
-        return make_entry::enter_atom(work, h);
+        return enter_node::enter_atom(work, h);
     }
     let i = wide(h.index());
     let k = tree_cache::map_of(work, i);

@@ -16,7 +16,7 @@ use Rattle.tree_cache.proofs.Entering.{pair-low, sentinel-entered, atom-entered
 use Rattle.cache_update.proofs.enter.Reads as enter
 use Rattle.cache_update.proofs.enter.Kinds as enter-kinds
 use Rattle.cache_update.proofs.+enter.Lts-enter as enter-lts
-use Rattle.make_entry.proofs.enter_atom.Reads as enter-atom-reads
+use Rattle.enter_node.proofs.enter_atom.Reads as enter-atom-reads
 use Rattle.tree_cache.proofs.is_sentinel.Reads as is-sentinel-reads
 use Rattle.make_entry.proofs.join.Reads as join-reads
 use Rattle.tree_cache.proofs.left_of.Reads as left-of-reads

@@ -1,11 +1,11 @@
--- `find_or_add` meets its contract: the entry is the one found, or the one that `insert` adds.
+-- `enter_node::find_or_add` meets its contract: the entry is the one found, or the one that `insert` adds.
 -- Assumes nothing.
 use mathlib.Core.Path.{sym, ap, _∙_}
 use borrow.Author.Needs.{needs}
 use Rattle.cache_entries.specs.Contracts.{option-of}
-use Rattle.cache_entries.proofs.NewEntry.{found-interned, new-interned}
-use Rattle.cache_entries.proofs.find_or_add.Statement.{statement}
-use Rattle.cache_entries.proofs.find_or_add.Tie as tie
+use Rattle.enter_node.proofs.Interning.{found-interned, new-interned}
+use Rattle.enter_node.proofs.find_or_add.Statement.{statement}
+use Rattle.enter_node.proofs.find_or_add.Tie as tie
 
 find-key-requires : tie.Need-find-key-requires
 find-key-requires c κs = search needs

@@ -1,9 +1,9 @@
--- `make_entry::enter_pair` meets its contract: the words of the key are found where the key is.
+-- `enter_node::enter_pair` meets its contract: the words of the key are found where the key is.
 -- Assumes nothing.
 use borrow.Author.Needs.{needs}
 use Rattle.tree_cache.proofs.Finding.{pair-made}
-use Rattle.make_entry.proofs.enter_pair.Statement.{statement}
-use Rattle.make_entry.proofs.enter_pair.Tie as tie
+use Rattle.enter_node.proofs.enter_pair.Statement.{statement}
+use Rattle.enter_node.proofs.enter_pair.Tie as tie
 
 length-of-requires : tie.Need-length-of-requires
 length-of-requires c κs = search needs

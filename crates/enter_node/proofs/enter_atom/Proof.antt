@@ -1,9 +1,9 @@
--- `make_entry::enter_atom` meets its contract: the words of the key are found where the key is.
+-- `enter_node::enter_atom` meets its contract: the words of the key are found where the key is.
 -- Assumes nothing.
 use borrow.Author.Needs.{needs}
 use Rattle.tree_cache.proofs.Finding.{atom-made}
-use Rattle.make_entry.proofs.enter_atom.Statement.{statement}
-use Rattle.make_entry.proofs.enter_atom.Tie as tie
+use Rattle.enter_node.proofs.enter_atom.Statement.{statement}
+use Rattle.enter_node.proofs.enter_atom.Tie as tie
 
 atom-key-requires : tie.Need-atom-key-requires
 atom-key-requires c κs = search needs

@@ -1,21 +1,44 @@
--- What `insert` and `find_or_add` leave.
+-- What `insert` leaves.
 -- Assumes nothing.
-use Prim.Native.Nat.{ℕ, _+_, _*_, _/_, _%_, _≤_, _<_}
+use Prim.Native.Nat.{ℕ, zero, suc, _+_, _*_, _/_, _%_, _≤_, _<_}
 use mathlib.Core.Path.{_≡_, refl, sym, ap, _∙_}
+use mathlib.Core.Bool.{Bool, true, false, cond, _&&_}
 use mathlib.Core.List.{List, [], _∷_, _++_}
-use mathlib.Core.Option.{none, some}
+use mathlib.Core.Option.{Option, none, some}
 use native.Mathlib.Omega.{arith}
+use native.Mathlib.Nat.{not-suc-le-zero}
 use native.Mathlib.Numerals.{add-one}
 use native.Mathlib.Decide.{ℕ-discrete}
+use lib.Dec.{eqb}
 use lib.ListN.{length}
 use borrow.Author.Tests.{eq-eqb, ne-eqb}
 use Rattle.words.specs.Words.{at, part, tabulate}
 use Rattle.words.proofs.Words.{part-same, Store, stores, Misses, miss, hits, length-stores, tabulate-more}
+use Rattle.serializer.specs.Cache.{later}
 use Rattle.layout.specs.Layout.{USED, COUNTS, LEFT, RIGHT, LOW, HIGH, NEXT, HEADS, PARENTS, SLOTS, ENTRIES}
 use Rattle.layout.specs.Rows.{Row, parents-of, row-of, rows-of, new-row, length-of, slot-of, slot-at, prev, Chained, Distinct, Sound}
-use Rattle.cache_entries.specs.Contracts.{find-row, Inserted, Interned}
-use Rattle.cache_entries.proofs.Rows.{length-rows, counts-same, none-missing, find-low, find-has}
 use Rattle.layout.specs.Prev.{prev-same}
+use Rattle.cache_entries.specs.Contracts.{find-row, Inserted}
+use Rattle.cache_entries.proofs.Rows.{counts-same, Missing}
+
+later-none : (o : Option ℕ) → later o ≡ none → o ≡ none
+later-none none q = refl
+later-none (some e) q = absurd (let z : _≡_ {A = ℕ} 0 1 = cc in omega arith)
+
+-- Where nothing is found, no row has the key.
+none-missing : (n : ℕ) (f : ℕ → Row) (l r : ℕ) → find-row l r (tabulate n f) ≡ none → Missing f l r n
+unfolding tabulate
+none-missing zero f l r q k h a b = not-suc-le-zero h
+none-missing (suc n) f l r q zero h a b =
+    let z : _≡_ {A = Option ℕ} (some 0) none = rw (eq-eqb (f 0 .left) l a, eq-eqb (f 0 .right) r b) at q in
+    let y : _≡_ {A = ℕ} 0 1 = cc in omega arith
+none-missing (suc n) f l r q (suc k) h a b =
+    go (eqb (f 0 .left) l && eqb (f 0 .right) r) (find-row l r (tabulate n (λ j. f (suc j)))) q
+    (λ p. none-missing n (λ j. f (suc j)) l r p k (omega arith) a b)
+  where
+    go : (t : Bool) (o : Option ℕ) → cond t (some 0) (later o) ≡ none → (o ≡ none → ⊥) → ⊥
+    go true o p g = let y : _≡_ {A = ℕ} 0 1 = cc in omega arith
+    go false o p g = g (later-none o p)
 
 module _ (w : List ℕ) (l r len n s : ℕ) (so : Sound w) (room : at w USED < ENTRIES) (new : find-row l r (rows-of w) ≡ none) (hn : n ≡ at w USED) (hs : s ≡ slot-of l r) where
   abbrev ss : List Store
@@ -179,38 +202,3 @@ module _ (w : List ℕ) (l r len n s : ℕ) (so : Sound w) (room : at w USED < E
     counts = counts-same w w′ ENTRIES count-kept;
     kept = record { low = λ k h. same k (omega arith); high = λ k h. let z = s-low in same k (omega arith) };
   }
-
--- An entry was found.
-pub found-interned : (w : List ℕ) (l r len e : ℕ) → Sound w → some e ≡ find-row l r (rows-of w) → Interned w w l r len e
-unfolding rows-of
-found-interned w l r len e so q = record {
-  sound = so;
-  made = rw (← q);
-  low = find-low (at w USED) (row-of w) l r e (sym q);
-  keys = λ k h. (refl, refl);
-  key = find-has (at w USED) (row-of w) l r e (sym q);
-  new = λ k a b. absurd (omega arith);
-  more = omega arith;
-  few = omega arith;
-  counts = refl;
-  kept = record { low = λ k h. refl; high = λ k h. refl };
-}
-
--- None was found, and one was added.
-pub new-interned : (w w′ : List ℕ) (l r len x : ℕ) → none ≡ find-row l r (rows-of w) → Inserted w w′ l r len x → Interned w w′ l r len x
-new-interned w w′ l r len x q i =
-    let u = i .used in
-    let a = i .rows in
-    let b = i .index ∙ sym (length-rows w) in
-    record {
-      sound = i .sound;
-      made = rw (← q) (λ j. (a j, b j));
-      low = omega (arith, i .index);
-      keys = i .keys;
-      key = i .key;
-      new = λ k c d. omega (arith, i .index);
-      more = omega arith;
-      few = omega arith;
-      counts = i .counts;
-      kept = i .kept;
-    }
