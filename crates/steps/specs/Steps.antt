@@ -14,7 +14,8 @@ use Rattle.session_file.specs.declared.NextStep.{NextStep}
 use Rattle.layout.specs.Layout.{PAIR-COUNT, USED, ENTRIES, DEPTH}
 use Rattle.layout.specs.Rows.{all-counts}
 use Rattle.stack.specs.Contracts.{Stacked}
-use Rattle.undo.specs.Contracts.{copied-stack, Saved, Restored}
+use Rattle.undo_state.specs.Contracts.{copied-stack, Saved}
+use Rattle.undo.specs.Contracts.{Restored}
 use Rattle.tree_cache.specs.Meaning.{Names, unmapped}
 use Rattle.tree_cache.specs.Contracts.{Updated}
 use Rattle.incremental.specs.State.{AtomPlaces, Running}

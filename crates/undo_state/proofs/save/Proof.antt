@@ -1,13 +1,13 @@
--- `undo::save` meets its contract: its three copies go to parts of the copy that do not meet.
+-- `undo_state::save` meets its contract: its three copies go to parts of the copy that do not meet.
 -- Assumes nothing.
 use native.Mathlib.Omega.{arith}
 use borrow.Author.Needs.{needs}
 use Rattle.layout.specs.Layout.{OPEN, STACK, WRITTEN}
-use Rattle.undo.specs.Contracts.{copied-open, copied-stack, copied-marks}
+use Rattle.undo_state.specs.Contracts.{copied-open, copied-stack, copied-marks}
 use Rattle.words.proofs.Copies.{copied}
-use Rattle.undo.proofs.Copied.{saved}
-use Rattle.undo.proofs.save.Statement.{statement}
-use Rattle.undo.proofs.save.Tie as tie
+use Rattle.undo_state.proofs.Saving.{saved}
+use Rattle.undo_state.proofs.save.Statement.{statement}
+use Rattle.undo_state.proofs.save.Tie as tie
 
 mul-to : tie.Need-mul-to
 mul-to c = search needs

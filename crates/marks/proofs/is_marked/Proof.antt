@@ -1,11 +1,11 @@
--- `stack::is_marked` meets its contract: the bit of the lent part is the entry's mark.
+-- `marks::is_marked` meets its contract: the bit of the lent part is the entry's mark.
 -- Assumes nothing.
 use mathlib.Core.Path.{_∙_}
 use borrow.Author.Needs.{needs}
 use Rattle.words.specs.Words.{part}
-use Rattle.stack.proofs.Marks.{marked-part}
-use Rattle.stack.proofs.is_marked.Statement.{statement}
-use Rattle.stack.proofs.is_marked.Tie as tie
+use Rattle.marks.proofs.Bits.{marked-part}
+use Rattle.marks.proofs.is_marked.Statement.{statement}
+use Rattle.marks.proofs.is_marked.Tie as tie
 
 wide-requires : tie.Need-wide-requires
 wide-requires c κs = search needs

@@ -9,16 +9,15 @@ use native.Mathlib.Decide.{ℕ-discrete}
 use lib.Dec.{eqb}
 use lib.ListN.{length, getD, set}
 use lib.Seq.{getD-set-same, getD-set-other}
-use borrow.Author.Tests.{eq-eqb, ne-eqb, lt-ltb, le-ltb}
+use borrow.Author.Tests.{eq-eqb, ne-eqb}
 use borrow.Rule.Slice.PartMut.{putMid}
 use Rattle.words.specs.Words.{at, part}
 use Rattle.words.proofs.Words.{part-length, part-at, put-length, put-part, put-other}
 use Rattle.path.specs.Bytes.{odd}
 use Rattle.path.specs.BitSet.{bits-of}
 use Rattle.path.specs.BitSetLaws.{bits-of-at, length-bits-of}
-use Rattle.layout.specs.Layout.{STACK, WRITTEN, ENTRIES}
-use Rattle.stack.specs.Contracts.{marked-at, Marked, Pushed, PushedMarked}
-use Rattle.stack.proofs.Stacks.{stacked-same, stack-same}
+use Rattle.layout.specs.Layout.{WRITTEN, ENTRIES}
+use Rattle.marks.specs.Contracts.{marked-at, Marked}
 
 -- A mark depends on the words from WRITTEN to MOVED alone.
 pub marked-same : (w w′ : List ℕ) (x : ℕ) → x < ENTRIES → ((i : ℕ) → i < 96 → at w′ (WRITTEN + i) ≡ at w (WRITTEN + i)) → marked-at w′ x ≡ marked-at w x
@@ -63,28 +62,3 @@ module _ (w r : List ℕ) (e : ℕ) (long : 524288 ≤ length w) (small : e < EN
         low = λ k l. put-other WRITTEN 96 w r mark-fits len k (λ j m q. omega arith);
         high = λ k l. put-other WRITTEN 96 w r mark-fits len k (λ j m q. omega arith);
       }
-
--- ---- a push, and a mark where the length is not below 4
-
-module _ (w v : List ℕ) (d e len : ℕ) (p : Pushed w v d e) where
-  pub push-only : len < 4 → PushedMarked w v d e len
-  push-only h =
-      record {
-        stacked = p .stacked;
-        stack = p .stack;
-        marks = λ x l. rw (lt-ltb len 4 h) (marked-same w v x l (λ i m. p .only .high (WRITTEN + i) (omega arith)));
-        low = p .only .low;
-        high = λ k l. p .only .high k (omega arith);
-      }
-
-  module _ (w′ : List ℕ) (m : Marked v w′ e) where
-    pub push-and-mark : 4 ≤ len → PushedMarked w w′ d e len
-    push-and-mark h =
-        record {
-          stacked = stacked-same v w′ (d + 1) (p .stacked) (λ k l r. m .low k r);
-          stack = stack-same v w′ (d + 1) (λ i l. m .low (STACK + i) (omega (arith, p .stacked .deep))) ∙ p .stack;
-          marks = λ x l.
-              rw (le-ltb len 4 h) (m .marks x l ∙ ap (λ (b : Bool). eqb x e || b) (marked-same w v x l (λ i n. p .only .high (WRITTEN + i) (omega arith))));
-          low = λ k l. m .low k (omega arith) ∙ p .only .low k l;
-          high = λ k l. m .high k l ∙ p .only .high k (omega arith);
-        }

@@ -1,4 +1,4 @@
--- `stack::mark` meets its contract: the part comes back with the entry's bit set.
+-- `marks::mark` meets its contract: the part comes back with the entry's bit set.
 -- Assumes nothing.
 use mathlib.Core.Path.{_∙_}
 use native.Mathlib.Omega.{arith}
@@ -6,9 +6,9 @@ use borrow.Author.Needs.{needs}
 use Rattle.words.proofs.Words.{part-length}
 use Rattle.words.specs.Words.{part}
 use Rattle.layout.specs.Layout.{WRITTEN}
-use Rattle.stack.proofs.Marks.{marked}
-use Rattle.stack.proofs.mark.Statement.{statement}
-use Rattle.stack.proofs.mark.Tie as tie
+use Rattle.marks.proofs.Bits.{marked}
+use Rattle.marks.proofs.mark.Statement.{statement}
+use Rattle.marks.proofs.mark.Tie as tie
 
 wide-requires : tie.Need-wide-requires
 wide-requires c κs = search needs
