@@ -15,7 +15,7 @@ pub fn enter(work: &mut [u32], h: NodePtr) -> EntryIndex
     ensures { λ x. ⌜ Entered (now (work .entry)) (now (work .exit)) (h .0) (x .0) ⌝ }
 {
     if tree_cache::is_sentinel(work, h) {
-        return make_entry::meet_sentinel(work);
+        return meet_sentinel::meet_sentinel(work);
     }
     if h.is_atom() {
         return enter_node::enter_atom(work, h);

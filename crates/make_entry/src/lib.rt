@@ -1,25 +1,11 @@
-// tree_cache.rs: the entry of a sentinel, made; that of a pair, made a parent of its sides.
+// tree_cache.rs: the entry of a pair, found or made, becomes a parent of its sides.
 use layout::EntryIndex;
 ghost use mathlib.Core.Path.{_≡_};
 ghost use Prim.Native.Nat.{_+_, _<_};
 ghost use Rattle.words.specs.Words.{at};
 ghost use Rattle.layout.specs.Layout.{PAIR-COUNT, MAPS, USED, ENTRIES};
 ghost use Rattle.tree_cache.specs.Meaning.{Whole};
-ghost use Rattle.tree_cache.specs.Contracts.{sentinel-action, Made, Joined};
-
-// The first word of a sentinel's key; the second one is its own entry number.
-const SENTINEL_KEY: u32 = 0xffffffff;
-
-// A meeting with the sentinel: always a new entry, and the latest one counts.
-pub fn meet_sentinel(work: &mut [u32]) -> EntryIndex
-    requires { ⌜ (Whole (now work)) × (at (now work) USED < ENTRIES) ⌝ }
-    ensures { λ x. ⌜ Made sentinel-action (now (work .entry)) (now (work .exit)) (x .0) ⌝ }
-{
-    let used = work[layout::USED];
-    let e = insert_entry::insert(work, SENTINEL_KEY, used, 0);
-    work[layout::SENTINEL_ENTRY] = e.0 + 1;
-    e
-}
+ghost use Rattle.tree_cache.specs.Contracts.{Joined};
 
 // Pair i, which has no entry yet, whose sides have the entries l and r: its entry becomes a parent of both, and is mapped.
 pub fn join(work: &mut [u32], i: usize, l: EntryIndex, r: EntryIndex) -> EntryIndex

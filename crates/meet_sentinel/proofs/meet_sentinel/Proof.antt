@@ -1,10 +1,10 @@
--- `make_entry::meet_sentinel` meets its contract: no entry has the key with the next number.
+-- `meet_sentinel::meet_sentinel` meets its contract: no entry has the key with the next number.
 -- Assumes nothing.
 use borrow.Author.Needs.{needs}
 use Rattle.tree_cache.proofs.Meeting.{sentinel-made}
 use Rattle.tree_cache.proofs.Keys.{no-sentinel}
-use Rattle.make_entry.proofs.meet_sentinel.Statement.{statement}
-use Rattle.make_entry.proofs.meet_sentinel.Tie as tie
+use Rattle.meet_sentinel.proofs.meet_sentinel.Statement.{statement}
+use Rattle.meet_sentinel.proofs.meet_sentinel.Tie as tie
 
 slice-read-used : tie.Need-slice-read-used
 slice-read-used c = search needs
