@@ -1,4 +1,3 @@
 pub mod Rows
 pub mod Chain
-pub mod NewEntry
 pub mod Single

@@ -1,7 +1,7 @@
 -- Laws of the entries as rows: one row changed, a row looked up by its key, the parents counted.
 -- Assumes nothing.
 use Prim.Native.Nat.{ℕ, zero, suc, _+_, _*_, _≤_, _<_}
-use mathlib.Core.Path.{_≡_, refl, ap, _∙_, subst}
+use mathlib.Core.Path.{_≡_, refl, ap, _∙_}
 use mathlib.Core.Bool.{Bool, true, false, cond, _&&_}
 use mathlib.Core.List.{List, _∷_}
 use mathlib.Core.Option.{Option, none, some}
@@ -101,25 +101,6 @@ find-some (suc n) f l r zero h a b m = rw (eq-eqb (f 0 .left) l a, eq-eqb (f 0 .
 find-some (suc n) f l r (suc e) h a b m =
     rw (both (f 0 .left) l (f 0 .right) r (m 0 (omega arith)), find-some n (λ k. f (suc k)) l r e (omega arith) a b (λ k q. m (suc k) (omega arith)))
 
-later-none : (o : Option ℕ) → later o ≡ none → o ≡ none
-later-none none q = refl
-later-none (some e) q = absurd (let z : _≡_ {A = ℕ} 0 1 = cc in omega arith)
-
--- Where nothing is found, no row has the key.
-pub none-missing : (n : ℕ) (f : ℕ → Row) (l r : ℕ) → find-row l r (tabulate n f) ≡ none → Missing f l r n
-unfolding tabulate
-none-missing zero f l r q k h a b = not-suc-le-zero h
-none-missing (suc n) f l r q zero h a b =
-    let z : _≡_ {A = Option ℕ} (some 0) none = rw (eq-eqb (f 0 .left) l a, eq-eqb (f 0 .right) r b) at q in
-    let y : _≡_ {A = ℕ} 0 1 = cc in omega arith
-none-missing (suc n) f l r q (suc k) h a b =
-    go (eqb (f 0 .left) l && eqb (f 0 .right) r) (find-row l r (tabulate n (λ j. f (suc j)))) q
-    (λ p. none-missing n (λ j. f (suc j)) l r p k (omega arith) a b)
-  where
-    go : (t : Bool) (o : Option ℕ) → cond t (some 0) (later o) ≡ none → (o ≡ none → ⊥) → ⊥
-    go true o p g = let y : _≡_ {A = ℕ} 0 1 = cc in omega arith
-    go false o p g = g (later-none o p)
-
 -- What is found is there.
 pub find-low : (n : ℕ) (f : ℕ → Row) (l r e : ℕ) → find-row l r (tabulate n f) ≡ some e → e < n
 unfolding tabulate
@@ -131,23 +112,3 @@ find-low (suc n) f l r e q =
     go true o p f = let y : 0 ≡ e = cc in omega arith
     go false none p f = absurd (let z : _≡_ {A = ℕ} 0 1 = cc in omega arith)
     go false (some d) p f = let y : suc d ≡ e = cc in omega (arith, f d refl)
-
--- What is found has the key.
-pub find-has : (n : ℕ) (f : ℕ → Row) (l r e : ℕ) → find-row l r (tabulate n f) ≡ some e → (f e .left ≡ l) × (f e .right ≡ r)
-unfolding tabulate
-find-has zero f l r e q = absurd (let z : _≡_ {A = ℕ} 0 1 = cc in omega arith)
-find-has (suc n) f l r e q =
-    go (eqb (f 0 .left) l) (eqb (f 0 .right) r) (find-row l r (tabulate n (λ j. f (suc j)))) refl refl q (λ d. find-has n (λ j. f (suc j)) l r d)
-  where
-    Has : ℕ → Type 0
-    Has d = (f d .left ≡ l) × (f d .right ≡ r)
-
-    rest : (o : Option ℕ) → later o ≡ some e → ((d : ℕ) → o ≡ some d → Has (suc d)) → Has e
-    rest none p g = absurd (let z : _≡_ {A = ℕ} 0 1 = cc in omega arith)
-    rest (some d) p g = let y : suc d ≡ e = cc in subst Has y (g d refl)
-
-    go : (a b : Bool) (o : Option ℕ) → eqb (f 0 .left) l ≡ a → eqb (f 0 .right) r ≡ b → cond (a && b) (some 0) (later o) ≡ some e
-        → ((d : ℕ) → o ≡ some d → Has (suc d)) → Has e
-    go true true o x y p g = let z : 0 ≡ e = cc in subst Has z (eqb-true (f 0 .left) l x, eqb-true (f 0 .right) r y)
-    go true false o x y p g = rest o p g
-    go false b o x y p g = rest o p g

@@ -2,12 +2,11 @@
 use layout::EntryIndex;
 use words::wide;
 ghost use mathlib.Core.Path.{_≡_};
-ghost use mathlib.Core.Option.{none};
 ghost use Prim.Native.Nat.{_+_, _^_, _≤_, _<_};
 ghost use Rattle.words.specs.Words.{at};
-ghost use Rattle.layout.specs.Layout.{USED, COUNTS, ENTRIES};
+ghost use Rattle.layout.specs.Layout.{USED, COUNTS};
 ghost use Rattle.layout.specs.Rows.{length-of, rows-of, slot-of, Sound};
-ghost use Rattle.cache_entries.specs.Contracts.{find-row, option-of, Inserted, Interned};
+ghost use Rattle.cache_entries.specs.Contracts.{find-row, option-of};
 
 // A word as a half of a length.
 fn long(x: u32) -> u64
@@ -37,7 +36,7 @@ pub fn length_of(work: &[u32], e: EntryIndex) -> u64
 }
 
 // The slot of a key.
-fn slot_of(left: u32, right: u32) -> usize
+pub fn slot_of(left: u32, right: u32) -> usize
     ensures { λ s. ⌜ s ≡ slot-of left right ⌝ }
 {
     wide(std::num::wrapping_add_u32(left, right) % 4096)
@@ -66,34 +65,4 @@ pub fn find_key(work: &[u32], left: u32, right: u32) -> Found
         head = work[layout::NEXT + e];
     }
     Found::Nothing
-}
-
-// A new entry with this key, which none has yet, and no parents.
-pub fn insert(work: &mut [u32], left: u32, right: u32, len: u64) -> EntryIndex
-    requires { ⌜ (Sound (now work)) × (at (now work) USED < ENTRIES) × (find-row left right (rows-of (now work)) ≡ none) ⌝ }
-    ensures { λ x. ⌜ Inserted (now (work .entry)) (now (work .exit)) left right len (x .0) ⌝ }
-{
-    let slot = slot_of(left, right);
-    let used = work[layout::USED];
-    let e = wide(used);
-    let head = work[layout::HEADS + slot];
-    work[layout::LEFT + e] = left;
-    work[layout::RIGHT + e] = right;
-    work[layout::LOW + e] = (len % 4294967296) as u32;
-    work[layout::HIGH + e] = (len / 4294967296) as u32;
-    work[layout::NEXT + e] = head;
-    work[layout::HEADS + slot] = used + 1;
-    work[layout::USED] = used + 1;
-    EntryIndex(used)
-}
-
-// The entry with this key, found or made.
-pub fn find_or_add(work: &mut [u32], left: u32, right: u32, len: u64) -> EntryIndex
-    requires { ⌜ (Sound (now work)) × (at (now work) USED < ENTRIES) ⌝ }
-    ensures { λ x. ⌜ Interned (now (work .entry)) (now (work .exit)) left right len (x .0) ⌝ }
-{
-    match find_key(work, left, right) {
-        Found::At(e) => e,
-        Found::Nothing => insert(work, left, right, len),
-    }
 }

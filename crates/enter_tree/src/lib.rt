@@ -13,10 +13,10 @@ pub fn enter(work: &mut [u32], h: NodePtr) -> EntryIndex
     ensures { λ x. ⌜ Entered (now (work .entry)) (now (work .exit)) (h .0) (x .0) ⌝ }
 {
     if tree_cache::is_sentinel(work, h) {
-        return make_entry::meet_sentinel(work);
+        return meet_sentinel::meet_sentinel(work);
     }
     if h.is_atom() {
-        return make_entry::enter_atom(work, h);
+        return enter_node::enter_atom(work, h);
     }
     let i = wide(h.index());
     let k = tree_cache::map_of(work, i);

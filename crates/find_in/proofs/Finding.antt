@@ -21,7 +21,7 @@ use Rattle.search_list.specs.State.{parents-of-all, path-at}
 use Rattle.search_list.specs.Steps.{Kept}
 use Rattle.find_path.specs.Answers.{path-of, FoundPath}
 use Rattle.find_path.specs.Answers as found
-use Rattle.stack.specs.Contracts.{marked-at}
+use Rattle.marks.specs.Contracts.{marked-at}
 use Rattle.find_in.specs.Contracts.{LengthOf, steps-of, Ready, FindsIn}
 use Rattle.find_in.proofs.Lookup.{parents-all}
 

@@ -16,7 +16,7 @@ use Rattle.find_path.specs.declared.Path.{Path}
 use Rattle.find_path.specs.declared.Path.the-variants.{At, NoPath}
 use Rattle.search_list.specs.State.{path-at, Readable}
 use Rattle.search_list.specs.Steps.{Kept}
-use Rattle.stack.specs.Contracts.{marked-at}
+use Rattle.marks.specs.Contracts.{marked-at}
 use Rattle.tree_cache.specs.Meaning.{Tables, Holds}
 
 -- n is the length of entry e.

@@ -42,7 +42,7 @@ pub fn find(work: &mut [u32], node: NodePtr, e: EntryIndex, depth: usize) -> Pat
     if node.same(NodePtr::NIL) {
         return Path::NoPath;
     }
-    if !stack::is_marked(work, e) {
+    if !marks::is_marked(work, e) {
         return Path::NoPath;
     }
     let len = length_at(work, e);

@@ -18,7 +18,7 @@ use Rattle.serializer.specs.Loop.{turn-done, turn-close}
 use Rattle.layout.specs.Layout.{PAIRS, PAIR-COUNT, OPEN, WRITTEN}
 use Rattle.layout.specs.Rows.{stack-of}
 use Rattle.stack.specs.Contracts.{PoppedTwo}
-use Rattle.stack.proofs.Marks.{marked-same}
+use Rattle.marks.proofs.Bits.{marked-same}
 use Rattle.tree_cache.specs.Meaning.{Tables, Names, Holds, Whole}
 use Rattle.tree_cache.proofs.Entering.{names-grow}
 use Rattle.writer_place.specs.declared.Place.{Place}

@@ -16,7 +16,7 @@ use Rattle.serializer.specs.Writer.{Todo, parse, close, Written}
 use Rattle.layout.specs.Layout.{PAIRS, PAIR-COUNT, OPEN, STACK, WRITTEN}
 use Rattle.stack.specs.Contracts.{Stacked}
 use Rattle.stack.proofs.Stacks.{stacked-same, stack-same}
-use Rattle.stack.proofs.Marks.{marked-same}
+use Rattle.marks.proofs.Bits.{marked-same}
 use Rattle.tree_cache.specs.Meaning.{Tables, Whole}
 use Rattle.incremental.specs.State.{left-to-write, todo-of, rights-left, Standing, Writes, WriterOnly}
 use Rattle.incremental.proofs.Frames.{whole-stays, counts-stay, holds-stay, pairs-stay, todo-same, rights-same, rights-more}

@@ -22,7 +22,7 @@ use Rattle.layout.specs.Rows.{stack-of}
 use Rattle.find_path.specs.declared.Path.{Path}
 use Rattle.search_list.specs.Steps.{Kept}
 use Rattle.stack.proofs.Stacks.{stacked-same, stack-same}
-use Rattle.stack.proofs.Marks.{marked-same}
+use Rattle.marks.proofs.Bits.{marked-same}
 use Rattle.tree_cache.specs.Meaning.{Tables, Names, Whole, Holds}
 use Rattle.tree_cache.proofs.Entering.{sentinel-is}
 use Rattle.node_entry.specs.Contracts.{EntryOf}

@@ -30,7 +30,8 @@ use Rattle.layout.specs.Layout.{PAIR-COUNT, ENTRIES}
 use Rattle.find_path.specs.declared.Path.{Path}
 use Rattle.find_path.specs.declared.Path.the-variants.{At, NoPath}
 use Rattle.search_list.specs.State.{path-at}
-use Rattle.stack.specs.Contracts.{PushedMarked, marked-at}
+use Rattle.marks.specs.Contracts.{marked-at}
+use Rattle.stack.specs.Contracts.{PushedMarked}
 use Rattle.write_item.specs.declared.Put.{Put}
 use Rattle.write_item.specs.declared.Put.the-variants as item
 use Rattle.write_item.specs.Answers.{written}

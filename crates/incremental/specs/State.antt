@@ -14,7 +14,8 @@ use Rattle.serializer.specs.Items.{size-of, output}
 use Rattle.serializer.specs.Writer.{Todo, parse, close, Written}
 use Rattle.layout.specs.Layout.{ATOMS, PAIRS, ATOM-COUNT, PAIR-COUNT, OPEN, MOVED, SEEN, COPIES, ENTRIES}
 use Rattle.layout.specs.Rows.{stack-of, all-counts}
-use Rattle.stack.specs.Contracts.{Stacked, marked-at}
+use Rattle.marks.specs.Contracts.{marked-at}
+use Rattle.stack.specs.Contracts.{Stacked}
 use Rattle.tree_cache.specs.Meaning.{Holds, Whole}
 
 -- ---- the file's atoms lie in the file

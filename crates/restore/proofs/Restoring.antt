@@ -20,7 +20,7 @@ use Rattle.serializer.specs.Writer.{Todo, Written, Session}
 use Rattle.serializer.specs.Steps.{UndoState, or-known, restored, Run, with-word, word-of, run-steps}
 use Rattle.layout.specs.Layout.{PAIR-COUNT, OPEN, STACK, WRITTEN, MAPS, SENTINEL-ENTRY, USED, SEEN}
 use Rattle.stack.proofs.Stacks.{stack-same, stacked-same}
-use Rattle.stack.proofs.Marks.{marked-same}
+use Rattle.marks.proofs.Bits.{marked-same}
 use Rattle.tree_cache.specs.Meaning.{Whole, Holds, entry-or-none}
 use Rattle.tree_cache.proofs.Frames.{tables-kept}
 use Rattle.incremental.specs.State.{todo-of, Running, Writes}

@@ -7,7 +7,8 @@ use Rattle.words.specs.Words.{at}
 use Rattle.checkpoints.specs.declared.Checkpoint.{Checkpoint}
 use Rattle.layout.specs.Layout.{ENTRIES, DEPTH}
 use Rattle.stack.specs.Contracts.{Stacked}
-use Rattle.undo.specs.Contracts.{copied-stack, Restored}
+use Rattle.undo_state.specs.Contracts.{copied-stack}
+use Rattle.undo.specs.Contracts.{Restored}
 use Rattle.step_records.specs.Stored.{with-entry}
 
 -- What a restore takes: copy n and record r, on a stack of so many entries.

@@ -19,7 +19,7 @@ use Rattle.session_file.specs.declared.Checked.{Checked}
 use Rattle.serializer.specs.Writer.{start}
 use Rattle.layout.specs.Layout.{TOPS, WRITTEN, MAPS, PARENTS, ENTRIES}
 use Rattle.layout.specs.Rows.{stack-of}
-use Rattle.stack.specs.Contracts.{marked-at}
+use Rattle.marks.specs.Contracts.{marked-at}
 use Rattle.stack.proofs.Stacks.{stacked-none}
 use Rattle.tree_cache.specs.Meaning.{Handles}
 use Rattle.tree_cache.proofs.Fresh.{Sorted, tables-handles, fresh-whole, fresh-holds, fresh-room, fresh-counts}

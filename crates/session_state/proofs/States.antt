@@ -21,7 +21,7 @@ use Rattle.serializer.specs.Writer.{Session}
 use Rattle.serializer.specs.Trees.{nth}
 use Rattle.serializer.specs.Steps.{UndoState, word-of, with-word, run-steps}
 use Rattle.layout.specs.Layout.{OPEN, USED, COPIES, COPY}
-use Rattle.undo.specs.Contracts.{copied-open, copied-stack, copied-marks}
+use Rattle.undo_state.specs.Contracts.{copied-open, copied-stack, copied-marks}
 use Rattle.incremental.specs.State.{todo-of}
 use Rattle.progress.specs.declared.Progress.{Progress}
 use Rattle.step_records.specs.Stored.{bit}

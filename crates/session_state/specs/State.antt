@@ -19,7 +19,7 @@ use Rattle.serializer.specs.Trees.{nth}
 use Rattle.serializer.specs.Steps.{UndoState, undo-state, Run, run-steps}
 use Rattle.layout.specs.Layout.{PAIR-COUNT, OPEN, STACK, WRITTEN, SENTINEL-ENTRY, USED, ENTRIES}
 use Rattle.layout.specs.Rows.{all-counts}
-use Rattle.undo.specs.Contracts.{copied-open, copied-stack, copied-marks}
+use Rattle.undo_state.specs.Contracts.{copied-open, copied-stack, copied-marks}
 use Rattle.tree_cache.specs.Meaning.{Tables, unmapped}
 use Rattle.incremental.specs.State.{AtomPlaces, AtomsThere, todo-of, Running, Writes}
 use Rattle.progress.specs.declared.Progress.{Progress}

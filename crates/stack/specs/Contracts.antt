@@ -1,13 +1,13 @@
--- What each function on the stack and the marks leaves, and which words are as they were.
-use Prim.Native.Nat.{ℕ, _+_, _-_, _/_, _%_, _^_, _≤_, _<_}
+-- What each function on the stack leaves, and which words are as they were.
+use Prim.Native.Nat.{ℕ, _+_, _-_, _≤_, _<_}
 use mathlib.Core.Path.{_≡_}
-use mathlib.Core.Bool.{Bool, cond, _||_}
+use mathlib.Core.Bool.{cond, _||_}
 use mathlib.Core.List.{List, _∷_}
 use lib.Dec.{ltb, eqb}
 use Rattle.words.specs.Words.{at}
-use Rattle.path.specs.Bytes.{odd}
 use Rattle.layout.specs.Layout.{STACK, BELOW, TOPS, WRITTEN, MOVED, ENTRIES, DEPTH}
 use Rattle.layout.specs.Rows.{prev, stack-of}
+use Rattle.marks.specs.Contracts.{marked-at}
 
 -- ---- the stack
 
@@ -44,17 +44,7 @@ pub record PoppedTwo (w w′ : List ℕ) (d : ℕ) : Type 0 where
   pub stack : stack-of w d ≡ at w (STACK + (d - 1)) ∷ at w (STACK + (d - 2)) ∷ stack-of w′ (d - 2)
   pub only : StackOnly w w′
 
--- ---- the marks
-
--- Whether entry x is marked written: bit x of the words from WRITTEN on, 32 to a word, the lowest first.
-unfoldable pub marked-at : List ℕ → ℕ → Bool
-marked-at w x = odd (at w (WRITTEN + x / 32) / 2 ^ (x % 32))
-
--- Entry e is marked.
-pub record Marked (w w′ : List ℕ) (e : ℕ) : Type 0 where
-  pub marks : (x : ℕ) → x < ENTRIES → marked-at w′ x ≡ (eqb x e || marked-at w x)
-  pub low : (k : ℕ) → k < WRITTEN → at w′ k ≡ at w k
-  pub high : (k : ℕ) → MOVED ≤ k → at w′ k ≡ at w k
+-- ---- the stack and the marks
 
 -- Entry e of length len goes on top of d entries, and is marked where its length is not below 4.
 pub record PushedMarked (w w′ : List ℕ) (d e len : ℕ) : Type 0 where

@@ -1,17 +1,15 @@
-// The stack of tree_cache.rs and the marks of the entries written, in work.
+// The stack of tree_cache.rs, in work.
 use layout::BELOW;
 use layout::EntryIndex;
-use layout::MOVED;
 use layout::STACK;
 use layout::TOPS;
-use layout::WRITTEN;
 use words::wide;
 ghost use mathlib.Core.Path.{_≡_};
-ghost use Prim.Native.Nat.{ℕ, _+_, _≤_, _<_};
+ghost use Prim.Native.Nat.{_+_, _≤_, _<_};
 ghost use lib.ListN.{length};
 ghost use Rattle.words.specs.Words.{at};
-ghost use Rattle.layout.specs.Layout.{STACK, WRITTEN, ENTRIES, DEPTH};
-ghost use Rattle.stack.specs.Contracts.{Stacked, Pushed, Popped, PoppedTwo, marked-at, Marked, PushedMarked};
+ghost use Rattle.layout.specs.Layout.{STACK, ENTRIES, DEPTH};
+ghost use Rattle.stack.specs.Contracts.{Stacked, Pushed, Popped, PoppedTwo, PushedMarked};
 
 // An entry is marked written only from this length on.
 const MIN_SERIALIZED_LENGTH: u64 = 4;
@@ -55,26 +53,6 @@ pub fn pop2(work: &mut [u32], depth: usize)
     pop(work, depth - 1);
 }
 
-// Whether entry e is marked written.
-pub fn is_marked(work: &[u32], e: EntryIndex) -> bool
-    requires { ⌜ (524288 ≤ length (now work)) × (e .0 < ENTRIES) ⌝ }
-    ensures { λ r. ⌜ r ≡ marked-at (now (work .entry)) (e .0) ⌝ }
-{
-    let x = wide(e.0);
-    // A local: with a literal there the proof takes longer.
-    let from = WRITTEN;
-    bitset::is_visited(&work[from..MOVED], x)
-}
-
-// Marks entry e written.
-pub fn mark(work: &mut [u32], e: EntryIndex)
-    requires { ⌜ (524288 ≤ length (now work)) × (e .0 < ENTRIES) ⌝ }
-    ensures { λ _. ⌜ Marked (now (work .entry)) (now (work .exit)) (e .0) ⌝ }
-{
-    let x = wide(e.0);
-    bitset::visit(&mut work[WRITTEN..MOVED], x);
-}
-
 // Entry e, of length `len`, goes on top of the `depth` entries that are there, and is marked written unless it is too short to be referred to.
 pub fn push_marked(work: &mut [u32], depth: usize, e: EntryIndex, len: u64)
     requires { ⌜ (524288 ≤ length (now work)) × (Stacked (now work) depth) × (depth < DEPTH) × (e .0 < ENTRIES) ⌝ }
@@ -82,6 +60,6 @@ pub fn push_marked(work: &mut [u32], depth: usize, e: EntryIndex, len: u64)
 {
     push(work, depth, e);
     if len >= MIN_SERIALIZED_LENGTH {
-        mark(work, e);
+        marks::mark(work, e);
     }
 }

@@ -26,9 +26,9 @@ use Rattle.serializer.specs.Steps.{UndoState, undo-state, room-in, Run, after-a
 use Rattle.serializer.specs.FindPath.{find-in}
 use Rattle.layout.specs.Layout.{ATOM-COUNT, PAIR-COUNT, OPEN, STACK, WRITTEN, MOVED, MAPS, SENTINEL-ENTRY, USED, SEEN, COPIES, ENTRIES}
 use Rattle.layout.specs.Rows.{all-counts}
-use Rattle.undo.specs.Contracts.{copied-open, copied-stack, copied-marks, Saved}
+use Rattle.undo_state.specs.Contracts.{copied-open, copied-stack, copied-marks, Saved}
 use Rattle.stack.proofs.Stacks.{stack-same, stacked-same}
-use Rattle.stack.proofs.Marks.{marked-same}
+use Rattle.marks.proofs.Bits.{marked-same}
 use Rattle.tree_cache.proofs.Frames.{tables-kept}
 use Rattle.tree_cache.specs.Meaning.{Tables, Names, Whole, Holds, entry-or-none, unmapped}
 use Rattle.tree_cache.specs.Contracts.{Updated}

@@ -7,7 +7,7 @@ use Rattle.words.specs.Words.{at}
 use Rattle.allocator.specs.declared.NodePtr.{NodePtr}
 use Rattle.layout.specs.Layout.{PAIR-COUNT, USED, ENTRIES}
 use Rattle.layout.specs.Rows.{all-counts}
-use Rattle.undo.specs.Contracts.{Saved}
+use Rattle.undo_state.specs.Contracts.{Saved}
 use Rattle.tree_cache.specs.Meaning.{Names, unmapped}
 use Rattle.tree_cache.specs.Contracts.{Updated}
 use Rattle.incremental.specs.State.{AtomPlaces, Running}

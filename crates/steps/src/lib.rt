@@ -16,7 +16,7 @@ fn add(file: &[u8], work: &mut [u32], output: &mut [u8], p: Progress, node: Node
     requires { ⌜ Adding (now file) (now work) (now output) p (node .0) ⌝ }
     ensures { λ q. ⌜ Added (now (file .entry)) (now (work .entry)) (now (output .entry)) (now (work .exit)) (now (output .exit)) p node q ⌝ }
 {
-    undo::save(work, p.adds, p.opens, p.depth);
+    undo_state::save(work, p.adds, p.opens, p.depth);
     cache_update::update(work, node);
     let place = Place {
         opens: p.opens,

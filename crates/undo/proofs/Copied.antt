@@ -1,4 +1,4 @@
--- Laws of the copies of undo: what the copies of a save and of a restore leave together.
+-- Laws of the copies of undo: what the copies of a restore leave together.
 -- Assumes nothing.
 use mathlib.Core.Path.{_≡_, _∙_}
 use mathlib.Core.List.{List}
@@ -6,22 +6,10 @@ use Prim.Native.Nat.{ℕ, _+_, _≤_, _<_}
 use native.Mathlib.Omega.{arith}
 use Rattle.words.specs.Words.{at}
 use Rattle.words.proofs.Copies.{Copied}
-use Rattle.layout.specs.Layout.{OPEN, STACK, WRITTEN, MOVED, COPIES, ENTRIES, DEPTH}
-use Rattle.undo.specs.Contracts.{PoppedAll, PushedAll, copied-open, copied-stack, copied-marks, Saved, Restored}
+use Rattle.layout.specs.Layout.{OPEN, STACK, WRITTEN, MOVED, COPIES, ENTRIES}
 use Rattle.stack.proofs.Stacks.{stacked-same}
-
--- The three copies of a save.
-pub saved : (w u v w′ : List ℕ) (k opens d : ℕ) → opens ≤ 4096 → d ≤ DEPTH
-    → Copied w u OPEN (copied-open k) opens → Copied u v STACK (copied-stack k) d → Copied v w′ WRITTEN (copied-marks k) 96 → Saved w w′ k opens d
-saved w u v w′ k opens d short deep a b c =
-    record {
-      open-pairs = λ i l. c .other (copied-open k + i) (λ q. omega arith) ∙ b .other (copied-open k + i) (λ q. omega arith) ∙ a .here i l;
-      places = λ i l.
-          c .other (copied-stack k + i) (λ q. omega arith) ∙ b .here i l ∙ a .other (STACK + i) (λ q. omega arith);
-      marks = λ i l. c .here i l ∙ b .other (WRITTEN + i) (λ q. omega arith) ∙ a .other (WRITTEN + i) (λ q. omega arith);
-      low = λ j l. c .other j (λ q. omega arith) ∙ b .other j (λ q. omega arith) ∙ a .other j (λ q. omega arith);
-      high = λ j l. c .other j (λ q. omega arith) ∙ b .other j (λ q. omega arith) ∙ a .other j (λ q. omega arith);
-    }
+use Rattle.undo_state.specs.Contracts.{copied-open, copied-stack, copied-marks}
+use Rattle.undo.specs.Contracts.{PoppedAll, PushedAll, Restored}
 
 -- The present stack goes, the copy's is pushed, and open pairs and marks are copied back.
 module _ (w t u v w′ : List ℕ) (k opens d : ℕ) (short : opens ≤ 4096)

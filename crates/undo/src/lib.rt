@@ -1,35 +1,19 @@
-// incremental.rs: the copies of undo in work.
+// incremental.rs: a copy of undo in work, restored.
 use layout::COPIES;
 use layout::COPY;
 use layout::EntryIndex;
 use layout::OPEN;
-use layout::STACK;
 use layout::WRITTEN;
+use undo_state::COPIED_MARKS;
+use undo_state::COPIED_STACK;
+use undo_state::MARKS;
 ghost use Prim.Native.Nat.{ℕ, _+_, _≤_, _<_};
 ghost use lib.ListN.{length};
 ghost use Rattle.words.specs.Words.{at};
 ghost use Rattle.layout.specs.Layout.{WRITTEN, ENTRIES, DEPTH};
 ghost use Rattle.stack.specs.Contracts.{Stacked};
-ghost use Rattle.undo.specs.Contracts.{PoppedAll, PushedAll, copied-stack, Saved, Restored};
-
-// Where the stack and the marks lie in a copy of undo, after the open pairs.
-const COPIED_STACK: usize = 4096;
-
-const COPIED_MARKS: usize = 8193;
-
-// The words of the marks.
-const MARKS: usize = 96;
-
-// Copy k of undo gets the first `opens` open pairs, the `depth` entries of the stack, and the marks.
-pub fn save(work: &mut [u32], k: usize, opens: usize, depth: usize)
-    requires { ⌜ (524288 ≤ length (now work)) × (k < 16) × (opens ≤ 4096) × (depth ≤ DEPTH) ⌝ }
-    ensures { λ _. ⌜ Saved (now (work .entry)) (now (work .exit)) k opens depth ⌝ }
-{
-    let to = COPIES + k * COPY;
-    slices::copy_within(work, OPEN, to, opens);
-    slices::copy_within(work, STACK, to + COPIED_STACK, depth);
-    slices::copy_within(work, WRITTEN, to + COPIED_MARKS, MARKS);
-}
+ghost use Rattle.undo_state.specs.Contracts.{copied-stack};
+ghost use Rattle.undo.specs.Contracts.{PoppedAll, PushedAll, Restored};
 
 // All `depth` entries go.
 fn pop_all(work: &mut [u32], depth: usize)

@@ -16,12 +16,12 @@ use Rattle.tree_cache.proofs.Entering.{pair-low, sentinel-entered, atom-entered
 use Rattle.enter_tree.proofs.enter.Reads as enter
 use Rattle.enter_tree.proofs.enter.Kinds as enter-kinds
 use Rattle.enter_tree.proofs.+enter.Lts-enter as enter-lts
-use Rattle.make_entry.proofs.enter_atom.Reads as enter-atom-reads
+use Rattle.enter_node.proofs.enter_atom.Reads as enter-atom-reads
 use Rattle.tree_cache.proofs.is_sentinel.Reads as is-sentinel-reads
 use Rattle.make_entry.proofs.join.Reads as join-reads
 use Rattle.tree_cache.proofs.left_of.Reads as left-of-reads
 use Rattle.tree_cache.proofs.map_of.Reads as map-of-reads
-use Rattle.make_entry.proofs.meet_sentinel.Reads as meet-sentinel-reads
+use Rattle.meet_sentinel.proofs.meet_sentinel.Reads as meet-sentinel-reads
 use Rattle.tree_cache.proofs.right_of.Reads as right-of-reads
 use Rattle.words.proofs.wide.Reads as wide-reads
 use Rattle.enter_tree.proofs.+enter.{statement}

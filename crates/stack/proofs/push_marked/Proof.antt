@@ -1,7 +1,7 @@
 -- `stack::push_marked` meets its contract, by those of `push` and `mark`.
 -- Assumes nothing.
 use borrow.Author.Needs.{needs}
-use Rattle.stack.proofs.Marks.{push-only, push-and-mark}
+use Rattle.stack.proofs.Marking.{push-only, push-and-mark}
 use Rattle.stack.proofs.push_marked.Statement.{statement}
 use Rattle.stack.proofs.push_marked.Tie as tie
 

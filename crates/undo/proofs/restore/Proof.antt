@@ -3,7 +3,7 @@
 use native.Mathlib.Omega.{arith}
 use borrow.Author.Needs.{needs}
 use Rattle.layout.specs.Layout.{OPEN, WRITTEN}
-use Rattle.undo.specs.Contracts.{copied-open, copied-marks}
+use Rattle.undo_state.specs.Contracts.{copied-open, copied-marks}
 use Rattle.words.proofs.Copies.{copied}
 use Rattle.undo.proofs.Copied.{restored, entries-still}
 use Rattle.undo.proofs.restore.Statement.{statement}

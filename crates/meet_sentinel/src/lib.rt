@@ -1,0 +1,21 @@
+// tree_cache.rs: the entry of a sentinel, made.
+use layout::EntryIndex;
+ghost use Prim.Native.Nat.{_<_};
+ghost use Rattle.words.specs.Words.{at};
+ghost use Rattle.layout.specs.Layout.{USED, ENTRIES};
+ghost use Rattle.tree_cache.specs.Meaning.{Whole};
+ghost use Rattle.tree_cache.specs.Contracts.{sentinel-action, Made};
+
+// The first word of a sentinel's key; the second one is its own entry number.
+const SENTINEL_KEY: u32 = 0xffffffff;
+
+// A meeting with the sentinel: always a new entry, and the latest one counts.
+pub fn meet_sentinel(work: &mut [u32]) -> EntryIndex
+    requires { ⌜ (Whole (now work)) × (at (now work) USED < ENTRIES) ⌝ }
+    ensures { λ x. ⌜ Made sentinel-action (now (work .entry)) (now (work .exit)) (x .0) ⌝ }
+{
+    let used = work[layout::USED];
+    let e = insert_entry::insert(work, SENTINEL_KEY, used, 0);
+    work[layout::SENTINEL_ENTRY] = e.0 + 1;
+    e
+}
