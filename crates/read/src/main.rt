@@ -4,18 +4,30 @@ mod print;
 use libc::STDIN_FILENO;
 use print::Row;
 
-// The answer, the pairs, the listed atoms and the atom bytes; and the question that got no.
+// The answer, the pairs, the listed atoms and the atom bytes; and the question that got no. The parameters' types have the arrays'
+// lengths, so that no zeros are counted.
+fn report_with(
+    input: &[u8],
+    work: &mut [u32; 524288],
+    pairs: &mut [u32; 262144],
+    atoms: &mut [u32; 131072],
+    bytes: &mut [u8; 65536],
+) {
+    let a = de_br::nikvoldra_read(input, work, pairs, atoms, bytes);
+    print::answer(a);
+    print::rows(Row::Pair, pairs, a.pairs);
+    print::rows(Row::Atom, atoms, a.atoms);
+    print::hex(bytes, a.bytes);
+    print::refusal(a.number);
+}
+
+// The same, with arrays of its own.
 fn report(input: &[u8]) {
     let mut work = [0u32; 524288];
     let mut pairs = [0u32; 262144];
     let mut atoms = [0u32; 131072];
     let mut bytes = [0u8; 65536];
-    let a = de_br::nikvoldra_read(input, &mut work, &mut pairs, &mut atoms, &mut bytes);
-    print::answer(a);
-    print::rows(Row::Pair, &pairs, a.pairs);
-    print::rows(Row::Atom, &atoms, a.atoms);
-    print::hex(&bytes, a.bytes);
-    print::refusal(a.number);
+    report_with(input, &mut work, &mut pairs, &mut atoms, &mut bytes);
 }
 
 // A read of no bytes first, which fails where nothing can be read, as from a directory.

@@ -16,15 +16,27 @@ fn run(file: &[u8], work: &mut [u32], words: &mut [u32], output: &mut [u8]) -> S
     session_call::nikvoldra_session(file, work, words, &mut checkpoints, output)
 }
 
-// A line for each finished step, the output in hexadecimal or item by item, and the number of the question that got no.
+// A line for each finished step, the output in hexadecimal or item by item, and the number of the question that got no. The parameters'
+// types have the arrays' lengths, so that no zeros are counted.
+fn report_with(
+    file: &[u8],
+    by_items: bool,
+    work: &mut [u32; 524288],
+    words: &mut [u32; 1024],
+    output: &mut [u8; 65535],
+) {
+    let a = run(file, work, words, output);
+    print::steps(words, a.steps);
+    items::output(output, a.size, by_items);
+    print::refusal(a.number);
+}
+
+// The same, with arrays of its own.
 fn report(file: &[u8], by_items: bool) {
     let mut work = [0u32; 524288];
     let mut words = [0u32; 1024];
     let mut output = [0u8; 65535];
-    let a = run(file, &mut work, &mut words, &mut output);
-    print::steps(&words, a.steps);
-    items::output(&output, a.size, by_items);
-    print::refusal(a.number);
+    report_with(file, by_items, &mut work, &mut words, &mut output);
 }
 
 // A read of no bytes first, which fails where nothing can be read, as from a directory.
