@@ -19,7 +19,7 @@ fn close_pair(work: &mut [u32], depth: usize, i: usize)
     requires { ⌜ (Whole (now work)) × (Stacked (now work) depth) × (2 ≤ depth) × (i < at (now work) PAIR-COUNT) ⌝ }
     ensures { λ _. ⌜ Closes (now (work .entry)) (now (work .exit)) depth i ⌝ }
 {
-    stack::pop2(work, depth);
+    stack_pop::pop2(work, depth);
     let e = node_entry::pair_entry(work, i);
     let len = find_in::length_at(work, e);
     stack::push_marked(work, depth - 2, e, len);

@@ -22,7 +22,7 @@ fn pop_all(work: &mut [u32], depth: usize)
 {
     let mut d = depth;
     while d > 0 {
-        stack::pop(work, d);
+        stack_pop::pop(work, d);
         d -= 1;
     }
 }

@@ -1,9 +1,9 @@
--- `stack::pop` meets its contract: its store takes the top off TOPS.
+-- `stack_pop::pop` meets its contract: its store takes the top off TOPS.
 -- Assumes nothing.
 use borrow.Author.Needs.{needs}
-use Rattle.stack.proofs.Stacks.{popped}
-use Rattle.stack.proofs.pop.Statement.{statement}
-use Rattle.stack.proofs.pop.Tie as tie
+use Rattle.stack_pop.proofs.Popping.{popped}
+use Rattle.stack_pop.proofs.pop.Statement.{statement}
+use Rattle.stack_pop.proofs.pop.Tie as tie
 
 sub-i : tie.Need-sub-i
 sub-i c = search needs

@@ -1,8 +1,8 @@
--- `stack::entry_at` meets its contract: what a sound stack holds is an entry.
+-- `stack_pop::entry_at` meets its contract: what a sound stack holds is an entry.
 -- Assumes nothing.
 use borrow.Author.Needs.{needs}
-use Rattle.stack.proofs.entry_at.Statement.{statement}
-use Rattle.stack.proofs.entry_at.Tie as tie
+use Rattle.stack_pop.proofs.entry_at.Statement.{statement}
+use Rattle.stack_pop.proofs.entry_at.Tie as tie
 
 add-wide : tie.Need-add-wide
 add-wide c = search needs

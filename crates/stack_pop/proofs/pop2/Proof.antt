@@ -1,9 +1,9 @@
--- `stack::pop2` meets its contract, by that of `pop`.
+-- `stack_pop::pop2` meets its contract, by that of `pop`.
 -- Assumes nothing.
 use borrow.Author.Needs.{needs}
-use Rattle.stack.proofs.Stacks.{popped-two}
-use Rattle.stack.proofs.pop2.Statement.{statement}
-use Rattle.stack.proofs.pop2.Tie as tie
+use Rattle.stack_pop.proofs.Popping.{popped-two}
+use Rattle.stack_pop.proofs.pop2.Statement.{statement}
+use Rattle.stack_pop.proofs.pop2.Tie as tie
 
 pop-requires : tie.Need-pop-requires
 pop-requires c κs = search needs
