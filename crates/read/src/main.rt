@@ -3,6 +3,7 @@ mod print;
 
 use libc::STDIN_FILENO;
 use print::Row;
+use text::questions;
 
 // The answer, the pairs, the listed atoms and the atom bytes; and the question that got no. The parameters' types have the arrays'
 // lengths, so that no zeros are counted.
@@ -18,7 +19,7 @@ fn report_with(
     print::rows(Row::Pair, pairs, a.pairs);
     print::rows(Row::Atom, atoms, a.atoms);
     print::hex(bytes, a.bytes);
-    print::refusal(a.number);
+    questions::question(a.number);
 }
 
 // The same, with arrays of its own.

@@ -73,20 +73,6 @@ pub fn hex(bytes: &[u8], count: u32) {
     line_end();
 }
 
-// The question that got no, in words, on standard error; nothing for none.
-pub fn refusal(number: u32) {
-    match number {
-        1 => say(b"question 1 got no: Are the slices long enough?\n"),
-        2 => say(b"question 2 got no: Is the input at most 65,535 bytes?\n"),
-        14 => say(
-            b"question 14 got no: Are bytes whole, prefixes at most six bytes, sizes below 2^34, nothing left over?\n",
-        ),
-        15 => say(b"question 15 got no: Is each prefix shortest?\n"),
-        16 => say(b"question 16 got no: Does every path stay out of atoms?\n"),
-        _ => {}
-    }
-}
-
 // How the program is called, on standard error.
 pub fn usage() {
     say(b"usage: read [FILE ..]    no file: standard input\n");

@@ -1,4 +1,6 @@
 // What the programs write: numbers and bytes in hexadecimal on standard output, words on standard error.
+pub mod questions;
+
 use libc::STDERR_FILENO;
 use libc::STDOUT_FILENO;
 ghost use Prim.Native.Nat.{_*_, _≤_, _<_};

@@ -1,5 +1,8 @@
--- `leaves::answer::written` is safe: what `write_atom` wrote lies within the output.
+-- `leaves::answer::written` is safe: what `write_atom` wrote lies within the output, whose zeros a law counts.
 -- Assumes nothing.
+use Prim.Native.Nat.{ℕ}
+use mathlib.Core.Path.{sym}
+use lib.ListN.{length-replicate}
 use borrow.Author.Needs.{needs}
 use Rattle.text.proofs.Counted.{counted}
 use Rattle.leaves.proofs.Within.{written-within}
@@ -7,7 +10,7 @@ use Rattle.leaves.proofs.answer.written.Statement.{statement}
 use Rattle.leaves.proofs.answer.written.Tie as tie
 
 slice-aggregate-write-atom : tie.Need-slice-aggregate-write-atom
-slice-aggregate-write-atom c = search needs
+slice-aggregate-write-atom c = sym (length-replicate {A = ℕ} 65538 0)
 
 write-atom-requires : tie.Need-write-atom-requires
 write-atom-requires c κs = search needs
