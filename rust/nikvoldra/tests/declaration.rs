@@ -357,21 +357,11 @@ fn numbers() {
     assert_eq!(body, expected);
 }
 
-/// The programs say the same words on standard error.
+/// The programs say the same words on standard error, a line for each question.
 #[test]
 fn words_of_the_programs() {
-    for (printing, numbers) in [
-        ("session_text", (1..=13).collect::<Vec<u32>>()),
-        ("read", vec![1, 2, 14, 15, 16]),
-    ] {
-        let source = text(&format!("crates/{printing}/src/print.rt"));
-        // an arm may be on one line or on three
-        let source = source.replace("say( b", "say(b").replace("\", )", "\")");
-        let said = between(&source, "match number {", "_ =>").trim();
-        let expected = numbers.into_iter().map(|number| {
-            let refusal = Refusal::from_number(number).unwrap();
-            format!("{number} => say(b\"{refusal}\\n\"),")
-        });
-        assert_eq!(said, expected.collect::<Vec<_>>().join(" "), "{printing}");
-    }
+    let source = std::fs::read_to_string(place("crates/text/src/questions.rt")).unwrap();
+    let said = between(&source, "b\"", "\",");
+    let expected = Refusal::ALL.map(|refusal| format!("{refusal}\n")).concat();
+    assert_eq!(said, expected);
 }
