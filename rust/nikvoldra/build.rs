@@ -27,7 +27,7 @@ fn main() {
     }
     let folder = folder();
     println!("cargo:rustc-link-search=native={}", folder.display());
-    for name in ["session_call", "de_br"] {
+    for name in ["session_call", "read_call"] {
         let library = folder.join(format!("lib{name}.a"));
         println!("cargo:rerun-if-changed={}", library.display());
         if !library.is_file() {

@@ -53,16 +53,16 @@ use denote.Triple.Clauses.{{ensured, lasts}}
 use denote.Triple.Table.{{entered, cited}}
 use denote.Triple.Walked.{{Stays, stay-slice, gave-slice, stay-none-slice, walkOf, goes-slice, goes-gave-slice, goes-none-slice, Walks, ends-at, walked, walk-meets}}
 use denote.Exit.{{yes}}
-use Rattle.reading.specs.Call as read
-use Rattle.checkpoints.specs.declared.Checkpoint.{{Checkpoint}}
-use Rattle.checkpoints.proofs.Checkpoint as T
-use Rattle.checkpoints.proofs.Again.{{Lent, under, lends-at, comes-at}}
+use Rattle.spec_reading.specs.Call as read
+use Rattle.session_state.specs.declared.checkpoints.Checkpoint.{{Checkpoint}}
+use Rattle.session_state.proofs.checkpoints.Checkpoint as T
+use Rattle.session_state.proofs.checkpoints.Again.{{Lent, under, lends-at, comes-at}}
 use Rattle.read_answer.specs.declared.ReadAnswer.{{ReadAnswer}}
 use Rattle.read_answer.specs.Answer.{{slices as store-slices}}
 use Rattle.read_answer.proofs.ReadAnswer as Q
 use Rattle.read_answer.proofs.ReadAnswer.Laws as Q′
-use Rattle.de_br.specs.Outcome.{{resultOf}}
-use Rattle.serializer.specs.Call.{{Slices, Result}}
+use Rattle.read_call.specs.Outcome.{{resultOf}}
+use Rattle.spec_session.specs.Call.{{Slices, Result}}
 use Rattle.session_answer.specs.declared.SessionAnswer.{{SessionAnswer}}
 use Rattle.session_answer.proofs.SessionAnswer as R
 use Rattle.session_answer.proofs.SessionAnswer.Laws as R′
@@ -71,10 +71,10 @@ use @CALL@ as call
 use @CALL@.Symbol as call-def
 use @CALL@.Symbol.{{name as #call}}
 use @CALL@.Met as call-thm
-use Rattle.read_finished.proofs.read_first as first
-use Rattle.read_finished.proofs.read_first.Symbol as first-def
-use Rattle.read_finished.proofs.read_first.Symbol.{{name as #first}}
-use Rattle.read_finished.proofs.read_first.Met as first-thm
+use Rattle.round_trip.proofs.read_finished.read_first as first
+use Rattle.round_trip.proofs.read_finished.read_first.Symbol as first-def
+use Rattle.round_trip.proofs.read_finished.read_first.Symbol.{{name as #first}}
+use Rattle.round_trip.proofs.read_finished.read_first.Met as first-thm
 use Rattle.round_trip.specs.declared.RoundTrip.{{RoundTrip}}
 use Rattle.round_trip.specs.RoundTrip.{{the-session, the-reading, RoundTrips}}
 use Rattle.round_trip.proofs.Returned.{{session-part, reading-part, whole-read}}
@@ -219,5 +219,5 @@ round-trip-spec 𝓤 H 𝓜 𝓖 𝓡 =
     (tables 𝓤 H 𝓜 𝓡 code.env .C) (tables 𝓤 H 𝓜 𝓡 code.env .Λ) #trip code.function (code.unfolded 𝓤 H 𝓜 𝓡)
     (trip-meets 𝓤 H (𝓖 .A) (givenOf 𝓤 H 𝓜 𝓖) (𝓜 .mem) (𝓡 .run) (tablesOf 𝓤 H 𝓜 (tables 𝓤 H 𝓜 𝓡 code.env))
     (cited 𝓤 H (Session 𝓤 H (𝓖 .A) (𝓜 .mem) (𝓡 .run)) 𝓜 𝓡 code.env #call call-def.routine code.calls-@KEY@ (call-thm.met 𝓤 H 𝓜 𝓖 𝓡))
-    (cited 𝓤 H (Read 𝓤 H (𝓖 .A) (𝓜 .mem) (𝓡 .run)) 𝓜 𝓡 code.env #first first-def.routine code.calls-read-finished·read-first (first-thm.met 𝓤 H 𝓜 𝓖 𝓡)))
+    (cited 𝓤 H (Read 𝓤 H (𝓖 .A) (𝓜 .mem) (𝓡 .run)) 𝓜 𝓡 code.env #first first-def.routine code.calls-round-trip·read-finished·read-first (first-thm.met 𝓤 H 𝓜 𝓖 𝓡)))
 '''

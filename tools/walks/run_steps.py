@@ -1,8 +1,8 @@
-# Writes the proof of run_steps::run_steps to the file that it is given.
+# Writes the proof of session_run::run_steps to the file that it is given.
 import sys
 from chains import *
 N=22
-HEAD=r'''-- `run_steps::run_steps` meets its contract: a walk of its MIR, by hand, with a loop. The records' borrow is opened once, before the loop, and closed once, after it; in each turn a record is read and one is stored, and between the two `work`, `words` and `output` are lent again for lifetimes of the call of `bounded_step`, and come back at the lists that its contract says.
+HEAD=r'''-- `session_run::run_steps` meets its contract: a walk of its MIR, by hand, with a loop. The records' borrow is opened once, before the loop, and closed once, after it; in each turn a record is read and one is stored, and between the two `work`, `words` and `output` are lent again for lifetimes of the call of `bounded_step`, and come back at the lists that its contract says.
 -- The loop's state is the values of the slices and the progress, with facts: each list is as long as it was, the progress is one, and what `Between` says. It falls by `ahead`.
 -- Assumes nothing.
 use mathlib.Core.Path.{_≡_, refl, sym, _∙_, ap, subst}
@@ -51,33 +51,33 @@ use denote.Triple.Clauses.{ensured, lasts}
 use denote.Triple.Table.{entered, cited}
 use denote.Triple.Walked.{says, needs, Stays, stay-slice, stay-none-slice, stay-none, walkOf, goes-slice, goes-none-slice, goes-none, Walks, ends-at, walked, walk-meets}
 use denote.Exit.{yes}
-use Rattle.checkpoints.specs.Records.{blank}
-use Rattle.checkpoints.specs.declared.Checkpoint.{Checkpoint}
-use Rattle.checkpoints.proofs.Again.{Lent, under, lends-at, comes-at}
-use Rattle.checkpoints.proofs.Rows.{byte-fits, the-vals, the-tells, the-makes, the-typed, after}
-use Rattle.checkpoints.proofs.Checkpoint as T
-use Rattle.checkpoints.proofs.Checkpoint.Laws as T′
-use Rattle.progress.specs.declared.Progress.{Progress}
-use Rattle.progress.specs.declared.StepAnswer.{StepAnswer}
-use Rattle.progress.proofs.Progress as S
-use Rattle.progress.proofs.Progress.Laws as S′
-use Rattle.progress.proofs.StepAnswer as R
-use Rattle.progress.proofs.StepAnswer.Laws as R′
+use Rattle.session_state.specs.Records.{blank}
+use Rattle.session_state.specs.declared.checkpoints.Checkpoint.{Checkpoint}
+use Rattle.session_state.proofs.checkpoints.Again.{Lent, under, lends-at, comes-at}
+use Rattle.session_state.proofs.checkpoints.Rows.{byte-fits, the-vals, the-tells, the-makes, the-typed, after}
+use Rattle.session_state.proofs.checkpoints.Checkpoint as T
+use Rattle.session_state.proofs.checkpoints.Checkpoint.Laws as T′
+use Rattle.session_state.specs.declared.progress.Progress.{Progress}
+use Rattle.session_state.specs.declared.progress.StepAnswer.{StepAnswer}
+use Rattle.session_state.proofs.progress.Progress as S
+use Rattle.session_state.proofs.progress.Progress.Laws as S′
+use Rattle.session_state.proofs.progress.StepAnswer as R
+use Rattle.session_state.proofs.progress.StepAnswer.Laws as R′
 use Rattle.session_state.proofs.slot_of as slot-of
 use Rattle.session_state.proofs.slot_of.Symbol as slot-of-def
 use Rattle.session_state.proofs.slot_of.Symbol.{name as #session-state·slot-of}
 use Rattle.session_state.proofs.slot_of.Met as slot-of-thm
-use Rattle.steps.proofs.bounded_step as step
-use Rattle.steps.proofs.bounded_step.Symbol as step-def
-use Rattle.steps.proofs.bounded_step.Symbol.{name as #steps·bounded-step}
-use Rattle.steps.proofs.bounded_step.Met as step-thm
-use Rattle.run_steps.specs.Driven.{Going, Driven}
-use Rattle.run_steps.proofs.Between.{Values, ahead, Slot, Stepped, after-step, goes, stops, Between, at-start, in-rows, ready, goes-on, falls, at-end}
-use Rattle.run_steps.proofs.run_steps.Key.{name as #run-steps·run-steps}
-use Rattle.run_steps.proofs.run_steps as run-steps
-use Rattle.run_steps.proofs.run_steps.Statement as stated
-use Rattle.run_steps.proofs.run_steps.Code as code
-use Rattle.run_steps.proofs.run_steps.Code.Mir as body
+use Rattle.session_steps.proofs.bounded_step as step
+use Rattle.session_steps.proofs.bounded_step.Symbol as step-def
+use Rattle.session_steps.proofs.bounded_step.Symbol.{name as #session-steps·bounded-step}
+use Rattle.session_steps.proofs.bounded_step.Met as step-thm
+use Rattle.session_run.specs.Driven.{Going, Driven}
+use Rattle.session_run.proofs.Between.{Values, ahead, Slot, Stepped, after-step, goes, stops, Between, at-start, in-rows, ready, goes-on, falls, at-end}
+use Rattle.session_run.proofs.run_steps.Key.{name as #session-run·run-steps}
+use Rattle.session_run.proofs.run_steps as run-steps
+use Rattle.session_run.proofs.run_steps.Statement as stated
+use Rattle.session_run.proofs.run_steps.Code as code
+use Rattle.session_run.proofs.run_steps.Code.Mir as body
 
 abbrev stayed : Stays (run-steps.ended .signature .params) (run-steps.ended .kept)
 stayed = (stay-slice (0 ∷ []) tt (plain (λ _. T.the-row)), (stay-slice (1 ∷ []) tt (plain (λ _. u32)), (stay-slice (2 ∷ []) tt (plain (λ _. u32)), (stay-slice (3 ∷ []) tt (plain (λ _. u8)), (stay-none-slice (4 ∷ []) tt (plain (λ _. u8)) yes, (stay-none (λ _. S.the-row) yes, tt))))))
@@ -230,7 +230,7 @@ module _ {M : Type 1} (𝓤 : URA M) (H : Heap 𝓤) (A : Atoms 𝓤) (W : Given
     stands = goes-on file start (i .0) (i .1 .stands) (goes (i .0 .progress .done) go) k ek r z₁ z₂ z₃ e;
   }
 
-  module _ (𝓣 : Tables 𝓤 H) (fm : FmC 𝓤 H (W .laws) (𝓣 .C)) (known-slot : Triple 𝓤 (𝓣 .C #session-state·slot-of) (SlotOf 𝓤 H A mem run)) (known-step : Triple 𝓤 (𝓣 .C #steps·bounded-step) (StepOf 𝓤 H A mem run)) (@LS@ : ℕ) where
+  module _ (𝓣 : Tables 𝓤 H) (fm : FmC 𝓤 H (W .laws) (𝓣 .C)) (known-slot : Triple 𝓤 (𝓣 .C #session-state·slot-of) (SlotOf 𝓤 H A mem run)) (known-step : Triple 𝓤 (𝓣 .C #session-steps·bounded-step) (StepOf 𝓤 H A mem run)) (@LS@ : ℕ) where
     abbrev C : Calls 𝓤 H
     C = 𝓣 .C
 
@@ -347,7 +347,7 @@ module _ {M : Type 1} (𝓤 : URA M) (H : Heap 𝓤) (A : Atoms 𝓤) (W : Given
         assigns ! (of-opd ! (load ! (from ! (stop !)) (look ! @12,6@ refl))) (from ! (stop !)) (init ! @12,7@ refl (LL.lawful S.the-type S′.the-laws 𝓤 H A W .typed s _ s-is .0)) $
         first ! $ blocks ! $ loops ! 𝓣 Nearer Nearer-wf At turns (start, record { rows-len = refl; work-len = refl; words-len = refl; out-len = refl; progress-is = s-is; stands = at-start file start going })
 
-  walk : (𝓣 : Tables 𝓤 H) → FmC 𝓤 H (W .laws) (𝓣 .C) → Triple 𝓤 (𝓣 .C #session-state·slot-of) (SlotOf 𝓤 H A mem run) → Triple 𝓤 (𝓣 .C #steps·bounded-step) (StepOf 𝓤 H A mem run) → ent 𝓤 (onEntry 𝓤 H A run-steps.signature (κ₀, (κ₁, (κ₂, (κ₃, (κ₄, tt))))) (q₀, (q₁, (q₂, (q₃, (q₄, tt))))) a vals) (WpFn 𝓤 H (𝓣 .C) (𝓣 .Λ) code.function (v₀ ∷ v₁ ∷ v₂ ∷ v₃ ∷ v₄ ∷ mach s ∷ []) Post)
+  walk : (𝓣 : Tables 𝓤 H) → FmC 𝓤 H (W .laws) (𝓣 .C) → Triple 𝓤 (𝓣 .C #session-state·slot-of) (SlotOf 𝓤 H A mem run) → Triple 𝓤 (𝓣 .C #session-steps·bounded-step) (StepOf 𝓤 H A mem run) → ent 𝓤 (onEntry 𝓤 H A run-steps.signature (κ₀, (κ₁, (κ₂, (κ₃, (κ₄, tt))))) (q₀, (q₁, (q₂, (q₃, (q₄, tt))))) a vals) (WpFn 𝓤 H (𝓣 .C) (𝓣 .Λ) code.function (v₀ ∷ v₁ ∷ v₂ ∷ v₃ ∷ v₄ ∷ mach s ∷ []) Post)
   walk 𝓣 fm known-slot known-step =
       qed W ((‵ (flft κ₀ q₀) ⊛ ‵ (flft κ₁ q₁) ⊛ ‵ (flft κ₂ q₂) ⊛ ‵ (flft κ₃ q₃) ⊛ ‵ (flft κ₄ q₄) ⊛ ‵ ftrue) ∷ ‵ (owns (MutSlice (named 0) κ₀ T.the-row ∷ MutSlice (named 1) κ₁ u32 ∷ MutSlice (named 2) κ₂ u32 ∷ MutSlice (named 3) κ₃ u8 ∷ ShrSlice (named 4) κ₄ u8 ∷ S.the-row ∷ []) a vals) ∷ []) ∵ enter ! (𝓣 .C) (𝓣 .Λ) code.function (v₀ ∷ v₁ ∷ v₂ ∷ v₃ ∷ v₄ ∷ mach s ∷ []) _ $
       @ALLOC@ $ params1 ! $
@@ -362,14 +362,14 @@ module _ {M : Type 1} (𝓤 : URA M) (H : Heap 𝓤) (A : Atoms 𝓤) (W : Given
       begins 𝓣 fm known-slot known-step @LS@@CLOSE2@
 
 module _ {M : Type 1} (𝓤 : URA M) (H : Heap 𝓤) (A : Atoms 𝓤) (W : Given 𝓤 H A) (mem : Memory → SProp 𝓤) (run : Routine → Fun 𝓤) where
-  run-steps-walks : (𝓣 : Tables 𝓤 H) → FmC 𝓤 H (W .laws) (𝓣 .C) → Triple 𝓤 (𝓣 .C #session-state·slot-of) (SlotOf 𝓤 H A mem run) → Triple 𝓤 (𝓣 .C #steps·bounded-step) (StepOf 𝓤 H A mem run) → Walks 𝓤 H A run-steps.ended stayed (WpFn 𝓤 H (𝓣 .C) (𝓣 .Λ) code.function) (run-steps.clauses 𝓤 H A mem run)
+  run-steps-walks : (𝓣 : Tables 𝓤 H) → FmC 𝓤 H (W .laws) (𝓣 .C) → Triple 𝓤 (𝓣 .C #session-state·slot-of) (SlotOf 𝓤 H A mem run) → Triple 𝓤 (𝓣 .C #session-steps·bounded-step) (StepOf 𝓤 H A mem run) → Walks 𝓤 H A run-steps.ended stayed (WpFn 𝓤 H (𝓣 .C) (𝓣 .Λ) code.function) (run-steps.clauses 𝓤 H A mem run)
   run-steps-walks 𝓣 fm known-slot known-step = walked 𝓤 H A run-steps.ended stayed (run-steps.clauses 𝓤 H A mem run) (WpFn 𝓤 H (𝓣 .C) (𝓣 .Λ) code.function)
       (λ κs. (slice-vals, (slice-vals, (slice-vals, (slice-vals, (slice-vals, (LL.vals S.the-type S′.the-laws, tt)))))))
       (λ κs. (mut-slice-tells (named 0) (κs .0) T.the-row, (mut-slice-tells (named 1) (κs .1 .0) u32, (mut-slice-tells (named 2) (κs .1 .1 .0) u32, (mut-slice-tells (named 3) (κs .1 .1 .1 .0) u8, (shr-slice-tells (named 4) (κs .1 .1 .1 .1 .0) u8, (LL.tells S.the-type S′.the-laws, tt)))))))
       (λ κs qs bounds a g are. needs 𝓤 (Going (a .1 .1 .1 .1 .0 .now) (a .1 .0 .now) (a .1 .1 .0 .now) (a .0 .now) (a .1 .1 .1 .0 .now) (a .1 .1 .1 .1 .1 .0) (a .1 .1 .1 .1 .1 .0 .done)) _ (λ going.
       walk 𝓤 H A W mem run (κs .0) (κs .1 .0) (κs .1 .1 .0) (κs .1 .1 .1 .0) (κs .1 .1 .1 .1 .0) (qs .0) (qs .1 .0) (qs .1 .1 .0) (qs .1 .1 .1 .0) (qs .1 .1 .1 .1 .0) (a .0) (a .1 .0) (a .1 .1 .0) (a .1 .1 .1 .0) (a .1 .1 .1 .1 .0) (a .1 .1 .1 .1 .1 .0) (are .0 .0 .1) (are .1 .0 .0 .1) (are .1 .1 .0 .0 .1) (are .1 .1 .1 .0 .0 .1) (are .1 .1 .1 .1 .0 .0 .1) (are .1 .1 .1 .1 .1 .0) going 𝓣 fm known-slot known-step))
 
-run-steps-meets : {M : Type 1} (𝓤 : URA M) (H : Heap 𝓤) (A : Atoms 𝓤) → (W : Given 𝓤 H A) → (mem : Memory → SProp 𝓤) (run : Routine → Fun 𝓤) (𝓣 : Tables 𝓤 H) → Triple 𝓤 (𝓣 .C #session-state·slot-of) (SlotOf 𝓤 H A mem run) → Triple 𝓤 (𝓣 .C #steps·bounded-step) (StepOf 𝓤 H A mem run)
+run-steps-meets : {M : Type 1} (𝓤 : URA M) (H : Heap 𝓤) (A : Atoms 𝓤) → (W : Given 𝓤 H A) → (mem : Memory → SProp 𝓤) (run : Routine → Fun 𝓤) (𝓣 : Tables 𝓤 H) → Triple 𝓤 (𝓣 .C #session-state·slot-of) (SlotOf 𝓤 H A mem run) → Triple 𝓤 (𝓣 .C #session-steps·bounded-step) (StepOf 𝓤 H A mem run)
     → Meets 𝓤 H A run-steps.signature (WpFn 𝓤 H (𝓣 .C) (𝓣 .Λ) code.function) (run-steps.spec 𝓤 H A mem run)
 run-steps-meets 𝓤 H A W mem run 𝓣 known-slot known-step =
     walk-meets 𝓤 H A run-steps.ended stayed W (goes-slice 𝓤 H A W 5 0 tt (plain (λ _. T.the-row)), (goes-slice 𝓤 H A W 5 1 tt (plain (λ _. u32)), (goes-slice 𝓤 H A W 5 2 tt (plain (λ _. u32)), (goes-slice 𝓤 H A W 5 3 tt (plain (λ _. u8)), (goes-none-slice 𝓤 H A W 5 (4 ∷ []) tt (plain (λ _. u8)) yes, (goes-none 𝓤 H A W 5 (λ _. S.the-row) yes (λ κs x f. refl), tt)))))) (run-steps.clauses 𝓤 H A mem run)
@@ -379,14 +379,14 @@ pub run-steps-spec : {M : Type 1} → stated.statement M
 unfolding code.routine tablesOf
 run-steps-spec 𝓤 H 𝓜 𝓖 𝓡 =
     entered 𝓤 H (tripleOf 𝓤 H (𝓖 .A) run-steps.signature (run-steps.spec 𝓤 H (𝓖 .A) (𝓜 .mem) (𝓡 .run)))
-    (tables 𝓤 H 𝓜 𝓡 code.env .C) (tables 𝓤 H 𝓜 𝓡 code.env .Λ) #run-steps·run-steps code.function (code.unfolded 𝓤 H 𝓜 𝓡)
+    (tables 𝓤 H 𝓜 𝓡 code.env .C) (tables 𝓤 H 𝓜 𝓡 code.env .Λ) #session-run·run-steps code.function (code.unfolded 𝓤 H 𝓜 𝓡)
     (run-steps-meets 𝓤 H (𝓖 .A) (givenOf 𝓤 H 𝓜 𝓖) (𝓜 .mem) (𝓡 .run) (tablesOf 𝓤 H 𝓜 (tables 𝓤 H 𝓜 𝓡 code.env))
     (cited 𝓤 H (SlotOf 𝓤 H (𝓖 .A) (𝓜 .mem) (𝓡 .run)) 𝓜 𝓡 code.env #session-state·slot-of slot-of-def.routine code.calls-session-state·slot-of (slot-of-thm.met 𝓤 H 𝓜 𝓖 𝓡))
-    (cited 𝓤 H (StepOf 𝓤 H (𝓖 .A) (𝓜 .mem) (𝓡 .run)) 𝓜 𝓡 code.env #steps·bounded-step step-def.routine code.calls-steps·bounded-step (step-thm.met 𝓤 H 𝓜 𝓖 𝓡)))
+    (cited 𝓤 H (StepOf 𝓤 H (𝓖 .A) (𝓜 .mem) (𝓡 .run)) 𝓜 𝓡 code.env #session-steps·bounded-step step-def.routine code.calls-session-steps·bounded-step (step-thm.met 𝓤 H 𝓜 𝓖 𝓡)))
 '''
 T=HEAD
 T=T.replace("use lib.ListN.{length, set, getD, length-set}","use lib.ListN.{length, set, getD, take, length-set}")
-T=T.replace("use Rattle.progress.specs.declared.StepAnswer.{StepAnswer}\n","use Rattle.progress.specs.declared.StepAnswer.{StepAnswer}\nuse Rattle.session_state.specs.State.{the-file}\nuse Rattle.session_state.specs.Steps.{Ready}\n")
+T=T.replace("use Rattle.session_state.specs.declared.progress.StepAnswer.{StepAnswer}\n","use Rattle.session_state.specs.declared.progress.StepAnswer.{StepAnswer}\nuse Rattle.session_state.specs.State.{the-file}\nuse Rattle.session_state.specs.Steps.{Ready}\n")
 rows={1:('u32','work','work-len','zs .0'),2:('u32','words','words-len','zs .1 .0'),3:('u8','out','out-len','zs .1 .1 .0')}
 for j,(R,fld,ln,z) in rows.items():
     args=lent(R,j,'ν'+sub(j),'n'+sub(j),'(m .%s)'%fld,'(f .%s)'%ln)

@@ -1,4 +1,7 @@
 // Handles.
+pub mod fits_in_small_atom;
+pub mod small_atom;
+
 ghost use mathlib.Core.Path.{_≡_};
 ghost use Prim.Native.Nat.{_+_, _*_, _^_, _<_};
 ghost use lib.Dec.{eqb};

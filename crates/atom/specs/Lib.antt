@@ -5,3 +5,4 @@ pub mod PrefixLaws
 pub mod WriteLaws
 pub mod ParseLaws
 pub mod RoundTrip
+pub mod Answers

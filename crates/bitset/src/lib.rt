@@ -1,4 +1,4 @@
-// A set of numbers, one bit for each, in a lent part of words. `clear` is `slices::clear`.
+// A set of numbers, one bit for each, in a lent part of words. `clear` is `words::slices::clear`.
 ghost use mathlib.Core.Path.{_≡_};
 ghost use mathlib.Core.Bool.{true, false};
 ghost use Prim.Native.Nat.{_*_, _<_};

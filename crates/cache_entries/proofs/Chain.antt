@@ -7,9 +7,9 @@ use mathlib.Core.Option.{none, some}
 use native.Mathlib.Omega.{arith}
 use native.Mathlib.Decide.{ℕ-discrete, decLt}
 use Rattle.words.specs.Words.{at}
-use Rattle.layout.specs.Layout.{USED, LEFT, RIGHT, NEXT, HEADS, PARENTS, ENTRIES}
-use Rattle.layout.specs.Rows.{row-of, rows-of, slot-of, slot-at, prev, Chained, Distinct, Sound}
-use Rattle.layout.specs.Prev.{prev-le, prev-prev, prev-slot, prev-same, prev-above}
+use Rattle.work_layout.specs.Layout.{USED, LEFT, RIGHT, NEXT, HEADS, PARENTS, ENTRIES}
+use Rattle.work_layout.specs.Rows.{row-of, rows-of, slot-of, slot-at, prev, Chained, Distinct, Sound}
+use Rattle.work_layout.specs.Prev.{prev-le, prev-prev, prev-slot, prev-same, prev-above}
 use Rattle.cache_entries.specs.Contracts.{find-row}
 use Rattle.cache_entries.proofs.Rows.{find-none, find-some}
 

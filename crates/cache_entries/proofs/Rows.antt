@@ -13,9 +13,9 @@ use lib.ListN.{length, getD}
 use borrow.Author.Tests.{eq-eqb, eqb-true}
 use Rattle.words.specs.Words.{at, tabulate}
 use Rattle.words.proofs.Words.{tabulate-same, length-tabulate, getD-tabulate}
-use Rattle.serializer.specs.Cache.{later}
-use Rattle.layout.specs.Layout.{USED, COUNTS, LOW, HIGH}
-use Rattle.layout.specs.Rows.{Sound, length-of, Row, row-of, rows-of, with-parents, adjust-row, all-counts}
+use Rattle.spec_session.specs.Cache.{later}
+use Rattle.work_layout.specs.Layout.{USED, COUNTS, LOW, HIGH}
+use Rattle.work_layout.specs.Rows.{Sound, length-of, Row, row-of, rows-of, with-parents, adjust-row, all-counts}
 use Rattle.cache_entries.specs.Contracts.{find-row}
 
 pub length-rows : (w : List ℕ) → length (rows-of w) ≡ at w USED

@@ -9,8 +9,8 @@ use native.Mathlib.Decide.{ℕ-discrete}
 use lib.ListN.{length}
 use Rattle.words.specs.Words.{at, part, tabulate}
 use Rattle.words.proofs.Words.{part-same}
-use Rattle.layout.specs.Layout.{USED, COUNTS, LEFT, RIGHT, LOW, HIGH, PARENTS, SEEN, ENTRIES}
-use Rattle.layout.specs.Rows.{parent-of, parents-of, row-of, rows-of, with-parents, adjust-row, length-of, Sound, all-counts}
+use Rattle.work_layout.specs.Layout.{USED, COUNTS, LEFT, RIGHT, LOW, HIGH, PARENTS, SEEN, ENTRIES}
+use Rattle.work_layout.specs.Rows.{parent-of, parents-of, row-of, rows-of, with-parents, adjust-row, length-of, Sound, all-counts}
 use Rattle.cache_entries.specs.Contracts.{SameKeys}
 use Rattle.cache_entries.proofs.Rows.{adjust-tabulate, counts-but}
 use Rattle.cache_entries.proofs.Chain.{chained-kept, distinct-kept}

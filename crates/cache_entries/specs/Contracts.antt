@@ -7,9 +7,9 @@ use mathlib.Core.Option.{Option, none, some}
 use lib.Dec.{eqb}
 use lib.ListN.{length}
 use Rattle.words.specs.Words.{at, part}
-use Rattle.serializer.specs.Cache.{later, add-parent, move-parents, no-parents}
-use Rattle.layout.specs.Layout.{MOVED, USED, LEFT, RIGHT, SEEN, ENTRIES}
-use Rattle.layout.specs.Rows.{Row, rows-of, new-row, adjust-row, parent-of, parents-of, Sound, all-counts}
+use Rattle.spec_session.specs.Cache.{later, add-parent, move-parents, no-parents}
+use Rattle.work_layout.specs.Layout.{MOVED, USED, LEFT, RIGHT, SEEN, ENTRIES}
+use Rattle.work_layout.specs.Rows.{Row, rows-of, new-row, adjust-row, parent-of, parents-of, Sound, all-counts}
 use Rattle.cache_entries.specs.declared.Found.{Found}
 use Rattle.cache_entries.specs.declared.Found.the-variants.{At, Nothing}
 

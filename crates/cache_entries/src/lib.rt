@@ -1,11 +1,13 @@
 // The entries of the tree cache, in work: their keys and lengths, and the lookup of a key by chains.
-use layout::EntryIndex;
+pub mod insert_entry;
+
 use words::wide;
+use work_layout::EntryIndex;
 ghost use mathlib.Core.Path.{_≡_};
 ghost use Prim.Native.Nat.{_+_, _^_, _≤_, _<_};
 ghost use Rattle.words.specs.Words.{at};
-ghost use Rattle.layout.specs.Layout.{USED, COUNTS};
-ghost use Rattle.layout.specs.Rows.{length-of, rows-of, slot-of, Sound};
+ghost use Rattle.work_layout.specs.Layout.{USED, COUNTS};
+ghost use Rattle.work_layout.specs.Rows.{length-of, rows-of, slot-of, Sound};
 ghost use Rattle.cache_entries.specs.Contracts.{find-row, option-of};
 
 // A word as a half of a length.
@@ -21,7 +23,7 @@ pub fn count_of(work: &[u32], e: EntryIndex) -> usize
     ensures { λ n. ⌜ (n ≡ at (now (work .entry)) (COUNTS + e .0)) × (n ≤ 100) ⌝ }
 {
     let i = wide(e.0);
-    wide(work[layout::COUNTS + i])
+    wide(work[work_layout::COUNTS + i])
 }
 
 // The length of entry e.
@@ -30,8 +32,8 @@ pub fn length_of(work: &[u32], e: EntryIndex) -> u64
     ensures { λ n. ⌜ n ≡ length-of (now (work .entry)) (e .0) ⌝ }
 {
     let i = wide(e.0);
-    let low = long(work[layout::LOW + i]);
-    let high = long(work[layout::HIGH + i]);
+    let low = long(work[work_layout::LOW + i]);
+    let high = long(work[work_layout::HIGH + i]);
     low + high * 4294967296
 }
 
@@ -54,15 +56,15 @@ pub fn find_key(work: &[u32], left: u32, right: u32) -> Found
     ensures { λ x. ⌜ option-of x ≡ find-row left right (rows-of (now (work .entry))) ⌝ }
 {
     let slot = slot_of(left, right);
-    let mut head = work[layout::HEADS + slot];
+    let mut head = work[work_layout::HEADS + slot];
     while head != 0 {
         let e = wide(head - 1);
-        if work[layout::LEFT + e] == left {
-            if work[layout::RIGHT + e] == right {
+        if work[work_layout::LEFT + e] == left {
+            if work[work_layout::RIGHT + e] == right {
                 return Found::At(EntryIndex(head - 1));
             }
         }
-        head = work[layout::NEXT + e];
+        head = work[work_layout::NEXT + e];
     }
     Found::Nothing
 }

@@ -1,18 +1,24 @@
 // update of tree_cache.rs, over the entries in work: a tree entered, and the present sentinel entry's parents moved to its root.
+mod enter_node;
+mod enter_tree;
+mod make_entry;
+mod meet_sentinel;
+
 use allocator::NodePtr;
-use layout::EntryIndex;
+use cache_parents::moved_parents;
+use work_layout::EntryIndex;
 ghost use Prim.Native.Nat.{_+_, _*_, _<_};
 ghost use Rattle.words.specs.Words.{at};
-ghost use Rattle.layout.specs.Layout.{PAIR-COUNT, USED, ENTRIES};
-ghost use Rattle.tree_cache.specs.Meaning.{Names, Whole, unmapped};
-ghost use Rattle.tree_cache.specs.Contracts.{Cleared, Updated};
+ghost use Rattle.work_layout.specs.Layout.{PAIR-COUNT, USED, ENTRIES};
+ghost use Rattle.cache_nodes.specs.Meaning.{Names, Whole, unmapped};
+ghost use Rattle.cache_nodes.specs.Contracts.{Cleared, Updated};
 
 // The parents of the sentinel's present entry go to MOVED. How many there are; none where the sentinel was never met.
 fn take_sentinel(work: &mut [u32]) -> usize
     requires { ⌜ Whole (now work) ⌝ }
     ensures { λ n. ⌜ Cleared (now (work .entry)) (now (work .exit)) n ⌝ }
 {
-    let s = work[layout::SENTINEL_ENTRY];
+    let s = work[work_layout::SENTINEL_ENTRY];
     if s == 0 {
         return 0;
     }

@@ -11,9 +11,9 @@ use lib.Seq.{drop-cons, getD-set-same, getD-set-other}
 use Rattle.words.specs.Choice.{by-lt}
 use Rattle.words.specs.Words.{at, part}
 use Rattle.words.specs.BigEndian.{number}
-use Rattle.session_file.specs.File.{Pair, Step, add, restore}
-use Rattle.session_file.specs.Places.{AtomsAt, PairsAt, StepsAt}
-use Rattle.session_file.specs.Loaded.{AtomsThere, AtomPlace, AtomsLoaded, PairsThere, pair-of, PairsLoaded}
+use Rattle.spec_session.specs.File.{Pair, Step, add, restore}
+use Rattle.spec_session.specs.Places.{AtomsAt, PairsAt, StepsAt}
+use Rattle.file_parts.specs.Loaded.{AtomsThere, AtomPlace, AtomsLoaded, PairsThere, pair-of, PairsLoaded}
 
 drop-none : {A : Type 0} (xs : List A) → drop 0 xs ≡ xs
 drop-none [] = refl

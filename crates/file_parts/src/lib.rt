@@ -1,13 +1,17 @@
 // The session file: its atoms, pairs and steps, read from a file that passed.
+pub mod session_file;
+
 use allocator::NodePtr;
-use session_file::NextStep;
+pub use session_file::Checked;
+pub use session_file::NextStep;
+pub use session_file::Part;
 ghost use mathlib.Core.Path.{_≡_};
 ghost use mathlib.Core.List.{List};
 ghost use Prim.Native.Nat.{ℕ, _*_, _≤_};
 ghost use lib.ListN.{length};
-ghost use Rattle.session_file.specs.File.{Pair, Step};
-ghost use Rattle.session_file.specs.Places.{AtomsAt, PairsAt, StepsAt};
-ghost use Rattle.session_file.specs.Loaded.{AtomsThere, AtomsLoaded, PairsThere, PairsLoaded, FirstStep};
+ghost use Rattle.spec_session.specs.File.{Pair, Step};
+ghost use Rattle.spec_session.specs.Places.{AtomsAt, PairsAt, StepsAt};
+ghost use Rattle.file_parts.specs.Loaded.{AtomsThere, AtomsLoaded, PairsThere, PairsLoaded, FirstStep};
 
 // Where the bytes of atom i start and end, as words 2·i and 2·i + 1. The rest of the table is as it was.
 pub fn load_atoms(file: &[u8], table: &mut [u32], count: u32)

@@ -11,9 +11,9 @@ use lib.Dec.{ltb}
 use lib.ListN.{length, length-take}
 use Rattle.atom.specs.Write.{Written, next, full, too-long, put}
 use Rattle.atom.specs.WriteLaws.{put-none, put-full, put-room}
-use Rattle.write_atom.specs.Answers.{written}
-use Rattle.write_atom.specs.declared.write_atom.WriteAtom.{WriteAtom}
-use Rattle.write_atom.specs.declared.write_atom.WriteAtom.the-variants.{Next}
+use Rattle.atom_encode.specs.Answers.{written}
+use Rattle.atom_encode.specs.declared.write_atom.WriteAtom.{WriteAtom}
+use Rattle.atom_encode.specs.declared.write_atom.WriteAtom.the-variants.{Next}
 use Rattle.path_builder.specs.Builder.{Finished}
 use Rattle.path_builder.specs.declared.PathBuilder.{PathBuilder}
 

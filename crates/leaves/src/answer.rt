@@ -4,8 +4,10 @@ use crate::print;
 use allocator::FitsInSmallAtom;
 use allocator::NodePtr;
 use allocator::ObjectType;
-use parse_atom::ParseAtom;
-use write_atom::write_atom::WriteAtom;
+use allocator::fits_in_small_atom;
+use allocator::small_atom;
+use atom_decode::ParseAtom;
+use atom_encode::write_atom::WriteAtom;
 
 // The longest payload's bytes with their prefix.
 const MAX_WRITTEN: usize = 65538;
@@ -13,7 +15,7 @@ const MAX_WRITTEN: usize = 65538;
 // `w`: the atom with its prefix.
 fn written(payload: &[u8]) -> bool {
     let mut output = [0u8; MAX_WRITTEN];
-    match write_atom::write_atom::write_atom(&mut output, 0, payload) {
+    match atom_encode::write_atom::write_atom(&mut output, 0, payload) {
         WriteAtom::Next(n) => {
             text::hex(&output[..n]);
             true
@@ -25,7 +27,7 @@ fn written(payload: &[u8]) -> bool {
 
 // `l`: the number of those bytes.
 fn serialized_length(payload: &[u8]) -> bool {
-    text::decimal(write_atom::serialized_length::serialized_length_atom(payload));
+    text::decimal(atom_encode::serialized_length::serialized_length_atom(payload));
     true
 }
 
@@ -50,8 +52,8 @@ fn blob(payload: &[u8], bytes: &[u8], start: usize, end: usize) -> bool {
 
 // `p`: where the atom at the start is, or why it is refused.
 fn parsed(payload: &[u8]) -> bool {
-    let found = parse_atom::parse_atom(payload, 0);
-    let bytes = parse_atom::parse_atom_ptr(payload, found);
+    let found = atom_decode::parse_atom(payload, 0);
+    let bytes = atom_decode::parse_atom_ptr(payload, found);
     match found {
         ParseAtom::Blob { start, end } => blob(payload, bytes, start, end),
         ParseAtom::SerializationError => {

@@ -3,3 +3,4 @@ pub mod BytesLaws
 pub mod Measure
 pub mod Traverse
 pub mod TraverseLaws
+pub mod Answers

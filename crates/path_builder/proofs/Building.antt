@@ -15,8 +15,8 @@ use lib.Pow.{shl-shr, shl-lt, shr-lt, split}
 use Rattle.words.specs.Lists.{Bytes, all-append, all-take, all-at}
 use Rattle.path.specs.Bytes.{bit, value, low-bits, all-bits}
 use Rattle.path.specs.BytesLaws.{odd-value, half-value, shifted-split, value-last}
-use Rattle.push_bit.specs.declared.Place.{Place}
-use Rattle.push_bit.specs.Put.{put, Put}
+use Rattle.path_builder.specs.declared.push_bit.Place.{Place}
+use Rattle.path_builder.specs.Put.{put, Put}
 use Rattle.path_builder.specs.declared.PathBuilder.{PathBuilder}
 use Rattle.path_builder.specs.Builder.{free, built, Sound, Fresh, Room, Pushed}
 use Rattle.path_builder.specs.BuilderLaws.{length-built}

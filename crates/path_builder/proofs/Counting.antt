@@ -14,7 +14,7 @@ use Rattle.words.specs.Lists.{Bytes}
 use Rattle.path.specs.Bytes.{octets, path-bytes, all-bits}
 use Rattle.path.specs.BytesLaws.{length-path-bytes, octets-all-bits}
 use Rattle.path.specs.Measure.{counted-bytes, counted}
-use Rattle.right_align.specs.Aligned.{Aligned}
+use Rattle.path_builder.specs.Aligned.{Aligned}
 use Rattle.path_builder.specs.declared.PathBuilder.{PathBuilder}
 use Rattle.path_builder.specs.Builder.{free, built, Sound, Finished}
 use Rattle.path_builder.specs.BuilderLaws.{length-built, in-use-built, path-bytes-built}

@@ -1,2 +1,4 @@
+pub mod Put
+pub mod Aligned
 pub mod Builder
 pub mod BuilderLaws

@@ -1,5 +1,9 @@
 // Builds a path backwards, from the target. The bytes are big-endian, the left-most at index 0, and the path is built from left to right, since
 // it is followed from right to left. The store is lent, one byte in each word.
+mod path_length;
+mod push_bit;
+mod right_align;
+
 use words::wide;
 ghost use mathlib.Core.Path.{_≡_};
 ghost use mathlib.Core.List.{List};

@@ -14,7 +14,7 @@ fn report_with(
     atoms: &mut [u32; 131072],
     bytes: &mut [u8; 65536],
 ) {
-    let a = de_br::nikvoldra_read(input, work, pairs, atoms, bytes);
+    let a = read_call::nikvoldra_read(input, work, pairs, atoms, bytes);
     print::answer(a);
     print::rows(Row::Pair, pairs, a.pairs);
     print::rows(Row::Atom, atoms, a.atoms);

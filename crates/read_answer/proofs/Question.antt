@@ -7,7 +7,7 @@ use mathlib.Core.List.{List}
 use borrow.Author.Tests.{le-leb, lt-leb}
 use lib.Dec.{leb}
 use lib.ListN.{length}
-use Rattle.reading.specs.Call.{long-enough}
+use Rattle.spec_reading.specs.Call.{long-enough}
 use Rattle.read_answer.specs.Answer.{slices}
 
 -- Question 1 slice by slice: the first that is too short answers it, or the last one does.

@@ -3,9 +3,9 @@ use Prim.Native.Nat.{ℕ, _^_, _<_}
 use mathlib.Core.List.{List}
 use lib.ListN.{length}
 use Rattle.words.specs.Words.{at}
-use Rattle.reading.specs.Call.{Answer, Slices}
-use Rattle.reader_stacks.specs.Layout.{VALUES}
-use Rattle.settle.specs.declared.Reader.{Reader}
+use Rattle.spec_reading.specs.Call.{Answer, Slices}
+use Rattle.read_store.specs.Layout.{VALUES}
+use Rattle.read_item.specs.declared.settle.Reader.{Reader}
 use Rattle.read_answer.specs.declared.ReadAnswer.{ReadAnswer}
 
 abbrev pub answerOf : ReadAnswer → Answer

@@ -1,7 +1,10 @@
 // The reading call's answer, and its question 1.
-use settle::Reader;
+pub mod clear_slices;
+
+use read_item::Reader;
+use read_store::reader_stacks;
 ghost use mathlib.Core.Path.{_≡_};
-ghost use Rattle.reading.specs.Call.{refusal as call-refusal, long-enough};
+ghost use Rattle.spec_reading.specs.Call.{refusal as call-refusal, long-enough};
 ghost use Rattle.read_answer.specs.Answer.{slices, answerOf, Counts, answerAt};
 
 // The number, 0 for none; the root, and how many pairs, listed atoms, atom bytes and ghost pairs there are.

@@ -10,19 +10,19 @@ use lib.Seq.{drop-cons}
 use borrow.Author.Tests.{eq-eqb, ne-eqb}
 use Rattle.words.specs.Choice.{cond-true, cond-false}
 use Rattle.atom.specs.Parse.{parse}
-use Rattle.reading.specs.Format.{ParseOp, SExp, Cons, go, stop, settle, atom-item, path-item, next-item, step}
-use Rattle.reading.specs.Store.{Value, Stored, store-values}
-use Rattle.reading.specs.Sound.{Sound, unlisted, sound-pair}
-use Rattle.reader_stacks.specs.Layout.{opsOf, PushedPair}
-use Rattle.settle.specs.declared.Reader.{Reader}
-use Rattle.settle.specs.declared.Item.{Item}
-use Rattle.settle.specs.declared.Item.the-variants as item
-use Rattle.settle.specs.State.{storedWith}
-use Rattle.read_value.specs.Whole.{storedOf, atOf, Lent, Stands}
-use Rattle.read_value.specs.Values.{SteppedAtom, BeforePath, path-there, SteppedPath, path-settled, path-refused}
+use Rattle.spec_reading.specs.Format.{ParseOp, SExp, Cons, go, stop, settle, atom-item, path-item, next-item, step}
+use Rattle.spec_reading.specs.Store.{Value, Stored, store-values}
+use Rattle.spec_reading.specs.Sound.{Sound, unlisted, sound-pair}
+use Rattle.read_store.specs.Layout.{opsOf, PushedPair}
+use Rattle.read_item.specs.declared.settle.Reader.{Reader}
+use Rattle.read_item.specs.declared.settle.Item.{Item}
+use Rattle.read_item.specs.declared.settle.Item.the-variants as item
+use Rattle.read_item.specs.State.{storedWith}
+use Rattle.read_item.specs.Whole.{storedOf, atOf, Lent, Stands}
+use Rattle.read_item.specs.Values.{SteppedAtom, BeforePath, path-there, SteppedPath, path-settled, path-refused}
 use Rattle.read_item.specs.Step.{Stepped, pair-begun}
-use Rattle.settle.proofs.Joins.{length-ops}
-use Rattle.read_value.proofs.Lending.{lent-after, item-same, item-stands}
+use Rattle.read_item.proofs.settle.Joins.{length-ops}
+use Rattle.read_item.proofs.read_value.Lending.{lent-after, item-same, item-stands}
 
 module _ (input w p a b : List ℕ) (r : Reader) where
   abbrev ops : List ParseOp

@@ -2,11 +2,11 @@
 use Prim.Native.Nat.{ℕ, _+_}
 use mathlib.Core.Path.{_≡_}
 use mathlib.Core.List.{List}
-use Rattle.reading.specs.Format.{step}
-use Rattle.reading.specs.Store.{store-values}
-use Rattle.settle.specs.declared.Reader.{Reader}
-use Rattle.settle.specs.declared.Item.{Item}
-use Rattle.read_value.specs.Whole.{atOf, itemOf, StandsItem}
+use Rattle.spec_reading.specs.Format.{step}
+use Rattle.spec_reading.specs.Store.{store-values}
+use Rattle.read_item.specs.declared.settle.Reader.{Reader}
+use Rattle.read_item.specs.declared.settle.Item.{Item}
+use Rattle.read_item.specs.Whole.{atOf, itemOf, StandsItem}
 
 -- A pair's mark is passed.
 abbrev pub pair-begun : Reader → Reader

@@ -1,12 +1,16 @@
 // One item of a serialized tree: a pair's mark, an atom, or a reference.
-use cursor::Head;
-use settle::Item;
-use settle::Reader;
+mod read_value;
+mod settle;
+
+use read_cursor::Head;
+use read_store::reader_stacks;
+pub use settle::Item;
+pub use settle::Reader;
 ghost use mathlib.Core.Path.{_≡_};
 ghost use Prim.Native.Nat.{_+_, _≤_};
 ghost use lib.ListN.{length};
-ghost use Rattle.reader_stacks.specs.Layout.{PushedPair};
-ghost use Rattle.read_value.specs.Whole.{Stands};
+ghost use Rattle.read_store.specs.Layout.{PushedPair};
+ghost use Rattle.read_item.specs.Whole.{Stands};
 ghost use Rattle.read_item.specs.Step.{Stepped, pair-begun};
 
 fn pair_item(work: &mut [u32], r: Reader) -> Item
@@ -39,7 +43,7 @@ pub fn next_item(
     requires { ⌜ Stands (now input) (now work) (now pairs) (now atoms) (now bytes) r ⌝ }
     ensures { λ i. ⌜ Stepped (now (input .entry)) (now (work .entry)) (now (pairs .entry)) (now (atoms .entry)) (now (bytes .entry)) r (now (work .exit)) (now (pairs .exit)) (now (atoms .exit)) (now (bytes .exit)) i ⌝ }
 {
-    match cursor::head_at(input, r.position) {
+    match read_cursor::head_at(input, r.position) {
         Head::End => Item::Refused(14),
         Head::Pair => pair_item(work, r),
         Head::Path(found) => read_value::path_item(input, work, pairs, r, found),

@@ -6,11 +6,11 @@ use mathlib.Core.Bool.{true, _&&_}
 use mathlib.Core.List.{List}
 use lib.Dec.{leb}
 use lib.ListN.{length}
-use Rattle.reading.specs.Call as read
+use Rattle.spec_reading.specs.Call as read
 use Rattle.read_answer.specs.Answer.{slices as store-slices}
-use Rattle.serializer.specs.Demand3.{ReadAs}
-use Rattle.serializer.specs.Call.{Slices, Result}
-use Rattle.checkpoints.specs.declared.Checkpoint.{Checkpoint}
+use Rattle.spec_session.specs.Demand3.{ReadAs}
+use Rattle.spec_session.specs.Call.{Slices, Result}
+use Rattle.session_state.specs.declared.checkpoints.Checkpoint.{Checkpoint}
 use Rattle.session_call.specs.Outcome.{ReadsBack}
 use Rattle.round_trip.specs.RoundTrip.{the-session, the-reading, RoundTrips}
 

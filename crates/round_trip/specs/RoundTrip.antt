@@ -5,17 +5,17 @@ use mathlib.Core.Bool.{true}
 use mathlib.Core.List.{List, map}
 use mathlib.Core.Option.{some}
 use lib.ListN.{take}
-use Rattle.clvm.specs.Tree.{Tree}
+use Rattle.spec_reading.specs.Tree.{Tree}
 use Rattle.path.specs.Measure.{counted}
-use Rattle.reading.specs.Call as read
-use Rattle.session_file.specs.File.{File, add, version-1, got, file}
-use Rattle.session_file.specs.Unfold.{unfolded}
-use Rattle.session_file.specs.Filling.{plain-filling}
-use Rattle.serializer.specs.Premises.{Apart}
-use Rattle.serializer.specs.Demand3.{Finished, ReadAs}
-use Rattle.serializer.specs.Call.{Slices, Result, session}
-use Rattle.checkpoints.specs.declared.Checkpoint.{Checkpoint}
-use Rattle.checkpoints.specs.Records.{blank}
+use Rattle.spec_reading.specs.Call as read
+use Rattle.spec_session.specs.File.{File, add, version-1, got, file}
+use Rattle.spec_session.specs.Unfold.{unfolded}
+use Rattle.spec_session.specs.Filling.{plain-filling}
+use Rattle.spec_session.specs.Premises.{Apart}
+use Rattle.spec_session.specs.Demand3.{Finished, ReadAs}
+use Rattle.spec_session.specs.Call.{Slices, Result, session}
+use Rattle.session_state.specs.declared.checkpoints.Checkpoint.{Checkpoint}
+use Rattle.session_state.specs.Records.{blank}
 
 -- The session of a file's bytes, with 01's limits.
 abbrev pub the-session : (input : List ℕ) → Slices Checkpoint → Result Checkpoint

@@ -1,10 +1,12 @@
 // A session file is run, and the finished bytes are read.
-use checkpoints::Checkpoint;
+mod read_finished;
+
 use read_answer::ReadAnswer;
 use session_answer::SessionAnswer;
+use session_state::Checkpoint;
 ghost use mathlib.Core.Path.{_≡_};
 ghost use Rattle.read_answer.specs.Answer.{slices as store-slices};
-ghost use Rattle.de_br.specs.Outcome.{resultOf};
+ghost use Rattle.read_call.specs.Outcome.{resultOf};
 ghost use Rattle.session_call.specs.Outcome.{slices, result-of};
 ghost use Rattle.round_trip.specs.RoundTrip.{the-session, the-reading, RoundTrips};
 

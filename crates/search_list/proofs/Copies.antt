@@ -8,13 +8,13 @@ use Prim.Native.Nat.{ℕ, zero, suc, _+_, _*_, _-_, _/_, _≤_, _<_}
 use native.Mathlib.Omega.{arith}
 use lib.ListN.{length, set, drop, length-append}
 use native.Mathlib.Decide.{ℕ-discrete}
-use Rattle.search.specs.Search.{Trail, member, upward, sideward, distance}
+use Rattle.spec_search.specs.Search.{Trail, member, upward, sideward, distance}
 use Rattle.words.specs.Choice.{cond-true, cond-false}
 use Rattle.words.specs.Words.{at}
-use Rattle.layout.specs.Layout.{PARENTS, COUNTS, PREVS, NODES, LENS, PATHS, COPIES, DEPTH, ENTRIES, TOPS}
+use Rattle.work_layout.specs.Layout.{PARENTS, COUNTS, PREVS, NODES, LENS, PATHS, COPIES, DEPTH, ENTRIES, TOPS}
 use Rattle.search_list.specs.Steps.{from-top, Links, Nodes, PathsOK, Stored, Relisted, Marked, Visited, FirstUnseen}
 use Rattle.search_list.specs.State.{seen-of, node-bits, trail, trails-of, node-at, place-at, seen-at, count-at}
-use Rattle.layout.specs.Rows.{parent-of, parents-of, stack-of, Tops}
+use Rattle.work_layout.specs.Rows.{parent-of, parents-of, stack-of, Tops}
 use Rattle.words.proofs.Words.{Store, stores, miss, hits}
 use Rattle.search_list.proofs.Nodes.{low-bits, low-seen, low-nodes, node-made}
 use Rattle.search_list.proofs.Least.{least}

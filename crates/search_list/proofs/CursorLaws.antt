@@ -7,12 +7,12 @@ use native.Mathlib.Omega.{arith}
 use native.Mathlib.Numerals.{add-one}
 use lib.ListN.{length, getD, set, take, drop, length-append, length-set, drop-of-length-le}
 use lib.Seq.{drop-cons, split-at, set-split, take-at, drop-at, take-all, take-suc, length-take-le, append-snoc}
-use Rattle.search.specs.Search.{Trail, Parents, result, stays, dropped, capped, found, gone, left, step, last-first, goes-on, in-front}
+use Rattle.spec_search.specs.Search.{Trail, Parents, result, stays, dropped, capped, found, gone, left, step, last-first, goes-on, in-front}
 use Rattle.words.specs.Lists.{All, all-append, all-map}
-use Rattle.search.specs.Lists.{all-last-first, size, AtLeast, Longer, shorts, shorts-short, shorts-long, shorts-append, shorts-last-first, shorts-all-long}
-use Rattle.search.specs.Induction.{Grown, step-grown}
-use Rattle.search.specs.Enough.{pass, pass-end, pass-long, pass-step}
-use Rattle.search.specs.Flat.{swap-remove, drop-list}
+use Rattle.spec_search.specs.Lists.{all-last-first, size, AtLeast, Longer, shorts, shorts-short, shorts-long, shorts-append, shorts-last-first, shorts-all-long}
+use Rattle.spec_search.specs.Induction.{Grown, step-grown}
+use Rattle.spec_search.specs.Enough.{pass, pass-end, pass-long, pass-step}
+use Rattle.spec_search.specs.Flat.{swap-remove, drop-list}
 use Rattle.search_list.specs.Cursor.{goes, Mid, ahead}
 
 length-last-first : (ps : List Trail) → length (last-first ps) ≡ length ps

@@ -7,13 +7,13 @@ use mathlib.Core.Option.{Option, none, some}
 use Prim.Native.Nat.{ℕ, zero, suc, _+_, _*_, _-_, _≤_, _<_}
 use native.Mathlib.Omega.{arith}
 use lib.ListN.{length, getD, set, drop, length-append, List·getD-append, length-set, length-drop}
-use Rattle.search.specs.Search.{Trail, upward, sideward, distance}
-use Rattle.search.specs.Flat.{swap-remove}
+use Rattle.spec_search.specs.Search.{Trail, upward, sideward, distance}
+use Rattle.spec_search.specs.Flat.{swap-remove}
 use Rattle.words.specs.Words.{at}
-use Rattle.layout.specs.Layout.{PARENTS, COUNTS, STACK, SEEN, PATHS, DEPTH, ENTRIES, TOPS}
+use Rattle.work_layout.specs.Layout.{PARENTS, COUNTS, STACK, SEEN, PATHS, DEPTH, ENTRIES, TOPS}
 use Rattle.search_list.specs.State.{seen-of, node-bits, trail, trail-of, trails-of, count-at}
 use Rattle.search_list.specs.Steps.{Links, Nodes, PathsOK, Stored, Relisted}
-use Rattle.layout.specs.Rows.{parents-of, stack-of, Tops}
+use Rattle.work_layout.specs.Rows.{parents-of, stack-of, Tops}
 use Rattle.search_list.proofs.Nodes.{low-bits, low-seen, low-nodes}
 use Rattle.search_list.proofs.Trails.{store-at, length-trails, at-trails}
 use Rattle.search_list.proofs.Upward.{length-upward, low-links, low-links-of, length-links}

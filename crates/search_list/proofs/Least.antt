@@ -9,11 +9,11 @@ use native.Mathlib.Omega.{arith}
 use native.Mathlib.Decide.{ℕ-discrete}
 use lib.Dec.{eqb}
 use borrow.Author.Tests.{eq-eqb, ne-eqb}
-use Rattle.search.specs.Search.{distance}
+use Rattle.spec_search.specs.Search.{distance}
 use Rattle.words.specs.Choice.{cond-true, cond-false}
 use Rattle.words.specs.Words.{at}
-use Rattle.layout.specs.Layout.{STACK, TOPS, ENTRIES}
-use Rattle.layout.specs.Rows.{stack-of, Tops}
+use Rattle.work_layout.specs.Layout.{STACK, TOPS, ENTRIES}
+use Rattle.work_layout.specs.Rows.{stack-of, Tops}
 use Rattle.search_list.specs.Steps.{from-top}
 
 nearer : (d t : ℕ) → t ≤ d → Option·map suc (from-top d t) ≡ from-top (suc d) t

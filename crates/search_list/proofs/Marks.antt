@@ -13,7 +13,7 @@ use Rattle.words.proofs.Words.{part-length, part-at, put-length, put-part, put-
 use Rattle.path.specs.Bytes.{odd}
 use Rattle.bitset.specs.BitSet.{bits-of}
 use Rattle.bitset.specs.BitSetLaws.{bits-of-at, length-bits-of}
-use Rattle.layout.specs.Layout.{SEEN, ENTRIES}
+use Rattle.work_layout.specs.Layout.{SEEN, ENTRIES}
 use Rattle.search_list.specs.State.{seen-at}
 use Rattle.search_list.specs.Steps.{Marked, Cleared}
 

@@ -9,9 +9,9 @@ use native.Mathlib.Numerals.{add-one}
 use native.Mathlib.Decide.{ℕ-discrete}
 use lib.ListN.{length}
 use borrow.Author.Tests.{eq-eqb, ne-eqb}
-use Rattle.search.specs.Search.{member}
+use Rattle.spec_search.specs.Search.{member}
 use Rattle.words.specs.Words.{at}
-use Rattle.layout.specs.Layout.{PREVS, NODES, LENS, PATHS, SEEN, ENTRIES}
+use Rattle.work_layout.specs.Layout.{PREVS, NODES, LENS, PATHS, SEEN, ENTRIES}
 use Rattle.search_list.specs.State.{chain, node-bits, seen-of, seen-at, node-at, place-at}
 use Rattle.search_list.specs.Steps.{Nodes, Marked, Visited}
 use Rattle.path.specs.Bytes.{odd}

@@ -5,8 +5,8 @@ use mathlib.Core.List.{List, []}
 use Prim.Native.Nat.{ℕ, zero, suc, _+_}
 use native.Mathlib.Omega.{arith}
 use Rattle.words.specs.Words.{at}
-use Rattle.layout.specs.Layout.{COUNTS}
-use Rattle.layout.specs.Rows.{Sound, all-counts}
+use Rattle.work_layout.specs.Layout.{COUNTS}
+use Rattle.work_layout.specs.Rows.{Sound, all-counts}
 use Rattle.search_list.specs.State.{count-at}
 use Rattle.search_list.specs.Steps.{unseen, Links}
 

@@ -7,7 +7,7 @@ use Prim.Native.Nat.{ℕ, zero, suc, _+_, _≤_, _<_}
 use native.Mathlib.Omega.{arith}
 use native.Mathlib.Decide.{ℕ-discrete}
 use borrow.Author.Tests.{eq-eqb, ne-eqb}
-use Rattle.search.specs.Search.{member}
+use Rattle.spec_search.specs.Search.{member}
 use Rattle.words.specs.Choice.{cond-true, cond-false}
 use Rattle.search_list.specs.Steps.{unseen}
 

@@ -7,11 +7,11 @@ use Prim.Native.Nat.{ℕ, zero, suc, _+_, _*_, _≤_, _<_}
 use native.Mathlib.Omega.{arith}
 use native.Mathlib.Decide.{ℕ-discrete, decLt}
 use lib.ListN.{length, getD, set}
-use Rattle.search.specs.Search.{Trail}
-use Rattle.search.specs.Lists.{size}
-use Rattle.search.specs.Flat.{swap-remove, last, init, last-seam, init-seam}
+use Rattle.spec_search.specs.Search.{Trail}
+use Rattle.spec_search.specs.Lists.{size}
+use Rattle.spec_search.specs.Flat.{swap-remove, last, init, last-seam, init-seam}
 use Rattle.words.specs.Words.{at, tabulate}
-use Rattle.layout.specs.Layout.{PATHS, DEPTH, ENTRIES, LENS}
+use Rattle.work_layout.specs.Layout.{PATHS, DEPTH, ENTRIES, LENS}
 use Rattle.search_list.specs.State.{node-bits, trail, trues, trail-of, trails-of, path-at, Readable, node-at, place-at, extra-at}
 use Rattle.search_list.specs.Steps.{Nodes, PathOK, PathsOK, Stored, Relisted}
 use Rattle.words.proofs.Words.{Store, miss, hits, length-tabulate, getD-tabulate, tabulate-set, tabulate-more}

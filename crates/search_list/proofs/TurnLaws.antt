@@ -9,16 +9,16 @@ use native.Mathlib.Omega.{arith}
 use lib.ListN.{length, getD, set, drop, length-append, length-set, length-drop}
 use lib.Dec.{ltb}
 use borrow.Author.Tests.{lt-ltb, le-ltb}
-use Rattle.search.specs.Search.{Trail, bitsOf, Parents, result, stays, dropped, capped, most-visits, member, upward, sideward, moves, visit, distance, step}
+use Rattle.spec_search.specs.Search.{Trail, bitsOf, Parents, result, stays, dropped, capped, most-visits, member, upward, sideward, moves, visit, distance, step}
 use Rattle.words.specs.Choice.{cond-true, cond-false}
-use Rattle.search.specs.Lists.{size}
-use Rattle.search.specs.Flat.{swap-remove, init, last}
+use Rattle.spec_search.specs.Lists.{size}
+use Rattle.spec_search.specs.Flat.{swap-remove, init, last}
 use Rattle.words.specs.Words.{at}
 use Rattle.search_list.specs.Cursor.{goes, Mid, ahead}
 use Rattle.search_list.proofs.CursorLaws.{over, over-mid, over-less, is-result, is-capped, stays-goes, stays-mid, stays-less, dropped-goes, dropped-mid, dropped-less}
 use Rattle.search_list.specs.declared.Turned.the-variants.{On, Result, Capped}
-use Rattle.layout.specs.Layout.{PARENTS, COUNTS, PATHS, DEPTH, ENTRIES}
-use Rattle.layout.specs.Rows.{parents-of, stack-of, Tops}
+use Rattle.work_layout.specs.Layout.{PARENTS, COUNTS, PATHS, DEPTH, ENTRIES}
+use Rattle.work_layout.specs.Rows.{parents-of, stack-of, Tops}
 use Rattle.search_list.specs.State.{parents-of-all, seen-of, node-bits, trail, trail-of, trails-of, node-at, place-at, extra-at, seen-at, count-at, Readable}
 use Rattle.search_list.specs.Steps.{unseen, Links, Nodes, PathOK, PathsOK, Working, Kept, Stored, Relisted, Visited, FirstUnseen, Turns, Steps}
 use Rattle.path.specs.Bytes.{odd}

@@ -10,11 +10,11 @@ use lib.ListN.{length, getD, drop, length-map, drop-of-length-le}
 use lib.Seq.{drop-cons}
 use lib.Dec.{ltb}
 use borrow.Author.Tests.{lt-ltb, ltb-true}
-use Rattle.search.specs.Search.{Trail, atEntry, member, upward}
+use Rattle.spec_search.specs.Search.{Trail, atEntry, member, upward}
 use Rattle.words.specs.Choice.{cond-true, cond-false, by-cond}
 use Rattle.words.specs.Words.{at, part}
-use Rattle.layout.specs.Layout.{PARENTS, COUNTS, SEEN, ENTRIES}
-use Rattle.layout.specs.Rows.{parent-of, parents-of}
+use Rattle.work_layout.specs.Layout.{PARENTS, COUNTS, SEEN, ENTRIES}
+use Rattle.work_layout.specs.Rows.{parent-of, parents-of}
 use Rattle.search_list.specs.State.{parents-of-all, count-at}
 use Rattle.search_list.specs.Steps.{Links}
 use Rattle.path.specs.Bytes.{odd}

@@ -4,9 +4,9 @@ use Prim.Native.Nat.{ℕ, _+_, _-_, _*_, _≤_}
 use mathlib.Core.List.{List}
 use lib.ListN.{length, take, drop}
 use Rattle.words.specs.Lists.{All}
-use Rattle.search.specs.Search.{Trail, Parents, Passed}
-use Rattle.search.specs.Lists.{AtLeast, Longer, shorts}
-use Rattle.search.specs.Enough.{pass}
+use Rattle.spec_search.specs.Search.{Trail, Parents, Passed}
+use Rattle.spec_search.specs.Lists.{AtLeast, Longer, shorts}
+use Rattle.spec_search.specs.Enough.{pass}
 
 -- Pass L, from the cursor c on.
 unfoldable pub goes : (parents : Parents) → (stack : List ℕ) → (L : ℕ) → List Trail → (c : ℕ) → List ℕ → Passed

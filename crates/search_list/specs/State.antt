@@ -8,9 +8,9 @@ use lib.Dec.{ltb}
 use lib.ListN.{length}
 use Rattle.words.specs.Words.{at, tabulate}
 use Rattle.path.specs.Bytes.{odd}
-use Rattle.search.specs.Search.{Trail, atEntry, onStack, bitsOf, Parents}
-use Rattle.layout.specs.Layout.{SEEN, PREVS, NODES, LENS, PATHS, COUNTS, ENTRIES, DEPTH}
-use Rattle.layout.specs.Rows.{parents-of}
+use Rattle.spec_search.specs.Search.{Trail, atEntry, onStack, bitsOf, Parents}
+use Rattle.work_layout.specs.Layout.{SEEN, PREVS, NODES, LENS, PATHS, COUNTS, ENTRIES, DEPTH}
+use Rattle.work_layout.specs.Rows.{parents-of}
 
 -- ---- the cache
 

@@ -8,10 +8,10 @@ use Prim.Native.Nat.{ℕ, zero, suc, _+_, _*_, _/_, _-_, _≤_, _<_}
 use lib.ListN.{length, drop}
 use Rattle.words.specs.Words.{at}
 use Rattle.path.specs.Bytes.{odd}
-use Rattle.search.specs.Search.{Trail, member, distance, upward, sideward, Passed, found, gone}
-use Rattle.search.specs.Lists.{size}
-use Rattle.layout.specs.Layout.{COUNTS, PARENTS, SEEN, PREVS, LENS, PATHS, COPIES, ENTRIES, DEPTH}
-use Rattle.layout.specs.Rows.{parents-of, stack-of, Tops}
+use Rattle.spec_search.specs.Search.{Trail, member, distance, upward, sideward, Passed, found, gone}
+use Rattle.spec_search.specs.Lists.{size}
+use Rattle.work_layout.specs.Layout.{COUNTS, PARENTS, SEEN, PREVS, LENS, PATHS, COPIES, ENTRIES, DEPTH}
+use Rattle.work_layout.specs.Rows.{parents-of, stack-of, Tops}
 use Rattle.search_list.specs.declared.Turned.{Turned}
 use Rattle.search_list.specs.declared.Turned.the-variants.{On, Result, Capped}
 use Rattle.search_list.specs.State.{parents-of-all, count-at, seen-of, seen-at, node-bits, node-at, place-at, extra-at, trail-of, path-at, trails-of, Readable}

@@ -1,13 +1,16 @@
 // The words of a search: the paths under way, the nodes that hold their bits, the entries seen. Each visit makes one node: the node before it, the
 // entry visited with the position bit, and how many bits that makes. A path is three words: its node, its place, and its bits after the node's.
-use layout::PREVS;
-use layout::SEEN;
+pub mod search_copies;
+pub mod search_moves;
+
 use words::wide;
+use work_layout::PREVS;
+use work_layout::SEEN;
 ghost use mathlib.Core.Path.{_≡_};
 ghost use Prim.Native.Nat.{_+_, _*_, _≤_, _<_};
 ghost use lib.ListN.{length};
 ghost use Rattle.words.specs.Words.{at};
-ghost use Rattle.layout.specs.Layout.{ENTRIES, COUNTS, TOPS, PARENTS, LENS};
+ghost use Rattle.work_layout.specs.Layout.{ENTRIES, COUNTS, TOPS, PARENTS, LENS};
 ghost use Rattle.search_list.specs.State.{node-at, place-at, extra-at, seen-at};
 ghost use Rattle.search_list.specs.Steps.{Stored, Marked};
 
@@ -23,7 +26,7 @@ pub fn count_of(work: &[u32], e: usize) -> usize
     requires { ⌜ (524288 ≤ length (now work)) × (e < ENTRIES) ⌝ }
     ensures { λ r. ⌜ r ≡ at (now (work .entry)) (COUNTS + e) ⌝ }
 {
-    wide(work[layout::COUNTS + e])
+    wide(work[work_layout::COUNTS + e])
 }
 
 // Parent i of entry e, doubled, and its position.
@@ -31,7 +34,7 @@ pub fn parent_at(work: &[u32], e: usize, i: usize) -> u32
     requires { ⌜ (524288 ≤ length (now work)) × (e < ENTRIES) × (i < 100) ⌝ }
     ensures { λ r. ⌜ r ≡ at (now (work .entry)) (PARENTS + e * 100 + i) ⌝ }
 {
-    work[layout::PARENTS + e * 100 + i]
+    work[work_layout::PARENTS + e * 100 + i]
 }
 
 // One more than the highest place of entry e on the stack, or 0.
@@ -39,7 +42,7 @@ pub fn top_of(work: &[u32], e: usize) -> usize
     requires { ⌜ (524288 ≤ length (now work)) × (e < ENTRIES) ⌝ }
     ensures { λ r. ⌜ r ≡ at (now (work .entry)) (TOPS + e) ⌝ }
 {
-    wide(work[layout::TOPS + e])
+    wide(work[work_layout::TOPS + e])
 }
 
 // The node whose bits path i has.
@@ -47,7 +50,7 @@ pub fn node_of(work: &[u32], i: usize) -> u32
     requires { ⌜ (524288 ≤ length (now work)) × (i < 3333) ⌝ }
     ensures { λ r. ⌜ r ≡ node-at (now (work .entry)) i ⌝ }
 {
-    work[layout::PATHS + 3 * i]
+    work[work_layout::PATHS + 3 * i]
 }
 
 // Where path i is: at an entry, doubled, and the position bit that it takes there; on the stack, the distance from the top.
@@ -55,7 +58,7 @@ pub fn place_of(work: &[u32], i: usize) -> u32
     requires { ⌜ (524288 ≤ length (now work)) × (i < 3333) ⌝ }
     ensures { λ r. ⌜ r ≡ place-at (now (work .entry)) i ⌝ }
 {
-    work[layout::PATHS + 3 * i + 1]
+    work[work_layout::PATHS + 3 * i + 1]
 }
 
 // 0 where path i is at an entry; on the stack, how many bits it has after its node's: a 0, and then each a 1.
@@ -63,7 +66,7 @@ pub fn extra_of(work: &[u32], i: usize) -> u32
     requires { ⌜ (524288 ≤ length (now work)) × (i < 3333) ⌝ }
     ensures { λ r. ⌜ r ≡ extra-at (now (work .entry)) i ⌝ }
 {
-    work[layout::PATHS + 3 * i + 2]
+    work[work_layout::PATHS + 3 * i + 2]
 }
 
 // How many bits node k has.
@@ -71,7 +74,7 @@ pub fn len_of(work: &[u32], k: usize) -> usize
     requires { ⌜ (524288 ≤ length (now work)) × (k ≤ 1024) ⌝ }
     ensures { λ r. ⌜ r ≡ at (now (work .entry)) (LENS + k) ⌝ }
 {
-    wide(work[layout::LENS + k])
+    wide(work[work_layout::LENS + k])
 }
 
 // How many bits path i has.
@@ -80,7 +83,7 @@ pub fn size_of(work: &[u32], i: usize) -> usize
     ensures { λ r. ⌜ r ≡ at (now (work .entry)) (LENS + node-at (now (work .entry)) i) + extra-at (now (work .entry)) i ⌝ }
 {
     let a = wide(node_of(work, i));
-    let b = wide(work[layout::LENS + a]);
+    let b = wide(work[work_layout::LENS + a]);
     let x = wide(extra_of(work, i));
     b + x
 }
@@ -108,7 +111,7 @@ pub fn put_path(work: &mut [u32], i: usize, a: u32, v: u32, x: u32)
     requires { ⌜ (524288 ≤ length (now work)) × (i < 3333) ⌝ }
     ensures { λ _. ⌜ Stored (now (work .entry)) (now (work .exit)) i a v x ⌝ }
 {
-    work[layout::PATHS + 3 * i] = a;
-    work[layout::PATHS + 3 * i + 1] = v;
-    work[layout::PATHS + 3 * i + 2] = x;
+    work[work_layout::PATHS + 3 * i] = a;
+    work[work_layout::PATHS + 3 * i + 1] = v;
+    work[work_layout::PATHS + 3 * i + 2] = x;
 }

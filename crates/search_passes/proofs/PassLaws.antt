@@ -12,10 +12,10 @@ use native.Mathlib.Numerals.{add-one}
 use native.Mathlib.Decide.{decLe}
 use lib.ListN.{length, set}
 use lib.Seq.{getD-set-same, getD-set-other}
-use Rattle.search.specs.Search.{Trail, atEntry, Parents, Passed, then, passes, search}
+use Rattle.spec_search.specs.Search.{Trail, atEntry, Parents, Passed, then, passes, search}
 use Rattle.words.specs.Lists.{All}
-use Rattle.search.specs.Lists.{AtLeast}
-use Rattle.search.specs.Enough.{passes-step, search-enough}
+use Rattle.spec_search.specs.Lists.{AtLeast}
+use Rattle.spec_search.specs.Enough.{passes-step, search-enough}
 use Rattle.words.specs.Words.{at, tabulate}
 use Rattle.search_list.specs.Cursor.{goes, Mid}
 use Rattle.search_list.proofs.CursorLaws.{at-end, all-longer}
@@ -23,14 +23,14 @@ use Rattle.search_list.specs.declared.Turned.the-variants.{On, Result, Capped}
 use Rattle.search_passes.specs.declared.Passing.the-variants.{Ended, Over, Next}
 use Rattle.search_passes.specs.declared.Way.{Way}
 use Rattle.search_passes.specs.declared.Way.the-variants.{By, Nothing}
-use Rattle.layout.specs.Layout.{SEEN, LENS, COUNTS, ENTRIES}
+use Rattle.work_layout.specs.Layout.{SEEN, LENS, COUNTS, ENTRIES}
 use Rattle.path.specs.Bytes.{odd}
 use Rattle.search_list.specs.State.{seen-at, chain, node-bits, trail-of, trails-of, parents-of-all, seen-of, count-at}
 use Rattle.search_list.specs.Steps.{unseen, Links, Working, Kept, Stored, Turns, Cleared}
-use Rattle.search_limit.specs.Limit.{Limit}
+use Rattle.search_passes.specs.Limit.{Limit}
 use Rattle.search_passes.specs.Passes.{Passes, Started}
 use Rattle.search_passes.specs.Finds.{Finds}
-use Rattle.layout.specs.Rows.{stack-of, Tops}
+use Rattle.work_layout.specs.Rows.{stack-of, Tops}
 use Rattle.search_list.proofs.Trails.{length-trails}
 use Rattle.search_list.proofs.Upward.{low-links, low-parents}
 use Rattle.search_list.proofs.Room.{unseen-same}

@@ -5,8 +5,8 @@ use mathlib.Core.Bool.{Bool}
 use mathlib.Core.List.{List}
 use mathlib.Core.Option.{Option, none, some}
 use Prim.Native.Nat.{ℕ}
-use Rattle.search.specs.Search.{search}
-use Rattle.layout.specs.Rows.{stack-of}
+use Rattle.spec_search.specs.Search.{search}
+use Rattle.work_layout.specs.Rows.{stack-of}
 use Rattle.search_passes.specs.declared.Way.{Way}
 use Rattle.search_passes.specs.declared.Way.the-variants.{By, Nothing}
 use Rattle.search_list.specs.State.{parents-of-all, path-at, Readable}

@@ -4,8 +4,8 @@ use mathlib.Core.Path.{_≡_}
 use mathlib.Core.Bool.{true}
 use mathlib.Core.List.{List, [], _∷_}
 use Prim.Native.Nat.{ℕ, _+_}
-use Rattle.search.specs.Search.{atEntry, Passed, found, gone, left}
-use Rattle.layout.specs.Rows.{stack-of}
+use Rattle.spec_search.specs.Search.{atEntry, Passed, found, gone, left}
+use Rattle.work_layout.specs.Rows.{stack-of}
 use Rattle.search_list.specs.State.{parents-of-all, seen-of, path-at, trails-of, Readable}
 use Rattle.search_list.specs.Cursor.{goes, Mid}
 use Rattle.search_list.specs.Steps.{Kept, Nodes, PathsOK, Working}

@@ -1,13 +1,18 @@
 // The search of find_path of tree_cache.rs, over work: its passes.
-use layout::EntryIndex;
-use layout::PREVS;
-use layout::SEEN;
+mod search_limit;
+mod search_step;
+mod search_visit;
+
 use search_list::Turned;
+use words::slices;
+use work_layout::EntryIndex;
+use work_layout::PREVS;
+use work_layout::SEEN;
 ghost use mathlib.Core.List.{[]};
 ghost use Prim.Native.Nat.{_≤_, _<_};
 ghost use lib.ListN.{length};
-ghost use Rattle.layout.specs.Layout.{ENTRIES};
-ghost use Rattle.layout.specs.Rows.{Tops, Sound, all-counts};
+ghost use Rattle.work_layout.specs.Layout.{ENTRIES};
+ghost use Rattle.work_layout.specs.Rows.{Tops, Sound, all-counts};
 ghost use Rattle.search_list.specs.Cursor.{Mid};
 ghost use Rattle.search_list.specs.State.{trails-of, count-at};
 ghost use Rattle.search_list.specs.Steps.{Links, Working, Cleared, unseen};
@@ -61,7 +66,7 @@ fn start(work: &mut [u32], e: u32)
     ensures { λ _. ⌜ Started (now (work .entry)) (now (work .exit)) e ⌝ }
 {
     clear_seen(work);
-    work[layout::LENS] = 0;
+    work[work_layout::LENS] = 0;
     search_list::put_path(work, 0, 0, e * 2 + 1, 0);
 }
 

@@ -1,9 +1,9 @@
 // Runs session files: those that its arguments name, or standard input. After the argument --items the output is printed item by item.
-use checkpoints::Checkpoint;
 use libc::STDIN_FILENO;
 use session_answer::SessionAnswer;
-use session_text::items;
-use session_text::print;
+use session_state::Checkpoint;
+use text::session_text::items;
+use text::session_text::print;
 
 // The session call with sixteen checkpoint records of its own.
 fn run(file: &[u8], work: &mut [u32], words: &mut [u32], output: &mut [u8]) -> SessionAnswer {

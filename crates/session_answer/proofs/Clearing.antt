@@ -8,8 +8,8 @@ use native.Mathlib.Omega.{arith}
 use lib.ListN.{length, take, drop, replicate, length-drop, drop-of-length-le}
 use lib.Seq.{length-take-le}
 use borrow.Rule.Slice.PartMut.{putMid}
-use Rattle.reading.specs.Call.{zeroed, filled}
-use Rattle.progress.specs.declared.Progress.{Progress}
+use Rattle.spec_reading.specs.Call.{zeroed, filled}
+use Rattle.session_state.specs.declared.progress.Progress.{Progress}
 use Rattle.session_answer.specs.Answer.{Cleared}
 
 -- A slice whose words from n on were lent, and came back zero.

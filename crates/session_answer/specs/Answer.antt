@@ -4,9 +4,9 @@ use mathlib.Core.Path.{_≡_}
 use mathlib.Core.Bool.{Bool, true, false}
 use mathlib.Core.List.{List}
 use lib.ListN.{take}
-use Rattle.reading.specs.Call.{zeroed, filled}
-use Rattle.serializer.specs.Call.{Answer}
-use Rattle.progress.specs.declared.Progress.{Progress}
+use Rattle.spec_reading.specs.Call.{zeroed, filled}
+use Rattle.spec_session.specs.Call.{Answer}
+use Rattle.session_state.specs.declared.progress.Progress.{Progress}
 use Rattle.session_answer.specs.declared.SessionAnswer.{SessionAnswer}
 
 abbrev pub answer-of : SessionAnswer → Answer

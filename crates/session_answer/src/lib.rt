@@ -1,5 +1,6 @@
 // The end of a session call: what is left is cleared, and the answer.
-use progress::Progress;
+use session_state::progress::Progress;
+use words::slices;
 ghost use mathlib.Core.Path.{_≡_};
 ghost use Prim.Native.Nat.{_≤_};
 ghost use lib.ListN.{length};

@@ -8,12 +8,12 @@ use native.Mathlib.Omega.{arith}
 use lib.Dec.{leb}
 use lib.ListN.{length}
 use borrow.Author.Tests.{leb-true}
-use Rattle.session_file.specs.File.{Got, File, refused, version-1, file}
-use Rattle.session_file.specs.Checked.{Passed, Checks}
-use Rattle.session_file.specs.CheckedLaws.{Accepted, accepted, rejected}
-use Rattle.session_file.specs.declared.Checked.{Checked}
+use Rattle.spec_session.specs.File.{Got, File, refused, version-1, file}
+use Rattle.file_parts.specs.Checked.{Passed, Checks}
+use Rattle.file_parts.specs.CheckedLaws.{Accepted, accepted, rejected}
+use Rattle.file_parts.specs.declared.session_file.Checked.{Checked}
 use Rattle.session_state.specs.State.{contents-of, the-file}
-use Rattle.session_lengths.specs.Lengths.{are-long}
+use Rattle.session_begin.specs.Lengths.{are-long}
 use Rattle.session_begin.specs.declared.Begun.{Begun}
 use Rattle.session_begin.specs.Opened.{Opened, start-at}
 use Rattle.session_begin.specs.Begins.{asked, refused-with, Starts, Begins}

@@ -10,15 +10,15 @@ use borrow.Rule.Slice.PartMut.{putMid}
 use Rattle.words.specs.Words.{at, part}
 use Rattle.words.specs.Lists.{all-at}
 use Rattle.words.proofs.Words.{part-length, put-length, put-at, put-other, Store, miss, hits}
-use Rattle.session_file.specs.File.{File}
-use Rattle.session_file.specs.Places.{ListedAtom}
-use Rattle.session_file.specs.Checked.{Passed}
-use Rattle.session_file.specs.Loaded.{AtomPlace, AtomsLoaded, PairsLoaded}
-use Rattle.session_file.specs.declared.Checked.{Checked}
-use Rattle.layout.specs.Layout.{ATOMS, PAIRS, FIRST, ATOM-LENGTHS, ATOM-HEADS, ATOM-COUNT, PAIR-COUNT, SENTINEL, OPEN}
-use Rattle.listed_atoms.specs.Listed.{atom-bytes}
-use Rattle.load.specs.Load.{Ready, Loaded}
-use Rattle.load.proofs.Tables.{table-firsts, table-lengths}
+use Rattle.spec_session.specs.File.{File}
+use Rattle.spec_session.specs.Places.{ListedAtom}
+use Rattle.file_parts.specs.Checked.{Passed}
+use Rattle.file_parts.specs.Loaded.{AtomPlace, AtomsLoaded, PairsLoaded}
+use Rattle.file_parts.specs.declared.session_file.Checked.{Checked}
+use Rattle.work_layout.specs.Layout.{ATOMS, PAIRS, FIRST, ATOM-LENGTHS, ATOM-HEADS, ATOM-COUNT, PAIR-COUNT, SENTINEL, OPEN}
+use Rattle.file_tables.specs.Listed.{atom-bytes}
+use Rattle.file_tables.specs.Load.{Ready, Loaded}
+use Rattle.file_tables.proofs.Tables.{table-firsts, table-lengths}
 use Rattle.session_begin.specs.Opened.{TablesClear, Placed, Opened}
 
 -- The words before place n were lent, and came back cleared.

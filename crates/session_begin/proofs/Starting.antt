@@ -10,21 +10,21 @@ use native.Mathlib.Nat.{zero-div}
 use lib.ListN.{length}
 use Rattle.words.specs.Words.{at}
 use Rattle.path.specs.Bytes.{odd}
-use Rattle.session_file.specs.File.{File}
-use Rattle.session_file.specs.Places.{PairNamed, SentinelNamed}
-use Rattle.session_file.specs.Loaded.{pair-of}
-use Rattle.session_file.specs.Checked.{Passed, Contents}
-use Rattle.session_file.specs.CheckedLaws.{pair-named}
-use Rattle.session_file.specs.declared.Checked.{Checked}
-use Rattle.serializer.specs.Writer.{start}
-use Rattle.layout.specs.Layout.{TOPS, WRITTEN, MAPS, PARENTS, ENTRIES}
-use Rattle.layout.specs.Rows.{stack-of}
-use Rattle.marks.specs.Contracts.{marked-at}
-use Rattle.stack.proofs.Stacks.{stacked-none}
-use Rattle.tree_cache.specs.Meaning.{Handles}
-use Rattle.tree_cache.proofs.Fresh.{Sorted, tables-handles, fresh-whole, fresh-holds, fresh-room, fresh-counts}
-use Rattle.incremental.specs.State.{todo-of, rights-left}
-use Rattle.checkpoints.specs.declared.Checkpoint.{Checkpoint}
+use Rattle.spec_session.specs.File.{File}
+use Rattle.spec_session.specs.Places.{PairNamed, SentinelNamed}
+use Rattle.file_parts.specs.Loaded.{pair-of}
+use Rattle.file_parts.specs.Checked.{Passed, Contents}
+use Rattle.file_parts.specs.CheckedLaws.{pair-named}
+use Rattle.file_parts.specs.declared.session_file.Checked.{Checked}
+use Rattle.spec_session.specs.Writer.{start}
+use Rattle.work_layout.specs.Layout.{TOPS, WRITTEN, MAPS, PARENTS, ENTRIES}
+use Rattle.work_layout.specs.Rows.{stack-of}
+use Rattle.cache_stack.specs.marks.Contracts.{marked-at}
+use Rattle.cache_stack.proofs.Stacks.{stacked-none}
+use Rattle.cache_nodes.specs.Meaning.{Handles}
+use Rattle.cache_nodes.proofs.Fresh.{Sorted, tables-handles, fresh-whole, fresh-holds, fresh-room, fresh-counts}
+use Rattle.write_turn.specs.State.{todo-of, rights-left}
+use Rattle.session_state.specs.declared.checkpoints.Checkpoint.{Checkpoint}
 use Rattle.session_state.specs.State.{whole-run, At, Underway}
 use Rattle.session_begin.specs.Opened.{Opened, start-at}
 

@@ -4,11 +4,11 @@ use mathlib.Core.Path.{_≡_}
 use mathlib.Core.Bool.{true, false, cond}
 use mathlib.Core.List.{List}
 use lib.ListN.{length}
-use Rattle.session_file.specs.File.{File, Got, got, refused, version-1, file}
-use Rattle.checkpoints.specs.declared.Checkpoint.{Checkpoint}
-use Rattle.progress.specs.declared.Progress.{Progress}
+use Rattle.spec_session.specs.File.{File, Got, got, refused, version-1, file}
+use Rattle.session_state.specs.declared.checkpoints.Checkpoint.{Checkpoint}
+use Rattle.session_state.specs.declared.progress.Progress.{Progress}
 use Rattle.session_state.specs.State.{the-file, Underway}
-use Rattle.session_lengths.specs.Lengths.{are-long}
+use Rattle.session_begin.specs.Lengths.{are-long}
 use Rattle.session_begin.specs.declared.Begun.{Begun}
 
 -- Questions 1 to 8, of the bytes and of these lengths: the contents of the file, or the question that gets no.

@@ -5,12 +5,12 @@ use mathlib.Core.Bool.{false}
 use mathlib.Core.List.{List, []}
 use lib.ListN.{length, getD}
 use Rattle.words.specs.Words.{at}
-use Rattle.session_file.specs.File.{File}
-use Rattle.session_file.specs.Loaded.{AtomPlace, pair-of}
-use Rattle.layout.specs.Layout.{ATOMS, PAIRS, FIRST, OPEN, PARENTS}
-use Rattle.tree_cache.specs.Meaning.{Tables}
-use Rattle.incremental.specs.State.{AtomPlaces, AtomsThere}
-use Rattle.progress.specs.declared.Progress.{Progress}
+use Rattle.spec_session.specs.File.{File}
+use Rattle.file_parts.specs.Loaded.{AtomPlace, pair-of}
+use Rattle.work_layout.specs.Layout.{ATOMS, PAIRS, FIRST, OPEN, PARENTS}
+use Rattle.cache_nodes.specs.Meaning.{Tables}
+use Rattle.write_turn.specs.State.{AtomPlaces, AtomsThere}
+use Rattle.session_state.specs.declared.progress.Progress.{Progress}
 
 -- The words before the rows of parents are zero.
 abbrev pub TablesClear : List ℕ → Type 0

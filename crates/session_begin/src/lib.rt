@@ -1,11 +1,14 @@
 // The start of a session call: questions 1 to 8, and the tables of a file that passes.
-use progress::Progress;
-use session_file::Checked;
+mod session_lengths;
+
+use file_parts::Checked;
+use session_state::progress::Progress;
+use words::slices;
 ghost use mathlib.Core.Path.{_≡_};
 ghost use Prim.Native.Nat.{_≤_};
 ghost use lib.ListN.{length};
 ghost use Rattle.words.specs.Lists.{Bytes};
-ghost use Rattle.session_file.specs.Checked.{Passed};
+ghost use Rattle.file_parts.specs.Checked.{Passed};
 ghost use Rattle.session_state.specs.State.{the-file};
 ghost use Rattle.session_begin.specs.Opened.{TablesClear, Placed, Opened, start-at};
 ghost use Rattle.session_begin.specs.Begins.{asked, refused-with, Begins};
@@ -21,7 +24,7 @@ fn clear_tables(work: &mut [u32])
     requires { ⌜ 524288 ≤ length (now work) ⌝ }
     ensures { λ _. ⌜ TablesClear (now (work .exit)) ⌝ }
 {
-    slices::clear(&mut work[..layout::PARENTS]);
+    slices::clear(&mut work[..work_layout::PARENTS]);
 }
 
 // The places of the atoms and the handles of the pairs go to work; the words after them are zero, up to the rows of parents.
@@ -32,12 +35,12 @@ fn load_places(file: &[u8], tables: &mut [u32], checked: Checked)
     clear_tables(tables);
     file_parts::load_atoms(
         file,
-        &mut tables[layout::ATOMS..layout::PAIRS],
+        &mut tables[work_layout::ATOMS..work_layout::PAIRS],
         checked.atoms,
     );
     file_parts::load_pairs(
         file,
-        &mut tables[layout::PAIRS..layout::FIRST],
+        &mut tables[work_layout::PAIRS..work_layout::FIRST],
         checked.pairs_at,
         checked.pairs,
     );
@@ -49,10 +52,10 @@ fn open(file: &[u8], work: &mut [u32], checked: Checked)
     ensures { λ _. ⌜ Opened (now (file .entry)) (the-file (now (file .entry))) (now (work .exit)) ⌝ }
 {
     load_places(file, work, checked);
-    load::load_firsts(work, file, checked.atoms as usize);
-    work[layout::ATOM_COUNT] = checked.atoms;
-    work[layout::PAIR_COUNT] = checked.pairs;
-    work[layout::SENTINEL] = checked.sentinel;
+    file_tables::load_firsts(work, file, checked.atoms as usize);
+    work[work_layout::ATOM_COUNT] = checked.atoms;
+    work[work_layout::PAIR_COUNT] = checked.pairs;
+    work[work_layout::SENTINEL] = checked.sentinel;
 }
 
 // The call ends with this number.
@@ -98,7 +101,7 @@ pub fn begin(file: &[u8], work: &mut [u32], words: usize, records: usize) -> Beg
     if !session_lengths::long_enough(work.len(), words, records) {
         return refused(1);
     }
-    let checked = check_file::check(file);
+    let checked = file_check::check(file);
     if checked.number != 0 {
         return refused(checked.number);
     }

@@ -9,20 +9,20 @@ use lib.ListN.{length, take, drop, replicate, length-take, drop-of-length-le}
 use lib.Seq.{length-take-le, take-take}
 use Rattle.words.specs.Lists.{Bytes}
 use Rattle.path.specs.Measure.{counted}
-use Rattle.reading.specs.Call.{zeroed, filled}
-use Rattle.session_file.specs.File.{Got, got, refused, File, version-1, file}
-use Rattle.serializer.specs.Items.{Item, output}
-use Rattle.serializer.specs.Output.{output-size}
-use Rattle.serializer.specs.Steps.{Run}
-use Rattle.serializer.specs.Demand3.{demand-3}
-use Rattle.serializer.specs.Call.{Slices, Result, untouched, after-run, after-file, session}
-use Rattle.checkpoints.specs.declared.Checkpoint.{Checkpoint}
-use Rattle.checkpoints.specs.Records.{blank}
+use Rattle.spec_reading.specs.Call.{zeroed, filled}
+use Rattle.spec_session.specs.File.{Got, got, refused, File, version-1, file}
+use Rattle.spec_session.specs.Items.{Item, output}
+use Rattle.spec_session.specs.Output.{output-size}
+use Rattle.spec_session.specs.Steps.{Run}
+use Rattle.spec_session.specs.Demand3.{demand-3}
+use Rattle.spec_session.specs.Call.{Slices, Result, untouched, after-run, after-file, session}
+use Rattle.session_state.specs.declared.checkpoints.Checkpoint.{Checkpoint}
+use Rattle.session_state.specs.Records.{blank}
 use Rattle.session_state.specs.State.{contents-of, the-file, whole-run, Ended}
-use Rattle.progress.specs.declared.Progress.{Progress}
-use Rattle.run_steps.specs.Driven.{Going, Driven}
+use Rattle.session_state.specs.declared.progress.Progress.{Progress}
+use Rattle.session_run.specs.Driven.{Going, Driven}
 use Rattle.session_begin.specs.declared.Begun.{Begun}
-use Rattle.session_lengths.specs.Lengths.{are-long}
+use Rattle.session_begin.specs.Lengths.{are-long}
 use Rattle.session_begin.specs.Begins.{asked, refused-with, Begins}
 use Rattle.session_answer.specs.declared.SessionAnswer.{SessionAnswer}
 use Rattle.session_answer.specs.Answer.{answer-of, answer-at, Cleared}

@@ -3,12 +3,12 @@ use Prim.Native.Nat.{ℕ, suc, _<_}
 use mathlib.Core.Path.{_≡_}
 use mathlib.Core.List.{List, map}
 use lib.ListN.{take}
-use Rattle.session_file.specs.File.{File, add, version-1, got, file}
-use Rattle.session_file.specs.Unfold.{unfolded}
-use Rattle.serializer.specs.Premises.{Apart}
-use Rattle.serializer.specs.Demand3.{Finished, ReadBack}
-use Rattle.serializer.specs.Call.{Slices, Result}
-use Rattle.checkpoints.specs.declared.Checkpoint.{Checkpoint}
+use Rattle.spec_session.specs.File.{File, add, version-1, got, file}
+use Rattle.spec_session.specs.Unfold.{unfolded}
+use Rattle.spec_session.specs.Premises.{Apart}
+use Rattle.spec_session.specs.Demand3.{Finished, ReadBack}
+use Rattle.spec_session.specs.Call.{Slices, Result}
+use Rattle.session_state.specs.declared.checkpoints.Checkpoint.{Checkpoint}
 use Rattle.session_answer.specs.declared.SessionAnswer.{SessionAnswer}
 use Rattle.session_answer.specs.Answer.{answer-of}
 

@@ -1,11 +1,12 @@
 // The session call: a session file is checked, its tables are loaded, and its steps are run.
-use checkpoints::Checkpoint;
 use session_answer::SessionAnswer;
+use session_state::Checkpoint;
+use session_state::checkpoints;
 ghost use mathlib.Core.Path.{_≡_};
 ghost use Rattle.path.specs.Measure.{counted};
-ghost use Rattle.session_file.specs.File.{version-1};
-ghost use Rattle.serializer.specs.Call.{session};
-ghost use Rattle.checkpoints.specs.Records.{blank};
+ghost use Rattle.spec_session.specs.File.{version-1};
+ghost use Rattle.spec_session.specs.Call.{session};
+ghost use Rattle.session_state.specs.Records.{blank};
 ghost use Rattle.session_call.specs.Outcome.{slices, result-of, ReadsBack};
 
 // A session file is run. The slices are lent: work, a word for each step, sixteen checkpoint records, and the output.
@@ -25,7 +26,7 @@ pub extern "C" fn nikvoldra_session(
     let begun = session_begin::begin(file, work, many, records);
     let start = begun.start;
     let used = begun.records;
-    let p = run_steps::run_steps(checkpoints, work, words, output, file, start);
+    let p = session_run::run_steps(checkpoints, work, words, output, file, start);
     checkpoints::clear_first(checkpoints, used);
     session_answer::finish(work, words, output, start.done, p)
 }

@@ -6,13 +6,13 @@ use mathlib.Core.Bool.{Bool, true, false}
 use mathlib.Core.List.{List}
 use native.Mathlib.Omega.{arith}
 use lib.ListN.{length, take}
-use Rattle.checkpoints.specs.declared.Checkpoint.{Checkpoint}
+use Rattle.session_state.specs.declared.checkpoints.Checkpoint.{Checkpoint}
 use Rattle.path.specs.Measure.{counted}
-use Rattle.session_file.specs.File.{File}
-use Rattle.serializer.specs.Steps.{Run, stop-at, run-steps}
-use Rattle.progress.specs.declared.Progress.{Progress}
-use Rattle.progress.specs.declared.StepAnswer.{StepAnswer}
-use Rattle.progress.specs.Moves.{refused-at, stopped-at}
+use Rattle.spec_session.specs.File.{File}
+use Rattle.spec_session.specs.Steps.{Run, stop-at, run-steps}
+use Rattle.session_state.specs.declared.progress.Progress.{Progress}
+use Rattle.session_state.specs.declared.progress.StepAnswer.{StepAnswer}
+use Rattle.session_state.specs.Moves.{refused-at, stopped-at}
 use Rattle.session_state.specs.State.{after-words, Underway, Ended, Stands}
 use Rattle.session_state.specs.Steps.{Onward}
 use Rattle.session_state.proofs.Runs.{words-ended}

@@ -6,15 +6,15 @@ use mathlib.Core.List.{List, map}
 use native.Mathlib.Omega.{arith}
 use lib.ListN.{length}
 use Rattle.words.specs.Words.{at}
-use Rattle.session_file.specs.File.{File}
-use Rattle.serializer.specs.Cache.{Cache}
-use Rattle.layout.specs.Layout.{ATOMS, ATOM-COUNT, PAIR-COUNT, OPEN, MAPS, SENTINEL-ENTRY, USED, LEFT, RIGHT, SEEN, ENTRIES}
-use Rattle.layout.specs.Rows.{Row, all-counts}
-use Rattle.tree_cache.specs.Meaning.{Tables, entry-of, entry-or-none, unmapped, Whole, Holds}
-use Rattle.tree_cache.proofs.Entries.{sound-kept, rows-kept, counts-kept}
-use Rattle.tree_cache.proofs.Frames.{unmapped-same}
-use Rattle.tree_cache.proofs.Making.{whole-of}
-use Rattle.incremental.specs.State.{AtomPlaces, AtomsThere}
+use Rattle.spec_session.specs.File.{File}
+use Rattle.spec_session.specs.Cache.{Cache}
+use Rattle.work_layout.specs.Layout.{ATOMS, ATOM-COUNT, PAIR-COUNT, OPEN, MAPS, SENTINEL-ENTRY, USED, LEFT, RIGHT, SEEN, ENTRIES}
+use Rattle.work_layout.specs.Rows.{Row, all-counts}
+use Rattle.cache_nodes.specs.Meaning.{Tables, entry-of, entry-or-none, unmapped, Whole, Holds}
+use Rattle.cache_nodes.proofs.Entries.{sound-kept, rows-kept, counts-kept}
+use Rattle.cache_nodes.proofs.Frames.{unmapped-same}
+use Rattle.cache_nodes.proofs.Making.{whole-of}
+use Rattle.write_turn.specs.State.{AtomPlaces, AtomsThere}
 
 -- ---- the places of the file's atoms lie below OPEN
 

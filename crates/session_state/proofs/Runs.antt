@@ -11,14 +11,14 @@ use lib.ListN.{length, set, take}
 use lib.Seq.{take-suc-set}
 use borrow.Author.Tests.{lt-ltb, le-ltb}
 use Rattle.path.specs.Measure.{counted}
-use Rattle.session_file.specs.File.{File, Step, add, restore}
-use Rattle.session_file.specs.Unfold.{unfolded}
-use Rattle.serializer.specs.Cache.{update}
-use Rattle.serializer.specs.Writer.{Todo, parse, Outcome, Session, settle, add-at, resume}
-use Rattle.serializer.specs.Steps.{UndoState, undo-state, room-in, restored, Run, finished-bit, word-of, stop-at, with-word, after-add, unless-full, run-steps}
-use Rattle.serializer.specs.FindPath.{find-in}
-use Rattle.serializer.specs.Trees.{nth}
-use Rattle.step_records.specs.Stored.{bit}
+use Rattle.spec_session.specs.File.{File, Step, add, restore}
+use Rattle.spec_session.specs.Unfold.{unfolded}
+use Rattle.spec_session.specs.Cache.{update}
+use Rattle.spec_session.specs.Writer.{Todo, parse, Outcome, Session, settle, add-at, resume}
+use Rattle.spec_session.specs.Steps.{UndoState, undo-state, room-in, restored, Run, finished-bit, word-of, stop-at, with-word, after-add, unless-full, run-steps}
+use Rattle.spec_session.specs.FindPath.{find-in}
+use Rattle.spec_session.specs.Trees.{nth}
+use Rattle.session_state.specs.Stored.{bit}
 use Rattle.session_state.specs.State.{after-words, waits}
 
 module _ (space : ℕ) (f : File) (past : List UndoState) (s : Session) where

@@ -9,11 +9,11 @@ use mathlib.Core.Option.{none, some}
 use native.Mathlib.Omega.{arith}
 use lib.Dec.{ltb}
 use lib.ListN.{length, getD, set, take}
-use Rattle.session_file.specs.declared.NextStep.{NextStep}
-use Rattle.session_file.specs.declared.NextStep.the-variants as next-step
-use Rattle.session_file.specs.File.{Step}
-use Rattle.session_file.specs.Loaded.{FirstStep}
-use Rattle.serializer.specs.Trees.{nth}
+use Rattle.file_parts.specs.declared.session_file.NextStep.{NextStep}
+use Rattle.file_parts.specs.declared.session_file.NextStep.the-variants as next-step
+use Rattle.spec_session.specs.File.{Step}
+use Rattle.file_parts.specs.Loaded.{FirstStep}
+use Rattle.spec_session.specs.Trees.{nth}
 use Rattle.session_state.specs.State.{slot-for}
 
 abbrev pub slot-of-next : NextStep → ℕ → ℕ

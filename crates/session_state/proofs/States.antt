@@ -12,20 +12,20 @@ use lib.Seq.{take-take}
 use Rattle.words.specs.Words.{at}
 use Rattle.words.specs.Lists.{All}
 use Rattle.words.specs.Choice.{by-lt}
-use Rattle.checkpoints.specs.Records.{blank}
-use Rattle.checkpoints.specs.declared.Checkpoint.{Checkpoint}
+use Rattle.session_state.specs.Records.{blank}
+use Rattle.session_state.specs.declared.checkpoints.Checkpoint.{Checkpoint}
 use Rattle.path.specs.Measure.{counted}
-use Rattle.session_file.specs.File.{File, Step}
-use Rattle.session_file.specs.Places.{StepsAt, StepNamed}
-use Rattle.serializer.specs.Writer.{Session}
-use Rattle.serializer.specs.Trees.{nth}
-use Rattle.serializer.specs.Steps.{UndoState, word-of, with-word, run-steps}
-use Rattle.layout.specs.Layout.{OPEN, USED, COPIES, COPY}
-use Rattle.undo_state.specs.Contracts.{copied-open, copied-stack, copied-marks}
-use Rattle.incremental.specs.State.{todo-of}
-use Rattle.progress.specs.declared.Progress.{Progress}
-use Rattle.step_records.specs.Stored.{bit}
-use Rattle.progress.specs.Moves.{noted-at}
+use Rattle.spec_session.specs.File.{File, Step}
+use Rattle.spec_session.specs.Places.{StepsAt, StepNamed}
+use Rattle.spec_session.specs.Writer.{Session}
+use Rattle.spec_session.specs.Trees.{nth}
+use Rattle.spec_session.specs.Steps.{UndoState, word-of, with-word, run-steps}
+use Rattle.work_layout.specs.Layout.{OPEN, USED, COPIES, COPY}
+use Rattle.cache_undo.specs.undo_state.Contracts.{copied-open, copied-stack, copied-marks}
+use Rattle.write_turn.specs.State.{todo-of}
+use Rattle.session_state.specs.declared.progress.Progress.{Progress}
+use Rattle.session_state.specs.Stored.{bit}
+use Rattle.session_state.specs.Moves.{noted-at}
 use Rattle.session_state.specs.State.{whole-run, after-words, At, Before, size-at, History, Stocked, Underway}
 use Rattle.session_state.proofs.Slots.{nth-low, nth-snoc, nth-take, set-here, set-there}
 use Rattle.session_state.proofs.Runs.{finished-word, word-noted}

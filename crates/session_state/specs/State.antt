@@ -8,22 +8,22 @@ use lib.Dec.{ltb}
 use lib.ListN.{length, getD, take}
 use Rattle.words.specs.Words.{at}
 use Rattle.words.specs.Lists.{All}
-use Rattle.checkpoints.specs.Records.{blank}
-use Rattle.checkpoints.specs.declared.Checkpoint.{Checkpoint}
+use Rattle.session_state.specs.Records.{blank}
+use Rattle.session_state.specs.declared.checkpoints.Checkpoint.{Checkpoint}
 use Rattle.path.specs.Measure.{counted}
-use Rattle.session_file.specs.File.{File, Got, got, refused, Step, add, restore, file, version-1}
-use Rattle.session_file.specs.Places.{StepsAt, StepNamed}
-use Rattle.serializer.specs.Items.{size-of, output}
-use Rattle.serializer.specs.Writer.{Todo, Session, start}
-use Rattle.serializer.specs.Trees.{nth}
-use Rattle.serializer.specs.Steps.{UndoState, undo-state, Run, run-steps}
-use Rattle.layout.specs.Layout.{PAIR-COUNT, OPEN, STACK, WRITTEN, SENTINEL-ENTRY, USED, ENTRIES}
-use Rattle.layout.specs.Rows.{all-counts}
-use Rattle.undo_state.specs.Contracts.{copied-open, copied-stack, copied-marks}
-use Rattle.tree_cache.specs.Meaning.{Tables, unmapped}
-use Rattle.incremental.specs.State.{AtomPlaces, AtomsThere, todo-of, Running, Writes}
-use Rattle.progress.specs.declared.Progress.{Progress}
-use Rattle.step_records.specs.Stored.{bit}
+use Rattle.spec_session.specs.File.{File, Got, got, refused, Step, add, restore, file, version-1}
+use Rattle.spec_session.specs.Places.{StepsAt, StepNamed}
+use Rattle.spec_session.specs.Items.{size-of, output}
+use Rattle.spec_session.specs.Writer.{Todo, Session, start}
+use Rattle.spec_session.specs.Trees.{nth}
+use Rattle.spec_session.specs.Steps.{UndoState, undo-state, Run, run-steps}
+use Rattle.work_layout.specs.Layout.{PAIR-COUNT, OPEN, STACK, WRITTEN, SENTINEL-ENTRY, USED, ENTRIES}
+use Rattle.work_layout.specs.Rows.{all-counts}
+use Rattle.cache_undo.specs.undo_state.Contracts.{copied-open, copied-stack, copied-marks}
+use Rattle.cache_nodes.specs.Meaning.{Tables, unmapped}
+use Rattle.write_turn.specs.State.{AtomPlaces, AtomsThere, todo-of, Running, Writes}
+use Rattle.session_state.specs.declared.progress.Progress.{Progress}
+use Rattle.session_state.specs.Stored.{bit}
 
 -- ---- the file of the bytes, and its whole run
 

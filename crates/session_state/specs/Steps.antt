@@ -3,15 +3,15 @@ use Prim.Native.Nat.{ℕ, _+_, _≤_}
 use mathlib.Core.Path.{_≡_}
 use mathlib.Core.List.{List}
 use lib.ListN.{getD, set}
-use Rattle.checkpoints.specs.Records.{blank}
-use Rattle.checkpoints.specs.declared.Checkpoint.{Checkpoint}
-use Rattle.session_file.specs.File.{File, Step}
-use Rattle.session_file.specs.Places.{StepsAt}
-use Rattle.session_file.specs.Loaded.{FirstStep}
-use Rattle.session_file.specs.declared.NextStep.{NextStep}
-use Rattle.progress.specs.declared.Progress.{Progress}
-use Rattle.progress.specs.declared.StepAnswer.{StepAnswer}
-use Rattle.step_records.specs.Stored.{bit}
+use Rattle.session_state.specs.Records.{blank}
+use Rattle.session_state.specs.declared.checkpoints.Checkpoint.{Checkpoint}
+use Rattle.spec_session.specs.File.{File, Step}
+use Rattle.spec_session.specs.Places.{StepsAt}
+use Rattle.file_parts.specs.Loaded.{FirstStep}
+use Rattle.file_parts.specs.declared.session_file.NextStep.{NextStep}
+use Rattle.session_state.specs.declared.progress.Progress.{Progress}
+use Rattle.session_state.specs.declared.progress.StepAnswer.{StepAnswer}
+use Rattle.session_state.specs.Stored.{bit}
 use Rattle.session_state.specs.State.{Underway, Stands, slot-for}
 
 -- The step at a place of the file.

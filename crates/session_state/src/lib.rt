@@ -1,10 +1,16 @@
 // The state of a session between two steps, and the checkpoint record that a step takes.
-use session_file::NextStep;
+pub mod checkpoints;
+pub mod progress;
+pub mod step_records;
+
+pub use checkpoints::Checkpoint;
+use file_parts::NextStep;
+pub use progress::StepAnswer;
 ghost use mathlib.Core.Path.{_≡_};
 ghost use mathlib.Core.List.{List};
 ghost use Prim.Native.Nat.{_<_};
-ghost use Rattle.session_file.specs.File.{Step};
-ghost use Rattle.session_file.specs.Places.{StepsAt};
+ghost use Rattle.spec_session.specs.File.{Step};
+ghost use Rattle.spec_session.specs.Places.{StepsAt};
 ghost use Rattle.session_state.specs.State.{slot-for};
 
 // The checkpoint record that the step at this place takes and stores.

@@ -1,5 +1,6 @@
 // What the programs write: numbers and bytes in hexadecimal on standard output, words on standard error.
 pub mod questions;
+pub mod session_text;
 
 use libc::STDERR_FILENO;
 use libc::STDOUT_FILENO;

@@ -1,4 +1,6 @@
 // Words and bytes read: a word and bytes as a number, bytes compared. The laws of a slice's parts stand here too.
+pub mod slices;
+
 ghost use mathlib.Core.Path.{_≡_};
 ghost use Prim.Native.Nat.{_+_, _≤_};
 ghost use lib.ListN.{length};

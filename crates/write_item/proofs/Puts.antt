@@ -16,7 +16,7 @@ use Rattle.atom.specs.Prefix.{encode}
 use Rattle.atom.specs.RoundTrip.{has-form}
 use Rattle.atom.specs.Write.{next, full, too-long, Written, put}
 use Rattle.atom.specs.WriteLaws.{put-full, put-room}
-use Rattle.serializer.specs.Items.{bytes-or-none}
+use Rattle.spec_session.specs.Items.{bytes-or-none}
 
 -- One byte stored is one byte pasted.
 pub set-paste : (out : List ℕ) (p b : ℕ) → p < length out → set out p b ≡ paste out p (b ∷ []) 1

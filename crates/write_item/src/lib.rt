@@ -1,6 +1,9 @@
 // One item of a session's output, as incremental.rs writes it: `ff` or an atom. `output` is the usable part of the output, of which `size` bytes
 // are used. An item that does not fit whole leaves the output as it is (question 13).
-use write_atom::write_atom::WriteAtom;
+pub mod write_reference;
+
+use allocator::small_atom;
+use atom_encode::write_atom::WriteAtom;
 ghost use mathlib.Core.Path.{_≡_};
 ghost use mathlib.Core.Option.{some};
 ghost use Prim.Native.Nat.{_+_, _^_, _<_};
@@ -8,7 +11,7 @@ ghost use lib.Dec.{leb};
 ghost use lib.ListN.{length};
 ghost use Rattle.atom.specs.Write.{put};
 ghost use Rattle.allocator.specs.SmallAtom.{«small-bytes»};
-ghost use Rattle.serializer.specs.Items.{«cons-item», «atom-item», «item-bytes»};
+ghost use Rattle.spec_session.specs.Items.{«cons-item», «atom-item», «item-bytes»};
 ghost use Rattle.write_item.specs.Answers.{written};
 
 // Where the next item goes; that the output has no room for the whole item.
@@ -46,7 +49,7 @@ pub fn write_listed(output: &mut [u8], size: usize, blob: &[u8]) -> Put
     requires { ⌜ length (now blob) < 2 ^ 34 ⌝ }
     ensures { λ r. ⌜ written r (now (output .exit)) ≡ put (now (output .entry)) size (some («item-bytes» («atom-item» (now (blob .entry))))) ⌝ }
 {
-    match write_atom::write_atom::write_atom(output, size, blob) {
+    match atom_encode::write_atom::write_atom(output, size, blob) {
         WriteAtom::Next(next) => Put::Next(next),
         WriteAtom::Full => Put::Full,
         // Never: a prefix holds the size.

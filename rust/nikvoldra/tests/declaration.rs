@@ -224,9 +224,9 @@ fn same_fields(source: &str, name: &str, c_name: &str) {
 
 const SESSION: &str = "crates/session_call/src/lib.rt";
 const SESSION_ANSWER: &str = "crates/session_answer/src/lib.rt";
-const READ: &str = "crates/de_br/src/lib.rt";
+const READ: &str = "crates/read_call/src/lib.rt";
 const READ_ANSWER: &str = "crates/read_answer/src/lib.rt";
-const CHECKPOINTS: &str = "crates/checkpoints/src/lib.rt";
+const CHECKPOINTS: &str = "crates/session_state/src/checkpoints.rt";
 
 /// The call's declaration in the Rattle source. Its checkpoint records are structs, or rows of four words, which have the
 /// same layout.

@@ -3,9 +3,9 @@
 use Prim.Native.Nat.{_-_}
 use mathlib.Core.Path.{refl}
 use borrow.Author.Needs.{needs}
-use Rattle.layout.specs.Layout.{SENTINEL-ENTRY}
+use Rattle.work_layout.specs.Layout.{SENTINEL-ENTRY}
 use Rattle.words.specs.Words.{at}
-use Rattle.tree_cache.proofs.Updating.{cleared-none, cleared-some}
+use Rattle.cache_nodes.proofs.Updating.{cleared-none, cleared-some}
 use Rattle.cache_update.proofs.take_sentinel.Statement.{statement}
 use Rattle.cache_update.proofs.take_sentinel.Tie as tie
 

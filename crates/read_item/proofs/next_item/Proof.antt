@@ -1,7 +1,7 @@
 -- `read_item::next_item` meets its contract: what stands at the place says which kind of item it is.
 -- Assumes nothing.
-use Rattle.cursor.specs.declared.Head.the-variants as head
-use Rattle.cursor.specs.HeadLaws.{told}
+use Rattle.read_cursor.specs.declared.Head.the-variants as head
+use Rattle.read_cursor.specs.HeadLaws.{told}
 use Rattle.read_item.proofs.Items as items
 use borrow.Author.Needs.{needs}
 use Rattle.read_item.proofs.next_item.Statement.{statement}

@@ -3,7 +3,7 @@
 use Prim.Native.Nat.{_+_}
 use native.Mathlib.Omega.{arith}
 use borrow.Author.Needs.{needs}
-use Rattle.layout.specs.Layout.{LENS}
+use Rattle.work_layout.specs.Layout.{LENS}
 use Rattle.search_list.proofs.size_of.Statement.{statement}
 use Rattle.search_list.proofs.size_of.Tie as tie
 

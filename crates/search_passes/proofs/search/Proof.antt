@@ -1,7 +1,7 @@
 -- `search_passes::search` meets its contract: what the cache ensures is what the passes need.
 -- Assumes nothing.
 use native.Mathlib.Omega.{arith}
-use Rattle.layout.specs.Layout.{ENTRIES}
+use Rattle.work_layout.specs.Layout.{ENTRIES}
 use Rattle.search_list.proofs.Premises.{sound-links, unseen-all}
 use borrow.Author.Needs.{needs}
 use Rattle.search_passes.proofs.search.Statement.{statement}

@@ -5,7 +5,7 @@ use native.Mathlib.Omega.{arith}
 use borrow.Author.Needs.{needs}
 use Rattle.words.proofs.Words.{part-length}
 use Rattle.words.specs.Words.{part}
-use Rattle.session_file.specs.CheckedLaws.{atoms-to-load, pairs-to-load}
+use Rattle.file_parts.specs.CheckedLaws.{atoms-to-load, pairs-to-load}
 use Rattle.session_state.specs.State.{the-file}
 use Rattle.session_begin.proofs.Opening.{few-twice, pairs-room, placed}
 use Rattle.session_begin.proofs.load_places.Statement.{statement}

@@ -3,7 +3,7 @@
 use mathlib.Core.Path.{refl}
 use native.Mathlib.Omega.{arith}
 use borrow.Author.Needs.{needs}
-use Rattle.session_file.specs.Places.{StepsAt}
+use Rattle.spec_session.specs.Places.{StepsAt}
 use Rattle.session_state.proofs.Slots.{slot-told}
 use Rattle.session_state.proofs.slot_of.Statement.{statement}
 use Rattle.session_state.proofs.slot_of.Tie as tie

@@ -2,7 +2,7 @@
 -- Assumes nothing.
 use mathlib.Core.Path.{ap, sym, _∙_}
 use borrow.Author.Needs.{needs}
-use Rattle.write_atom.specs.Answers as answers
+use Rattle.atom_encode.specs.Answers as answers
 use Rattle.write_item.proofs.Puts.{put-atom, put-atom-there}
 use Rattle.write_item.proofs.write_listed.Statement.{statement}
 use Rattle.write_item.proofs.write_listed.Tie as tie

@@ -9,7 +9,7 @@ use lib.ListN.{length}
 use borrow.Author.Needs.{needs}
 use Rattle.atom.specs.Write.{put}
 use Rattle.allocator.specs.SmallAtomLaws.{length-small-bytes}
-use Rattle.serializer.specs.Items.{atom-item, item-bytes}
+use Rattle.spec_session.specs.Items.{atom-item, item-bytes}
 use Rattle.write_item.proofs.write_small.Statement.{statement}
 use Rattle.write_item.proofs.write_small.Tie as tie
 

@@ -1,0 +1,19 @@
+-- `atom::is_single` meets its contract.
+-- Assumes nothing.
+use mathlib.Core.Path.{sym}
+use Rattle.atom.specs.PrefixLaws.{single-one, single-other}
+use borrow.Author.Needs.{needs}
+use Rattle.atom.proofs.is_single.Statement.{statement}
+use Rattle.atom.proofs.is_single.Tie as tie
+
+shared-slice-read-result : tie.Need-shared-slice-read-result
+shared-slice-read-result c = search needs
+
+returns : tie.Need-returns
+returns c = sym (single-one (c .before .before .args .atom .now) (c .before .if1 .taken))
+
+returns-2 : tie.Need-returns-2
+returns-2 c = sym (single-other (c .before .args .atom .now) (c .if1 .left))
+
+pub is-single-spec : {M : Type 1} → statement M
+is-single-spec = tie.close (tie.spec shared-slice-read-result returns returns-2)

@@ -1,0 +1,35 @@
+-- `cache_nodes::lookup::atom_entry` meets its contract: the entry with the atom's key, or entry 0.
+-- Assumes nothing.
+use mathlib.Core.Path.{ap}
+use Rattle.cache_entries.specs.Contracts.{option-of}
+use Rattle.cache_nodes.proofs.lookup.Entries.{atom-at, atom-none}
+use borrow.Author.Needs.{needs}
+use Rattle.cache_nodes.proofs.lookup.atom_entry.Statement.{statement}
+use Rattle.cache_nodes.proofs.lookup.atom_entry.Tie as tie
+
+atom-key-requires : tie.Need-atom-key-requires
+atom-key-requires c κs = search needs
+
+find-key-requires : tie.Need-find-key-requires
+find-key-requires c κs = search needs
+
+enum-known-e : tie.Need-enum-known-e
+enum-known-e c = search needs
+
+enum-told : tie.Need-enum-told
+enum-told c = search needs
+
+returns : tie.Need-returns
+returns c = let s = c .before .before .before .before .before .before in
+    atom-at (s .args .work .now) (s .args .node .0) (c .before .before .before .before .atom-key .result) (s .pre .0) (c .before .before .before .before .atom-key .ensures) (c .before .before .before .find-key .result) (c .before .before .before .find-key .ensures)
+    (c .before .e .given .0 .0 .0) (ap option-of (c .before .e .given .1))
+
+returns-2 : tie.Need-returns-2
+returns-2 c = let s = c .before .before .before .before .before in
+    atom-none (s .args .work .now) (s .args .node .0) (c .before .before .before .atom-key .result) (s .pre .0) (c .before .before .before .atom-key .ensures) (c .before .before .find-key .result) (c .before .before .find-key .ensures)
+    (ap option-of (c .enum-told .given .1))
+
+pub atom-entry-spec : {M : Type 1} → statement M
+atom-entry-spec =
+    tie.close
+    (tie.spec atom-key-requires find-key-requires enum-known-e enum-told returns returns-2)

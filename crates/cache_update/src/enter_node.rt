@@ -1,0 +1,48 @@
+// tree_cache.rs: the entry of an atom or a pair, found or made.
+use allocator::NodePtr;
+use cache_entries::Found;
+use cache_entries::insert_entry;
+use work_layout::EntryIndex;
+ghost use mathlib.Core.Path.{_≡_};
+ghost use mathlib.Core.Bool.{true};
+ghost use Prim.Native.Nat.{_<_};
+ghost use Rattle.words.specs.Words.{at};
+ghost use Rattle.allocator.specs.Handle.{node-of, is-atom};
+ghost use Rattle.work_layout.specs.Layout.{PAIR-COUNT, USED, ENTRIES};
+ghost use Rattle.work_layout.specs.Rows.{Sound};
+ghost use Rattle.cache_entries.specs.Contracts.{Interned};
+ghost use Rattle.cache_nodes.specs.Meaning.{Names, Whole};
+ghost use Rattle.cache_nodes.specs.Contracts.{atom-action, pair-action, Made};
+
+// The entry with this key, found or made.
+fn find_or_add(work: &mut [u32], left: u32, right: u32, len: u64) -> EntryIndex
+    requires { ⌜ (Sound (now work)) × (at (now work) USED < ENTRIES) ⌝ }
+    ensures { λ x. ⌜ Interned (now (work .entry)) (now (work .exit)) left right len (x .0) ⌝ }
+{
+    match cache_entries::find_key(work, left, right) {
+        Found::At(e) => e,
+        Found::Nothing => insert_entry::insert(work, left, right, len),
+    }
+}
+
+// The entry of an atom, found or made.
+pub fn enter_atom(work: &mut [u32], h: NodePtr) -> EntryIndex
+    requires { ⌜ (Whole (now work)) × (Names (now work) (at (now work) PAIR-COUNT) (h .0)) × (is-atom (node-of (h .0)) ≡ true) ⌝ }
+    requires { ⌜ at (now work) USED < ENTRIES ⌝ }
+    ensures { λ x. ⌜ Made (atom-action (h .0)) (now (work .entry)) (now (work .exit)) (x .0) ⌝ }
+{
+    let key = cache_nodes::atom_key(work, h);
+    let len = cache_nodes::atom_length(work, h);
+    find_or_add(work, cache_nodes::ATOM_KEY, key, len)
+}
+
+// The entry of a pair whose sides have the entries l and r, found or made.
+pub fn enter_pair(work: &mut [u32], l: EntryIndex, r: EntryIndex) -> EntryIndex
+    requires { ⌜ (Whole (now work)) × (l .0 < at (now work) USED) × (r .0 < at (now work) USED) × (at (now work) USED < ENTRIES) ⌝ }
+    ensures { λ x. ⌜ Made (pair-action (l .0) (r .0)) (now (work .entry)) (now (work .exit)) (x .0) ⌝ }
+{
+    let a = cache_entries::length_of(work, l);
+    let b = cache_entries::length_of(work, r);
+    let len = cache_nodes::pair_length(a, b);
+    find_or_add(work, l.0, r.0, len)
+}

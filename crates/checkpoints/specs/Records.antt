@@ -1,6 +1,0 @@
--- The checkpoint records.
-use Rattle.checkpoints.specs.declared.Checkpoint.{Checkpoint}
-
--- The record whose words are zero.
-abbrev pub blank : Checkpoint
-blank = record { opens = 0; depth = 0; size = 0; sentinel = 0 }

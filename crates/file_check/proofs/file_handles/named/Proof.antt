@@ -1,0 +1,56 @@
+-- `named` meets its contract: it goes by the node's type and index.
+-- Assumes nothing.
+use borrow.Author.Needs.{needs}
+use Rattle.allocator.specs.Handle.{node-of}
+use Rattle.file_parts.proofs.session_file.FieldLaws.{named-pair, named-bytes, named-small, named-unknown}
+use Rattle.file_check.proofs.file_handles.named.Statement.{statement}
+use Rattle.file_check.proofs.file_handles.named.Tie as tie
+
+object-type-requires : tie.Need-object-type-requires
+object-type-requires c κs = search needs
+
+enum-told : tie.Need-enum-told
+enum-told c = search needs
+
+index-requires : tie.Need-index-requires
+index-requires c κs = search needs
+
+enum-told-2 : tie.Need-enum-told-2
+enum-told-2 c = search needs
+
+index-requires-2 : tie.Need-index-requires-2
+index-requires-2 c κs = search needs
+
+enum-told-3 : tie.Need-enum-told-3
+enum-told-3 c = search needs
+
+enum-told-4 : tie.Need-enum-told-4
+enum-told-4 c = search needs
+
+returns : tie.Need-returns
+returns c = let a = c .before .before .before .before .args in named-pair (a .atoms) (a .pairs) (node-of (a .node .0)) (c .before .before .before .object-type .result) (c .index .result) (c .before .before .before .object-type .ensures) (c .index .ensures) (c .before .enum-told .given .1)
+
+returns-2 : tie.Need-returns-2
+returns-2 c = let a = c .before .before .before .before .args in named-bytes (a .atoms) (a .pairs) (node-of (a .node .0)) (c .before .before .before .object-type .result) (c .index2 .result) (c .before .before .before .object-type .ensures) (c .index2 .ensures) (c .before .enum-told2 .given .1)
+
+returns-3 : tie.Need-returns-3
+returns-3 c = let a = c .before .before .before .args in named-small (a .atoms) (a .pairs) (node-of (a .node .0)) (c .before .before .object-type .result) (c .before .before .object-type .ensures) (c .enum-told3 .given .1)
+
+returns-4 : tie.Need-returns-4
+returns-4 c = let a = c .before .before .before .args in named-unknown (a .atoms) (a .pairs) (node-of (a .node .0)) (c .before .before .object-type .result) (c .before .before .object-type .ensures) (c .enum-told4 .given .1)
+
+pub named-spec : {M : Type 1} → statement M
+named-spec =
+    tie.close
+    (tie.spec
+    object-type-requires
+    enum-told
+    index-requires
+    enum-told-2
+    index-requires-2
+    enum-told-3
+    enum-told-4
+    returns
+    returns-2
+    returns-3
+    returns-4)

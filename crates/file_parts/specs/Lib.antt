@@ -1,0 +1,5 @@
+pub mod Answers
+pub mod Checked
+pub mod PlaceLaws
+pub mod Loaded
+pub mod CheckedLaws

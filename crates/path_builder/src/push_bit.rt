@@ -1,0 +1,42 @@
+// One bit more in a path's store, which is lent, one byte in each word.
+use words::wide;
+ghost use mathlib.Core.Path.{_≡_};
+ghost use Prim.Native.Nat.{_+_, _*_, _-_, _/_, _%_, _^_, _≤_, _<_};
+ghost use lib.ListN.{length, getD};
+ghost use Rattle.path_builder.specs.Put.{Put};
+
+// Where the next bit goes: the bytes in use, and the place.
+pub struct Place {
+    pub in_use: u32,
+    pub bit_pos: u8,
+}
+
+// The place below; after place 0 it is place 7 of the next byte.
+fn next_place(place: u8) -> u8
+    requires { ⌜ place < 8 ⌝ }
+    ensures { λ r. ⌜ r ≡ (place + 7) % 8 ⌝ }
+{
+    if place == 0 { 7 } else { place - 1 }
+}
+
+// One bit more. A new byte is stored, not added to: nothing is assumed of the words after the bytes in use.
+pub fn push_bit(store: &mut [u32], in_use: u32, place: u8, bit: u32) -> Place
+    requires { ⌜ (place < 8) × (bit < 2) × ((place + 1) % 8 ≤ 8 * «in_use») × («in_use» + (place + 1) / 8 ≤ length (now store))
+        × («in_use» + 1 < 2 ^ 32) × ((place < 7) → getD (now store) («in_use» - 1) 0 < 256) ⌝ }
+    ensures { λ r. ⌜ Put (now (store .entry)) «in_use» place bit (now (store .exit)) r ⌝ }
+{
+    let n = wide(in_use);
+    if place == 7 {
+        store[n] = bit << 7;
+        return Place {
+            in_use: in_use + 1,
+            bit_pos: 6,
+        };
+    }
+    let x = store[n - 1];
+    store[n - 1] = x + (bit << (place as u32));
+    Place {
+        in_use: in_use,
+        bit_pos: next_place(place),
+    }
+}

@@ -1,0 +1,211 @@
+-- Laws of the reading call: cleared slices are a fresh store, and what was read gives the answer and the slices that the definition says.
+-- Assumes nothing.
+use Prim.Native.Nat.{ℕ, zero, suc, _-_, _*_, _/_, _≤_, _<_}
+use mathlib.Core.Path.{_≡_, refl, sym, ap, subst, _∙_}
+use mathlib.Core.Bool.{Bool, true, false, cond, _&&_}
+use mathlib.Core.List.{List, _++_}
+use native.Mathlib.Omega.{arith}
+use borrow.Author.Tests.{leb-true, le-leb, lt-leb}
+use lib.Dec.{leb}
+use lib.ListN.{length, take, drop, replicate, length-replicate, take-append-drop}
+use lib.Seq.{length-take-le}
+use Rattle.words.specs.Words.{at}
+use Rattle.spec_reading.specs.Format.{Read}
+use Rattle.spec_reading.specs.Store.{Stored, read-stored}
+use Rattle.spec_reading.specs.Bounds.{Bounds, sound-bounds}
+use Rattle.spec_reading.specs.Call.{Slices, Result, refusal, zeroed, filled, root-of, answer-of, after, long-enough, reading}
+use Rattle.read_store.specs.Layout.{VALUES, valuesOf}
+use Rattle.read_item.specs.Whole.{storedOf, Lent, Ends}
+use Rattle.read_item.specs.declared.settle.Reader.{Reader}
+use Rattle.read_call.specs.declared.read_items.Outcome.{Outcome}
+use Rattle.read_call.specs.declared.read_items.Outcome.the-variants as outcome
+use Rattle.read_call.specs.read_items.Outcome.{start, ReadAll}
+use Rattle.read_answer.specs.declared.ReadAnswer.{ReadAnswer}
+use Rattle.read_answer.specs.Answer.{answerOf, Counts, answerAt, slices}
+use Rattle.read_call.specs.Outcome.{resultOf}
+
+-- ---- a fresh store
+
+both-left : (x y : Bool) → x && y ≡ true → x ≡ true
+both-left true y e = refl
+both-left false y e = e
+
+both-right : (x y : Bool) → x && y ≡ true → y ≡ true
+both-right true y e = e
+both-right false true e = refl
+both-right false false e = e
+
+-- Question 1 was answered: the four lengths.
+record Long (w p a b : List ℕ) : Type 0 where
+  work : 524288 ≤ length w
+  pairs : 262144 ≤ length p
+  atoms : 131072 ≤ length a
+  bytes : 65536 ≤ length b
+
+long : (w p a b : List ℕ) → long-enough (slices w p a b) ≡ true → Long w p a b
+long w p a b e =
+    let f = both-right (leb 524288 (length w)) (leb 262144 (length p) && (leb 131072 (length a) && leb 65536 (length b))) e in
+    let g = both-right (leb 262144 (length p)) (leb 131072 (length a) && leb 65536 (length b)) f in
+    record {
+      work = leb-true 524288 (length w) (both-left (leb 524288 (length w)) (leb 262144 (length p) && (leb 131072 (length a) && leb 65536 (length b))) e);
+      pairs = leb-true 262144 (length p) (both-left (leb 262144 (length p)) (leb 131072 (length a) && leb 65536 (length b)) f);
+      atoms = leb-true 131072 (length a) (both-left (leb 131072 (length a)) (leb 65536 (length b)) g);
+      bytes = leb-true 65536 (length b) (both-right (leb 131072 (length a)) (leb 65536 (length b)) g);
+    }
+
+zeroed-length : (l l′ : List ℕ) → l′ ≡ zeroed l → length l′ ≡ length l
+zeroed-length l l′ e = ap length e ∙ length-replicate (length l) 0
+
+-- A slice that was cleared is zero from its first word on.
+zeroed-rest : (l l′ : List ℕ) → l′ ≡ zeroed l → drop 0 l′ ≡ replicate (length l′ - 0) 0
+zeroed-rest l l′ e =
+    let n : length l ≡ length l′ - 0 = omega (arith, zeroed-length l l′ e) in
+    e ∙ ap (λ (k : ℕ). replicate k 0) n
+
+pub lent-start : (input w p a b p′ a′ b′ : List ℕ) → long-enough (slices w p a b) ≡ true → length input ≤ 65535
+    → p′ ≡ zeroed p → a′ ≡ zeroed a → b′ ≡ zeroed b → Lent input w p′ a′ b′ start
+lent-start input w p a b p′ a′ b′ e short ep ea eb =
+    let l = long w p a b e in
+    record {
+      work = l .work;
+      pairs-room = omega (arith, l .pairs, zeroed-length p p′ ep);
+      atoms-room = omega (arith, l .atoms, zeroed-length a a′ ea);
+      bytes-room = omega (arith, l .bytes, zeroed-length b b′ eb);
+      short = short;
+      inside = omega arith;
+      pairs-in = omega arith;
+      atoms-in = omega arith;
+      bytes-in = omega arith;
+      pairs-rest = zeroed-rest p p′ ep;
+      atoms-rest = zeroed-rest a a′ ea;
+      bytes-rest = zeroed-rest b b′ eb;
+    }
+
+-- ---- what was read
+
+values-length : (w : List ℕ) (n : ℕ) → length (valuesOf w n) ≡ n
+unfolding valuesOf
+values-length w zero = refl
+values-length w (suc n) = ap suc (values-length w n)
+
+-- Used words and the zeros after them are the whole slice; l is the slice at entry.
+filled-whole : (l l′ : List ℕ) (n : ℕ) → length l′ ≡ length l → n ≤ length l′ → drop n l′ ≡ replicate (length l′ - n) 0 → l′ ≡ filled l (take n l′)
+filled-whole l l′ n e i z =
+    let k : length l′ - n ≡ length l - length (take n l′) = omega (arith, length-take-le n l′ i) in
+    sym (take-append-drop n l′) ∙ ap (λ (r : List ℕ). take n l′ ++ r) (z ∙ ap (λ (m : ℕ). replicate m 0) k)
+
+module _ (input w p a b : List ℕ) (r : Reader) (h : Ends input w p a b r) where
+  pairs-length : length (take (2 * r .pairs) p) ≡ 2 * r .pairs
+  pairs-length = length-take-le (2 * r .pairs) p (h .lent .pairs-in)
+
+  atoms-length : length (take (2 * r .atoms) a) ≡ 2 * r .atoms
+  atoms-length = length-take-le (2 * r .atoms) a (h .lent .atoms-in)
+
+  bytes-length : length (take (r .bytes) b) ≡ r .bytes
+  bytes-length = length-take-le (r .bytes) b (h .lent .bytes-in)
+
+  bounds : Bounds (storedOf w p a b r)
+  bounds = sound-bounds (r .position) _ (storedOf w p a b r) (omega (arith, h .lent .inside, h .lent .short)) (h .sound)
+
+  pub counts : Counts w r
+  counts =
+      record {
+        value-in = omega (arith, h .lent .work);
+        pairs-fit = omega (arith, bounds .pair-words, pairs-length);
+        atoms-fit = omega (arith, bounds .atom-words, atoms-length);
+        bytes-fit = omega (arith, bounds .atom-bytes, bytes-length);
+        ghosts-fit = omega (arith, bounds .pairs-and-ghosts);
+      }
+
+  one-value : r .values ≡ 1
+  one-value = sym (values-length w (r .values)) ∙ h .sound .fits
+
+  root : at w VALUES ≡ root-of (valuesOf w (r .values))
+  unfolding valuesOf
+  root = ap (λ (n : ℕ). root-of (valuesOf w n)) (sym one-value)
+
+  answered : answerAt w r ≡ answer-of (storedOf w p a b r)
+  answered =
+      let np : r .pairs ≡ length (take (2 * r .pairs) p) / 2 = omega (arith, pairs-length) in
+      let na : r .atoms ≡ length (take (2 * r .atoms) a) / 2 = omega (arith, atoms-length) in
+      λ i. record { number = 0; root = root i; pairs = np i; atoms = na i; bytes = sym bytes-length i; ghosts = r .ghosts }
+
+pub accepted-counts : (input w p a b : List ℕ) (o : Outcome) (r : Reader) → ReadAll input w p a b (read-stored input) o → o ≡ outcome.Accepted r → Counts w r
+accepted-counts input w p a b o r all-read e = counts input w p a b r (subst (λ (x : Outcome). ReadAll input w p a b (read-stored input) x) e all-read .ends)
+
+zeroed-same : (l l₁ : List ℕ) → length l₁ ≡ length l → zeroed l₁ ≡ zeroed l
+zeroed-same l l₁ e = ap (λ (n : ℕ). replicate n 0) e
+
+-- The call's result after everything was read: work is cleared, the store is left as it was read.
+pub result-accepted : (input w p a b w₁ p₁ a₁ b₁ : List ℕ) (o : Outcome) (r : Reader) → ReadAll input w₁ p₁ a₁ b₁ (read-stored input) o → o ≡ outcome.Accepted r
+    → length w₁ ≡ length w → length p₁ ≡ length p → length a₁ ≡ length a → length b₁ ≡ length b
+    → (w₂ : List ℕ) → w₂ ≡ zeroed w₁ → (x : ReadAnswer) → answerOf x ≡ answerAt w₁ r
+    → resultOf x w₂ p₁ a₁ b₁ ≡ after (read-stored input) (slices w p a b)
+result-accepted input w p a b w₁ p₁ a₁ b₁ o r all-read e lw lp la lb w₂ zw x ex =
+    (λ i.
+    record {
+      answer = (ex ∙ answered input w₁ p₁ a₁ b₁ r (t .ends)) i;
+      slices =
+          record {
+            work = (zw ∙ zeroed-same w w₁ lw) i;
+            pairs = filled-whole p p₁ (2 * r .pairs) lp (t .ends .lent .pairs-in) (t .ends .lent .pairs-rest) i;
+            atoms = filled-whole a a₁ (2 * r .atoms) la (t .ends .lent .atoms-in) (t .ends .lent .atoms-rest) i;
+            bytes = filled-whole b b₁ (r .bytes) lb (t .ends .lent .bytes-in) (t .ends .lent .bytes-rest) i;
+          };
+    })
+    ∙ ap (λ (d : Read Stored). after d (slices w p a b)) (sym (t .same))
+  where
+    t : ReadAll input w₁ p₁ a₁ b₁ (read-stored input) (outcome.Accepted r)
+    t = subst (λ (y : Outcome). ReadAll input w₁ p₁ a₁ b₁ (read-stored input) y) e all-read
+
+-- The call's result after a refusal: everything is cleared.
+pub result-refused : (input w p a b w₁ p₁ a₁ b₁ : List ℕ) (o : Outcome) (n : ℕ) → ReadAll input w₁ p₁ a₁ b₁ (read-stored input) o → o ≡ outcome.Refused n
+    → length w₁ ≡ length w → length p₁ ≡ length p → length a₁ ≡ length a → length b₁ ≡ length b
+    → (w₂ p₂ a₂ b₂ : List ℕ) → w₂ ≡ zeroed w₁ → p₂ ≡ zeroed p₁ → a₂ ≡ zeroed a₁ → b₂ ≡ zeroed b₁ → (x : ReadAnswer) → answerOf x ≡ refusal n
+    → resultOf x w₂ p₂ a₂ b₂ ≡ after (read-stored input) (slices w p a b)
+result-refused input w p a b w₁ p₁ a₁ b₁ o n all-read e lw lp la lb w₂ p₂ a₂ b₂ zw zp za zb x ex =
+    (λ i.
+    record {
+      answer = ex i;
+      slices =
+          record {
+            work = (zw ∙ zeroed-same w w₁ lw) i;
+            pairs = (zp ∙ zeroed-same p p₁ lp) i;
+            atoms = (za ∙ zeroed-same a a₁ la) i;
+            bytes = (zb ∙ zeroed-same b b₁ lb) i;
+          };
+    })
+    ∙ ap (λ (d : Read Stored). after d (slices w p a b)) (sym (t .same))
+  where
+    t : ReadAll input w₁ p₁ a₁ b₁ (read-stored input) (outcome.Refused n)
+    t = subst (λ (y : Outcome). ReadAll input w₁ p₁ a₁ b₁ (read-stored input) y) e all-read
+
+-- ---- the questions
+
+-- The three cases of the call: long enough or not, within the limit or not.
+cases : List ℕ → Slices → Bool → Bool → Result
+cases input l x y = cond x (cond y (after (read-stored input) l) (record { answer = refusal 2; slices = l })) (record { answer = refusal 1; slices = l })
+
+module _ (input w p a b : List ℕ) (t : Bool) (test : t ≡ long-enough (slices w p a b)) where
+  reading-cases : (x y : Bool) → t ≡ x → leb (length input) 65535 ≡ y → reading input (slices w p a b) ≡ cases input (slices w p a b) x y
+  unfolding reading cases
+  reading-cases x y e f = ap (λ (u : Bool). cases input (slices w p a b) u (leb (length input) 65535)) (sym test ∙ e) ∙ ap (λ (u : Bool). cases input (slices w p a b) x u) f
+
+  untouched : (n : ℕ) (r : ReadAnswer) → answerOf r ≡ refusal n → resultOf r w p a b ≡ record { answer = refusal n; slices = slices w p a b }
+  untouched n r e = λ i. record { answer = e i; slices = slices w p a b }
+
+  pub too-short : t ≡ false → (r : ReadAnswer) → answerOf r ≡ refusal 1 → resultOf r w p a b ≡ reading input (slices w p a b)
+  unfolding cases
+  too-short e r h = untouched 1 r h ∙ sym (reading-cases false (leb (length input) 65535) e refl)
+
+  pub too-long : t ≡ true → 65535 < length input → (r : ReadAnswer) → answerOf r ≡ refusal 2 → resultOf r w p a b ≡ reading input (slices w p a b)
+  unfolding cases
+  too-long e l r h = untouched 2 r h ∙ sym (reading-cases true false e (lt-leb _ _ l))
+
+  pub asked : t ≡ true → length input ≤ 65535 → (long-enough (slices w p a b) ≡ true) × (length input ≤ 65535)
+  asked e l = (sym test ∙ e, l)
+
+  pub within : t ≡ true → length input ≤ 65535 → (r : ReadAnswer) (w′ p′ a′ b′ : List ℕ) → resultOf r w′ p′ a′ b′ ≡ after (read-stored input) (slices w p a b)
+      → resultOf r w′ p′ a′ b′ ≡ reading input (slices w p a b)
+  unfolding cases
+  within e l r w′ p′ a′ b′ h = h ∙ sym (reading-cases true true e (le-leb _ _ l))

@@ -1,0 +1,106 @@
+-- `read_call::nikvoldra_read` gives the answer and leaves the slices as the reading call's definition says.
+-- Assumes nothing.
+use native.Mathlib.Omega.{arith}
+use borrow.Author.Needs.{needs}
+use borrow.Author.Tests.{not-true, not-false}
+use Rattle.read_call.proofs.Answers.{too-short, too-long, asked, within}
+use Rattle.read_call.proofs.nikvoldra_read.Statement.{statement}
+use Rattle.read_call.proofs.nikvoldra_read.Tie as tie
+
+long-enough-requires : tie.Need-long-enough-requires
+long-enough-requires c κs = search needs
+
+refusal-requires : tie.Need-refusal-requires
+refusal-requires c κs = search needs
+
+same-length : tie.Need-same-length
+same-length c = search needs
+
+same-length-2 : tie.Need-same-length-2
+same-length-2 c = search needs
+
+same-length-3 : tie.Need-same-length-3
+same-length-3 c = search needs
+
+same-length-4 : tie.Need-same-length-4
+same-length-4 c = search needs
+
+returns : tie.Need-returns
+returns c =
+    let s = c .before .before .before .before .before .before .before .before .before .before .before .before .args in
+    let t = c .before .before .long-enough in
+    too-short (s .input .now) (s .work .now) (s .pairs .now) (s .atoms .now) (s .bytes .now) (t .result) (t .ensures)
+    (not-true (t .result) (c .before .if1 .taken)) (c .refusal .result) (c .refusal .ensures)
+
+refusal-requires-2 : tie.Need-refusal-requires-2
+refusal-requires-2 c κs = search needs
+
+same-length-5 : tie.Need-same-length-5
+same-length-5 c = search needs
+
+same-length-6 : tie.Need-same-length-6
+same-length-6 c = search needs
+
+same-length-7 : tie.Need-same-length-7
+same-length-7 c = search needs
+
+same-length-8 : tie.Need-same-length-8
+same-length-8 c = search needs
+
+returns-2 : tie.Need-returns-2
+returns-2 c =
+    let s = c .before .before .before .before .before .before .before .before .before .before .before .before .before .args in
+    let t = c .before .before .before .long-enough in
+    too-long (s .input .now) (s .work .now) (s .pairs .now) (s .atoms .now) (s .bytes .now) (t .result) (t .ensures)
+    (not-false (t .result) (c .before .before .if1 .left)) (omega (arith, c .before .if2)) (c .refusal2 .result) (c .refusal2 .ensures)
+
+read-in-requires : tie.Need-read-in-requires
+read-in-requires c κs =
+    let s = c .before .before .before .before .before .before .before .before .before .before .before .before .before .before .before .before .args in
+    let t = c .before .before .before .before .before .before .long-enough in
+    asked (s .input .now) (s .work .now) (s .pairs .now) (s .atoms .now) (s .bytes .now) (t .result) (t .ensures) (not-false (t .result) (c .before .before .before .before .before .if1 .left)) (omega (arith, c .before .before .before .before .if2))
+
+same-length-9 : tie.Need-same-length-9
+same-length-9 c = search needs
+
+same-length-10 : tie.Need-same-length-10
+same-length-10 c = search needs
+
+same-length-11 : tie.Need-same-length-11
+same-length-11 c = search needs
+
+same-length-12 : tie.Need-same-length-12
+same-length-12 c = search needs
+
+returns-3 : tie.Need-returns-3
+returns-3 c =
+    let s = c .before .before .before .before .before .before .before .before .before .before .before .before .before .before .before .before .before .before .before .before .before .before .before .before .before .args in
+    let t = c .before .before .before .before .before .before .before .before .before .before .before .before .before .before .before .long-enough in
+    let x = c .before .before .before .before .before .before .before .before .read-in in
+    within (s .input .now) (s .work .now) (s .pairs .now) (s .atoms .now) (s .bytes .now) (t .result) (t .ensures)
+    (not-false (t .result) (c .before .before .before .before .before .before .before .before .before .before .before .before .before .before .if1 .left)) (omega (arith, c .before .before .before .before .before .before .before .before .before .before .before .before .before .if2))
+    (x .result) (x .last .1 .0) (x .last .1 .1 .0) (x .last .1 .1 .1 .0) (x .last .1 .1 .1 .1 .0) (x .ensures)
+
+pub nikvoldra-read-spec : {M : Type 1} → statement M
+nikvoldra-read-spec =
+    tie.close
+    (tie.spec
+    long-enough-requires
+    refusal-requires
+    same-length
+    same-length-2
+    same-length-3
+    same-length-4
+    returns
+    refusal-requires-2
+    same-length-5
+    same-length-6
+    same-length-7
+    same-length-8
+    returns-2
+    read-in-requires
+    same-length-9
+    same-length-10
+    same-length-11
+    same-length-12
+    returns-3)

@@ -1,0 +1,60 @@
+// de_br.rs: a serialized tree with references is read into a store.
+mod read_items;
+
+use read_answer::ReadAnswer;
+use read_answer::clear_slices;
+use read_items::Outcome;
+use words::slices;
+ghost use mathlib.Core.Path.{_≡_};
+ghost use mathlib.Core.Bool.{true};
+ghost use Prim.Native.Nat.{_≤_};
+ghost use lib.ListN.{length};
+ghost use Rattle.spec_reading.specs.Store.{read-stored};
+ghost use Rattle.spec_reading.specs.Call.{long-enough, after, reading};
+ghost use Rattle.read_answer.specs.Answer.{slices};
+ghost use Rattle.read_call.specs.Outcome.{resultOf};
+
+// Reading past the questions 1 and 2.
+fn read_in(
+    input: &[u8],
+    work: &mut [u32],
+    pairs: &mut [u32],
+    atoms: &mut [u32],
+    bytes: &mut [u8],
+) -> ReadAnswer
+    requires { ⌜ (long-enough (slices (now work) (now pairs) (now atoms) (now bytes)) ≡ true) × (length (now input) ≤ 65535) ⌝ }
+    ensures { λ r. ⌜ resultOf r (now (work .exit)) (now (pairs .exit)) (now (atoms .exit)) (now (bytes .exit)) ≡ after (read-stored (now (input .entry))) (slices (now (work .entry)) (now (pairs .entry)) (now (atoms .entry)) (now (bytes .entry))) ⌝ }
+{
+    clear_slices::clear_store(pairs, atoms, bytes);
+    match read_items::read_all(input, work, pairs, atoms, bytes) {
+        Outcome::Accepted(r) => {
+            let a = read_answer::answer(work, r);
+            slices::clear(work);
+            a
+        }
+        Outcome::Refused(n) => {
+            clear_slices::clear_all(work, pairs, atoms, bytes);
+            read_answer::refusal(n)
+        }
+    }
+}
+
+// Reads a serialized tree into a fresh, empty store. The slices are lent: work, and the pairs, atoms and atom bytes of the store.
+#[no_mangle]
+pub extern "C" fn nikvoldra_read(
+    input: &[u8],
+    work: &mut [u32],
+    pairs: &mut [u32],
+    atoms: &mut [u32],
+    bytes: &mut [u8],
+) -> ReadAnswer
+    ensures { λ r. ⌜ resultOf r (now (work .exit)) (now (pairs .exit)) (now (atoms .exit)) (now (bytes .exit)) ≡ reading (now (input .entry)) (slices (now (work .entry)) (now (pairs .entry)) (now (atoms .entry)) (now (bytes .entry))) ⌝ }
+{
+    if !read_answer::long_enough(work, pairs, atoms, bytes) {
+        return read_answer::refusal(1);
+    }
+    if 65535 < input.len() {
+        return read_answer::refusal(2);
+    }
+    read_in(input, work, pairs, atoms, bytes)
+}

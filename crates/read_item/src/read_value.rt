@@ -1,0 +1,135 @@
+// de_br.rs: an atom or a reference, read and pushed.
+use crate::settle;
+use crate::settle::Item;
+use crate::settle::Reader;
+use atom_decode::ParseAtom;
+use read_path::Built;
+use read_path::Traversed;
+use read_store::reader_stacks;
+ghost use mathlib.Core.Path.{_≡_};
+ghost use Prim.Native.Nat.{_+_, _<_, _≤_};
+ghost use lib.ListN.{length};
+ghost use Rattle.read_store.specs.Layout.{PushedValue};
+ghost use Rattle.read_item.specs.Whole.{Stands};
+ghost use Rattle.read_item.specs.Values.{AtomRoom, AtomPushed, SteppedAtom, node-pushed, BeforePath, PathFound, SteppedPath};
+ghost use Rattle.atom.specs.Parse.{blob-of, parse-at};
+ghost use Rattle.atom_decode.specs.Answers.{parseOf};
+
+// The atom that was found, and ends at `end`, is stored and pushed.
+fn push_atom(
+    input: &[u8],
+    work: &mut [u32],
+    atoms: &mut [u32],
+    bytes: &mut [u8],
+    r: Reader,
+    found: ParseAtom,
+    end: usize,
+) -> Reader
+    requires { ⌜ AtomRoom (now work) (now atoms) (now bytes) r (blob-of (now input) (parseOf found)) ⌝ }
+    ensures { λ s. ⌜ AtomPushed (now (work .entry)) (now (atoms .entry)) (now (bytes .entry)) r (blob-of (now (input .entry)) (parseOf found)) end (now (work .exit)) (now (atoms .exit)) (now (bytes .exit)) s ⌝ }
+{
+    let blob = atom_decode::parse_atom_ptr(input, found);
+    let used = r.atoms;
+    let size = r.bytes;
+    let values = r.values;
+    let a = read_store::new_atom(atoms, bytes, used, size, blob);
+    reader_stacks::push_value(work, values, a.node);
+    Reader {
+        position: end,
+        ops: r.ops,
+        values: values + 1,
+        listed: r.listed,
+        pairs: r.pairs,
+        atoms: a.atoms,
+        bytes: a.bytes,
+        ghosts: r.ghosts + 1,
+    }
+}
+
+pub fn atom_item(
+    input: &[u8],
+    work: &mut [u32],
+    pairs: &mut [u32],
+    atoms: &mut [u32],
+    bytes: &mut [u8],
+    r: Reader,
+    found: ParseAtom,
+) -> Item
+    requires { ⌜ (Stands (now input) (now work) (now pairs) (now atoms) (now bytes) r) × (parseOf found ≡ parse-at (now input) (r .position)) ⌝ }
+    ensures { λ i. ⌜ SteppedAtom (now (input .entry)) (now (work .entry)) (now (pairs .entry)) (now (atoms .entry)) (now (bytes .entry)) r (now (work .exit)) (now (pairs .exit)) (now (atoms .exit)) (now (bytes .exit)) i ⌝ }
+{
+    match found {
+        ParseAtom::Blob { start: _, end } => {
+            let next = push_atom(input, work, atoms, bytes, r, found, end);
+            settle::settle(input, work, pairs, next)
+        }
+        ParseAtom::SerializationError => Item::Refused(14),
+        ParseAtom::NonCanonicalSerialization => Item::Refused(15),
+    }
+}
+
+// The node that a path led to is pushed. The path ends at `end`.
+fn push_node(work: &mut [u32], r: Reader, b: Built, end: usize) -> Reader
+    requires { ⌜ (524288 ≤ length (now work)) × (r .values < 131072) × (b .ghosts ≤ 131072) ⌝ }
+    ensures { λ s. ⌜ (PushedValue (now (work .entry)) (now (work .exit)) (r .values) (b .node .0)) × (s ≡ node-pushed r b end) ⌝ }
+{
+    let values = r.values;
+    reader_stacks::push_value(work, values, b.node);
+    Reader {
+        position: end,
+        ops: r.ops,
+        values: values + 1,
+        listed: b.listed,
+        pairs: b.pairs,
+        atoms: r.atoms,
+        bytes: r.bytes,
+        ghosts: b.ghosts + 1,
+    }
+}
+
+// The path that was found, and ends at `end`, is walked.
+fn push_path(
+    input: &[u8],
+    work: &mut [u32],
+    pairs: &mut [u32],
+    r: Reader,
+    found: ParseAtom,
+    end: usize,
+) -> Item
+    requires { ⌜ (BeforePath (now input) (now work) (now pairs) r) × (PathFound (now input) r (parseOf found) end) ⌝ }
+    ensures { λ i. ⌜ SteppedPath (now (input .entry)) (now (work .entry)) (now (pairs .entry)) r (now (work .exit)) (now (pairs .exit)) i ⌝ }
+{
+    let path = atom_decode::parse_atom_ptr(input, found);
+    match read_path::traverse_path_with_vec(
+        path,
+        work,
+        pairs,
+        r.values,
+        r.listed,
+        r.pairs,
+        r.ghosts,
+    ) {
+        Traversed::Node(b) => {
+            let next = push_node(work, r, b, end);
+            settle::settle(input, work, pairs, next)
+        }
+        Traversed::IntoAtom => Item::Refused(16),
+    }
+}
+
+pub fn path_item(
+    input: &[u8],
+    work: &mut [u32],
+    pairs: &mut [u32],
+    r: Reader,
+    found: ParseAtom,
+) -> Item
+    requires { ⌜ (BeforePath (now input) (now work) (now pairs) r) × (parseOf found ≡ parse-at (now input) (r .position + 1)) ⌝ }
+    ensures { λ i. ⌜ SteppedPath (now (input .entry)) (now (work .entry)) (now (pairs .entry)) r (now (work .exit)) (now (pairs .exit)) i ⌝ }
+{
+    match found {
+        ParseAtom::Blob { start: _, end } => push_path(input, work, pairs, r, found, end),
+        ParseAtom::SerializationError => Item::Refused(14),
+        ParseAtom::NonCanonicalSerialization => Item::Refused(15),
+    }
+}

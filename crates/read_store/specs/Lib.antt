@@ -1,0 +1,3 @@
+pub mod Atoms
+pub mod Layout
+pub mod Joined

@@ -1,0 +1,56 @@
+// find_path of tree_cache.rs with its exceptions: the length of an entry, and the path that is written for a node, if there is one.
+mod find_path;
+
+use allocator::NodePtr;
+use cache_stack::marks;
+pub use find_path::Path;
+use work_layout::EntryIndex;
+ghost use mathlib.Core.Path.{_≡_};
+ghost use Prim.Native.Nat.{_≤_, _<_};
+ghost use lib.ListN.{length};
+ghost use Rattle.words.specs.Words.{at};
+ghost use Rattle.work_layout.specs.Layout.{USED, ENTRIES};
+ghost use Rattle.work_layout.specs.Rows.{all-counts};
+ghost use Rattle.cache_stack.specs.Contracts.{Stacked};
+ghost use Rattle.cache_nodes.specs.Meaning.{Whole};
+ghost use Rattle.search_find.specs.Contracts.{LengthOf, FindsIn};
+
+// A reference to anything shorter takes no fewer bytes.
+const MIN_SERIALIZED_LENGTH: u64 = 4;
+
+// How many entries there are.
+fn used_of(work: &[u32]) -> u32
+    requires { ⌜ 524288 ≤ length (now work) ⌝ }
+    ensures { λ r. ⌜ r ≡ at (now (work .entry)) USED ⌝ }
+{
+    work[work_layout::USED]
+}
+
+// The length of entry e, and 0 where there is no such entry.
+pub fn length_at(work: &[u32], e: EntryIndex) -> u64
+    requires { ⌜ Whole (now work) ⌝ }
+    ensures { λ n. ⌜ LengthOf (now (work .entry)) (e .0) n ⌝ }
+{
+    if e.0 >= used_of(work) {
+        return 0;
+    }
+    cache_entries::length_of(work, e)
+}
+
+// The path that is written for a node of entry e, over a stack of `depth` entries: none for nil, for an entry that is not marked written, and for a short one.
+pub fn find(work: &mut [u32], node: NodePtr, e: EntryIndex, depth: usize) -> Path
+    requires { ⌜ (Whole (now work)) × (Stacked (now work) depth) × (all-counts (now work) ENTRIES ≤ 2048) × (e .0 < ENTRIES) ⌝ }
+    ensures { λ r. ⌜ FindsIn (now (work .entry)) (now (work .exit)) depth (node .0) (e .0) r ⌝ }
+{
+    if node.same(NodePtr::NIL) {
+        return Path::NoPath;
+    }
+    if !marks::is_marked(work, e) {
+        return Path::NoPath;
+    }
+    let len = length_at(work, e);
+    if len < MIN_SERIALIZED_LENGTH {
+        return Path::NoPath;
+    }
+    find_path::find_path(work, e, len, depth)
+}

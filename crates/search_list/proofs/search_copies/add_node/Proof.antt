@@ -1,0 +1,114 @@
+-- `search_list::search_copies::add_node` meets its contract: four stores make the node, and the mark its entry seen.
+-- Assumes nothing.
+use Rattle.search_list.proofs.Copies.{node-added}
+use Rattle.words.specs.Words.{at}
+use lib.ListN.{length-set}
+use Prim.Native.Nat.{ℕ, _+_}
+use mathlib.Core.Path.{ap, _∙_}
+use native.Mathlib.Omega.{arith}
+use borrow.Author.Needs.{needs}
+use Rattle.work_layout.specs.Layout.{LENS}
+use Rattle.search_list.proofs.search_copies.add_node.Statement.{statement}
+use Rattle.search_list.proofs.search_copies.add_node.Tie as tie
+
+node-of-requires : tie.Need-node-of-requires
+node-of-requires c κs = search needs
+
+place-of-requires : tie.Need-place-of-requires
+place-of-requires c κs = search needs
+
+wide-requires : tie.Need-wide-requires
+wide-requires c κs = search needs
+
+len-of-requires : tie.Need-len-of-requires
+len-of-requires c κs = search needs
+
+add-k : tie.Need-add-k
+add-k c = search needs
+
+add-work : tie.Need-add-work
+add-work c = search needs
+
+mul-work : tie.Need-mul-work
+mul-work c = search needs
+
+slice-write-work : tie.Need-slice-write-work
+slice-write-work c = search needs
+
+add-work-2 : tie.Need-add-work-2
+add-work-2 c = search needs
+
+mul-work-2 : tie.Need-mul-work-2
+mul-work-2 c = search needs
+
+slice-write-work-2 : tie.Need-slice-write-work-2
+slice-write-work-2 c = simp length-set (omega arith)
+
+add-work-3 : tie.Need-add-work-3
+add-work-3 c =
+    let s = c .before .before .before .before .before .before .before .before in
+    let a = c .before .before .before .before .before .node-of in
+    omega (arith, s .pre .0 .1 .short (c .before .wide .result) (omega (arith, a .ensures, s .pre .1 .0, c .before .wide .ensures)), c .len-of .ensures, c .before .wide .ensures, a .ensures, s .pre .1 .0)
+
+cast-work : tie.Need-cast-work
+cast-work c =
+    let s = c .before .before .before .before .before .before .before .before in
+    let a = c .before .before .before .before .before .node-of in
+    omega (arith, s .pre .0 .1 .short (c .before .wide .result) (omega (arith, a .ensures, s .pre .1 .0, c .before .wide .ensures)), c .len-of .ensures, c .before .wide .ensures, a .ensures, s .pre .1 .0)
+
+add-work-4 : tie.Need-add-work-4
+add-work-4 c = search needs
+
+mul-work-3 : tie.Need-mul-work-3
+mul-work-3 c = search needs
+
+slice-write-work-3 : tie.Need-slice-write-work-3
+slice-write-work-3 c = simp length-set (omega arith)
+
+wide-requires-2 : tie.Need-wide-requires-2
+wide-requires-2 c κs = search needs
+
+mark-requires : tie.Need-mark-requires
+mark-requires c κs =
+    let s = c .before .before .before .before .before .before .before .before .before .before in
+    (simp length-set (s .pre .0 .0), omega (arith, s .pre .1 .1, c .wide2 .ensures, c .before .before .before .before .before .place-of .ensures))
+
+same-length : tie.Need-same-length
+same-length c =
+    c .before .before .mark .kept .0 ∙ simp length-set
+
+returns : tie.Need-returns
+returns c =
+    let n = c .before .before .before .before .before .before .before .before .before .before .node-of in
+    let p = c .before .before .before .before .before .before .before .before .place-of in
+    let l = c .before .before .before .before .before .len-of in
+    let s = c .before .before .before .before .before .before .before .before .before .before .before .before .before in
+    node-added (s .args .work .now) (c .before .before .mark .last .0) (s .args .c) (s .args .m) (n .result) (p .result) (l .result)
+    (s .pre .0 .0) (s .pre .0 .1) (s .pre .0 .2) (s .pre .1 .0) (s .pre .1 .1) (n .ensures) (p .ensures)
+    (l .ensures ∙ ap (λ (k : ℕ). at (s .args .work .now) (LENS + k)) (c .before .before .before .before .before .before .wide .ensures))
+    (rw (c .before .before .before .wide2 .ensures) at (c .before .before .mark .ensures))
+
+pub add-node-spec : {M : Type 1} → statement M
+add-node-spec =
+    tie.close
+    (tie.spec
+    node-of-requires
+    place-of-requires
+    wide-requires
+    len-of-requires
+    add-k
+    add-work
+    mul-work
+    slice-write-work
+    add-work-2
+    mul-work-2
+    slice-write-work-2
+    add-work-3
+    cast-work
+    add-work-4
+    mul-work-3
+    slice-write-work-3
+    wide-requires-2
+    mark-requires
+    same-length
+    returns)

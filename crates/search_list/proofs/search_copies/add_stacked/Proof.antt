@@ -1,0 +1,62 @@
+-- `search_list::search_copies::add_stacked` meets its contract: the word of TOPS is the least distance from the top.
+-- Assumes nothing.
+use Rattle.search_list.proofs.Copies.{off-stack, on-stack}
+use native.Mathlib.Omega.{arith}
+use borrow.Author.Needs.{needs}
+use Rattle.search_list.proofs.search_copies.add_stacked.Statement.{statement}
+use Rattle.search_list.proofs.search_copies.add_stacked.Tie as tie
+
+top-of-requires : tie.Need-top-of-requires
+top-of-requires c κs = search needs
+
+same-length : tie.Need-same-length
+same-length c = search needs
+
+returns : tie.Need-returns
+returns c =
+    let s = c .before .before .before .before in
+    off-stack (s .args .work .now) (s .args .m) (s .args .n) (s .pre .0 .2) (s .pre .0 .3) (s .args .d) (s .args .e) (s .pre .0 .1) (s .pre .1 .0)
+    (c .before .top-of .result) (c .before .top-of .ensures) (c .if1 .taken)
+
+cast-put-path : tie.Need-cast-put-path
+cast-put-path c = search needs
+
+sub-put-path : tie.Need-sub-put-path
+sub-put-path c =
+    let s = c .before .before .before .before .before in
+    omega (arith, s .pre .0 .1 .tops (s .args .e) (s .pre .1 .0), c .before .before .top-of .ensures)
+
+cast-put-path-2 : tie.Need-cast-put-path-2
+cast-put-path-2 c = search needs
+
+put-path-requires : tie.Need-put-path-requires
+put-path-requires c κs = search needs
+
+add-result : tie.Need-add-result
+add-result c = search needs
+
+same-length-2 : tie.Need-same-length-2
+same-length-2 c = search needs
+
+returns-2 : tie.Need-returns-2
+returns-2 c =
+    let s = c .before .before .before .before .before .before .before .before in
+    let t = c .before .before .before .before .before .top-of in
+    on-stack (s .args .work .now) (s .args .m) (s .args .n) (s .pre .0 .2) (s .pre .0 .3) (s .args .d) (s .args .e) (s .pre .0 .1) (s .pre .1 .0)
+    (c .before .before .put-path .last .0) (t .result) (t .ensures) (c .before .before .before .before .if1 .left) (s .pre .1 .1)
+    (c .before .before .put-path .ensures)
+
+pub add-stacked-spec : {M : Type 1} → statement M
+add-stacked-spec =
+    tie.close
+    (tie.spec
+    top-of-requires
+    same-length
+    returns
+    cast-put-path
+    sub-put-path
+    cast-put-path-2
+    put-path-requires
+    add-result
+    same-length-2
+    returns-2)

@@ -1,0 +1,80 @@
+-- `search_list::search_moves::first_unseen` meets its contract: every parent before it is seen.
+-- Assumes nothing.
+use Rattle.search_list.proofs.Copies.{Seeking, seeking-start, seeking-more, seeking-found, seeking-none}
+use Rattle.search_list.specs.State.{seen-at}
+use Prim.Native.Nat.{ℕ, _-_, _/_}
+use mathlib.Core.Path.{ap, sym, _∙_}
+use borrow.Author.Tests.{not-true, not-false}
+use borrow.Author.Needs.{needs}
+use native.Mathlib.Omega.{arith}
+use Rattle.search_list.proofs.search_moves.first_unseen.Statement.{statement}
+use Rattle.search_list.proofs.search_moves.first_unseen.Tie as tie
+
+abbrev Inv-loop : tie.InvT-loop
+Inv-loop work e all i₀ i = Seeking work e i
+
+abbrev μ-loop : tie.MeasureT-loop
+μ-loop work e all i₀ i = all - i
+
+count-of-requires : tie.Need-count-of-requires Inv-loop μ-loop
+count-of-requires c κs = (c .before .pre .0 .long, c .before .pre .1)
+
+loop-holds : tie.Need-loop-holds Inv-loop μ-loop
+loop-holds c = let s = c .before .before in seeking-start (s .args .work .now) (s .args .e)
+
+parent-at-requires : tie.Need-parent-at-requires Inv-loop μ-loop
+parent-at-requires c κs =
+    let s = c .before .before .before .before in
+    (s .pre .0 .long, s .pre .1, omega (arith, s .pre .0 .counts (s .args .e) (s .pre .1), c .before .before .count-of .ensures))
+
+wide-requires : tie.Need-wide-requires Inv-loop μ-loop
+wide-requires c κs = search needs
+
+is-seen-requires : tie.Need-is-seen-requires Inv-loop μ-loop
+is-seen-requires c κs =
+    let s = c .before .before .before .before .before .before in
+    (s .pre .0 .long, omega (arith, c .wide .ensures, c .before .parent-at .ensures, s .pre .0 .links (s .args .e) (c .before .before .before .loop .i) (s .pre .1) (omega (arith, c .before .before .loop-test .taken, c .before .before .before .before .count-of .ensures))))
+
+returns : tie.Need-returns Inv-loop μ-loop
+returns c =
+    let s = c .before .before .before .before .before .before .before .before in
+    let k = c .before .before .before .before .before .loop in
+    seeking-found (s .args .work .now) (s .args .e) (k .i) (k .inv)
+    (ap (λ (z : ℕ). seen-at (s .args .work .now) (z / 2)) (sym (c .before .before .wide .ensures ∙ c .before .before .before .parent-at .ensures)) ∙ sym (c .before .is-seen .ensures) ∙ not-true _ (c .if1 .taken))
+
+add-i : tie.Need-add-i Inv-loop μ-loop
+add-i c = omega arith
+
+loop-less : tie.Need-loop-less Inv-loop μ-loop
+loop-less c = omega arith
+
+loop-again : tie.Need-loop-again Inv-loop μ-loop
+loop-again c =
+    let s = c .before .before .before .before .before .before .before .before in
+    let k = c .before .before .before .before .before .loop in
+    seeking-more (s .args .work .now) (s .args .e) (k .i) (k .inv)
+    (omega (arith, c .before .before .before .before .loop-test .taken, c .before .before .before .before .before .before .count-of .ensures))
+    (ap (λ (z : ℕ). seen-at (s .args .work .now) (z / 2)) (sym (c .before .before .wide .ensures ∙ c .before .before .before .parent-at .ensures)) ∙ sym (c .before .is-seen .ensures) ∙ not-false _ (c .if1 .left))
+
+returns-2 : tie.Need-returns-2 Inv-loop μ-loop
+returns-2 c =
+    let s = c .before .before .before .before in
+    seeking-none (s .args .work .now) (s .args .e) (c .before .loop .i) (c .before .loop .inv)
+    (omega (arith, c .loop-test .left, c .before .before .count-of .ensures))
+
+pub first-unseen-spec : {M : Type 1} → statement M
+first-unseen-spec =
+    tie.close
+    (tie.spec
+    Inv-loop
+    μ-loop
+    count-of-requires
+    loop-holds
+    parent-at-requires
+    wide-requires
+    is-seen-requires
+    returns
+    add-i
+    loop-less
+    loop-again
+    returns-2)

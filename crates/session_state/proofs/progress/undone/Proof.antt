@@ -1,0 +1,33 @@
+-- `session_state::progress::undone` gives where the session stands after a restore.
+-- Assumes nothing.
+use mathlib.Core.Bool.{false}
+use mathlib.Core.Path.{_∙_}
+use borrow.Author.Needs.{needs}
+use Rattle.session_state.specs.Moves.{moved-to}
+use Rattle.session_state.proofs.progress.undone.Statement.{statement}
+use Rattle.session_state.proofs.progress.undone.Tie as tie
+
+wide-requires : tie.Need-wide-requires
+wide-requires c κs = search needs
+
+wide-requires-2 : tie.Need-wide-requires-2
+wide-requires-2 c κs = search needs
+
+wide-requires-3 : tie.Need-wide-requires-3
+wide-requires-3 c κs = search needs
+
+moved-requires : tie.Need-moved-requires
+moved-requires c κs = search needs
+
+returns : tie.Need-returns
+returns c = c .moved .ensures ∙ (λ i. moved-to (c .before .before .before .before .args .p) (record { opens = c .before .before .before .wide .ensures i; depth = c .before .before .wide2 .ensures i; size = c .before .wide3 .ensures i }) (c .before .before .before .before .args .number) false)
+
+pub undone-spec : {M : Type 1} → statement M
+undone-spec =
+    tie.close
+    (tie.spec
+    wide-requires
+    wide-requires-2
+    wide-requires-3
+    moved-requires
+    returns)

@@ -1,0 +1,68 @@
+-- Where a session stands after each move: a refusal, a finished step, an add, a restore.
+use Prim.Native.Nat.{ℕ, _+_}
+use mathlib.Core.Bool.{Bool, true, false}
+use Rattle.session_state.specs.declared.checkpoints.Checkpoint.{Checkpoint}
+use Rattle.write_turn.specs.declared.writer_place.Place.{Place}
+use Rattle.write_turn.specs.declared.writer_place.Outcome.{Outcome}
+use Rattle.write_turn.specs.declared.writer_place.Outcome.the-variants as outcome
+use Rattle.session_state.specs.declared.progress.Progress.{Progress}
+use Rattle.session_state.specs.declared.progress.StepAnswer.{StepAnswer}
+
+-- The run ends with a number.
+abbrev pub refused-at : Progress → ℕ → Progress
+refused-at p n =
+    record {
+      at = p .at;
+      steps = p .steps;
+      adds = p .adds;
+      opens = p .opens;
+      depth = p .depth;
+      size = p .size;
+      finished = p .finished;
+      number = n;
+      done = true;
+    }
+
+-- A step is finished; the next one stands at `next`.
+abbrev pub noted-at : Progress → ℕ → Progress
+noted-at p next =
+    record {
+      at = next;
+      steps = p .steps + 1;
+      adds = p .adds;
+      opens = p .opens;
+      depth = p .depth;
+      size = p .size;
+      finished = p .finished;
+      number = p .number;
+      done = p .done;
+    }
+
+-- Another place of the writer, and another count of adds.
+abbrev pub moved-to : Progress → Place → (adds : ℕ) → (finished : Bool) → Progress
+moved-to p q n b =
+    record {
+      at = p .at;
+      steps = p .steps;
+      adds = n;
+      opens = q .opens;
+      depth = q .depth;
+      size = q .size;
+      finished = b;
+      number = 0;
+      done = false;
+    }
+
+-- The progress after an add.
+abbrev pub after-outcome : Progress → Outcome → Progress
+after-outcome p (outcome.Done q) = moved-to p q (p .adds + 1) true
+after-outcome p (outcome.Stopped q) = moved-to p q (p .adds + 1) false
+after-outcome p (outcome.Refused n q) = refused-at (moved-to p q (p .adds) false) n
+
+-- The progress after a restore.
+abbrev pub undone-at : Progress → Checkpoint → ℕ → Progress
+undone-at p r n = moved-to p (record { opens = r .opens; depth = r .depth; size = r .size }) n false
+
+-- The run ends with a number, and the record stays.
+abbrev pub stopped-at : Progress → ℕ → Checkpoint → StepAnswer
+stopped-at p n c = record { state = refused-at p n; saved = c }

@@ -1,0 +1,96 @@
+// Where a session stands between two steps, and how an add, a restore and a refusal move it.
+use crate::checkpoints::Checkpoint;
+use words::wide;
+use write_turn::Outcome;
+use write_turn::Place;
+ghost use mathlib.Core.Path.{_≡_};
+ghost use Prim.Native.Nat.{_<_};
+ghost use Rattle.session_state.specs.Moves.{refused-at, moved-to, after-outcome, undone-at, stopped-at};
+
+// Where a session stands: the next step's place in the file, the finished steps, the adds on the present history, the open pairs, the depth of the stack,
+// the bytes written, and whether the session is finished. The run is done at the end of the file, with number 0, or where a question gets no.
+pub struct Progress {
+    pub at: usize,
+    pub steps: usize,
+    pub adds: usize,
+    pub opens: usize,
+    pub depth: usize,
+    pub size: usize,
+    pub finished: bool,
+    pub number: u32,
+    pub done: bool,
+}
+
+// After a step: where the session stands, and the checkpoint record to store.
+pub struct StepAnswer {
+    pub state: Progress,
+    pub saved: Checkpoint,
+}
+
+// The run ends with a number, 0 for none.
+fn refuse(p: Progress, number: u32) -> Progress
+    ensures { λ r. ⌜ r ≡ refused-at p number ⌝ }
+{
+    Progress {
+        at: p.at,
+        steps: p.steps,
+        adds: p.adds,
+        opens: p.opens,
+        depth: p.depth,
+        size: p.size,
+        finished: p.finished,
+        number,
+        done: true,
+    }
+}
+
+// Where the writer stands after an add.
+fn moved(p: Progress, q: Place, adds: usize, finished: bool) -> Progress
+    ensures { λ r. ⌜ r ≡ moved-to p q adds finished ⌝ }
+{
+    Progress {
+        at: p.at,
+        steps: p.steps,
+        adds,
+        opens: q.opens,
+        depth: q.depth,
+        size: q.size,
+        finished,
+        number: 0,
+        done: false,
+    }
+}
+
+// Where the session stands after an add. A refused one counts the whole items that it wrote.
+pub fn after_outcome(p: Progress, o: Outcome) -> Progress
+    requires { ⌜ p .adds < 16 ⌝ }
+    ensures { λ r. ⌜ r ≡ after-outcome p o ⌝ }
+{
+    match o {
+        Outcome::Done(q) => moved(p, q, p.adds + 1, true),
+        Outcome::Stopped(q) => moved(p, q, p.adds + 1, false),
+        Outcome::Refused(n, q) => refuse(moved(p, q, p.adds, false), n),
+    }
+}
+
+// Where the session stands after a restore.
+pub fn undone(p: Progress, number: usize, c: Checkpoint) -> Progress
+    ensures { λ r. ⌜ r ≡ undone-at p c number ⌝ }
+{
+    let place = Place {
+        opens: wide(c.opens),
+        depth: wide(c.depth),
+        size: wide(c.size),
+    };
+    moved(p, place, number, false)
+}
+
+// The run ends with a number, and the checkpoint record stays.
+pub fn stop(p: Progress, number: u32, c: Checkpoint) -> StepAnswer
+    ensures { λ a. ⌜ a ≡ stopped-at p number c ⌝ }
+{
+    StepAnswer {
+        state: refuse(p, number),
+        saved: c,
+    }
+}

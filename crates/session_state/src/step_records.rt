@@ -1,0 +1,107 @@
+// What a step asks and stores: questions 9 and 10, the checkpoint record, the step's word; and how much of the output is used.
+use crate::checkpoints::Checkpoint;
+use crate::progress::Progress;
+ghost use mathlib.Core.Path.{_≡_};
+ghost use mathlib.Core.Bool.{cond};
+ghost use Prim.Native.Nat.{_+_, _*_, _^_, _≤_, _<_, min};
+ghost use lib.Dec.{ltb};
+ghost use lib.ListN.{length, set};
+ghost use Rattle.session_state.specs.Moves.{noted-at};
+ghost use Rattle.session_state.specs.Stored.{bit, record-of, with-entry};
+ghost use Rattle.session_state.specs.Questions.{question-of};
+
+// The most adds on the present history.
+const ADDS: usize = 16;
+
+// The most bytes of output that are used.
+const OUTPUT: usize = 65535;
+
+// A number of a checkpoint record, or 0.
+pub fn within(n: usize) -> usize
+    ensures { λ r. ⌜ (r < 16) × (r ≡ cond (ltb n 16) n 0) ⌝ }
+{
+    if n < ADDS {
+        return n;
+    }
+    0
+}
+
+// The checkpoint record of the present state.
+pub fn record_of(work: &[u32], p: Progress) -> Checkpoint
+    requires { ⌜ (524288 ≤ length (now work)) × (p .opens < 2 ^ 32) × (p .depth < 2 ^ 32) × (p .size < 2 ^ 32) ⌝ }
+    ensures { λ r. ⌜ r ≡ record-of (now (work .entry)) p ⌝ }
+{
+    Checkpoint {
+        opens: p.opens as u32,
+        depth: p.depth as u32,
+        size: p.size as u32,
+        sentinel: work[work_layout::SENTINEL_ENTRY],
+    }
+}
+
+// A step's word: the size times 2, and 1 more where the session is finished.
+fn word_of(size: usize, finished: bool) -> u32
+    requires { ⌜ size ≤ 65535 ⌝ }
+    ensures { λ r. ⌜ r ≡ size * 2 + bit finished ⌝ }
+{
+    let twice = size as u32 * 2;
+    if finished {
+        return twice + 1;
+    }
+    twice
+}
+
+// The word of a finished step is written.
+pub fn note(words: &mut [u32], p: Progress, next: usize) -> Progress
+    requires { ⌜ (p .steps < length (now words)) × (p .size ≤ 65535) × (p .steps < 1024) ⌝ }
+    ensures { λ r. ⌜ (now (words .exit) ≡ set (now (words .entry)) (p .steps) (p .size * 2 + bit (p .finished))) × (r ≡ noted-at p next) ⌝ }
+{
+    let steps = p.steps;
+    words[steps] = word_of(p.size, p.finished);
+    Progress {
+        at: next,
+        steps: steps + 1,
+        adds: p.adds,
+        opens: p.opens,
+        depth: p.depth,
+        size: p.size,
+        finished: p.finished,
+        number: p.number,
+        done: p.done,
+    }
+}
+
+// The sentinel's entry of a checkpoint record. One that was not there stays as it is.
+pub fn bring_entry(work: &mut [u32], entry: u32)
+    requires { ⌜ 524288 ≤ length (now work) ⌝ }
+    ensures { λ _. ⌜ now (work .exit) ≡ with-entry (now (work .entry)) entry ⌝ }
+{
+    if entry != 0 {
+        work[work_layout::SENTINEL_ENTRY] = entry;
+        return;
+    }
+}
+
+// The question that an add gets no for: 9 in a finished session, 10 after sixteen adds; or 0.
+pub fn question(ended: bool, adds: usize) -> u32
+    ensures { λ n. ⌜ n ≡ question-of ended adds ⌝ }
+{
+    if ended {
+        return 9;
+    }
+    if adds >= ADDS {
+        return 10;
+    }
+    0
+}
+
+// The bytes of output that are used.
+pub fn space_of(output: &[u8]) -> usize
+    ensures { λ r. ⌜ r ≡ min (length (now (output .entry))) 65535 ⌝ }
+{
+    let n = output.len();
+    if n < OUTPUT {
+        return n;
+    }
+    OUTPUT
+}

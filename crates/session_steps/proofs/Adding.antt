@@ -1,0 +1,364 @@
+-- An add: the state is saved, the tree entered in the cache, and written up to the next open place. What each call asks, and what the add leaves.
+-- Assumes nothing.
+use Prim.Native.Nat.{ℕ, suc, _+_, _*_, _≤_, _<_}
+use mathlib.Core.Path.{_≡_, refl, sym, ap, subst, _∙_}
+use mathlib.Core.Bool.{Bool, true, false}
+use mathlib.Core.List.{List, [], _∷_, _++_}
+use mathlib.Core.Option.{Option, none, some}
+use native.Mathlib.Omega.{arith}
+use lib.Dec.{ltb}
+use lib.ListN.{length, set, take, length-set}
+use borrow.Author.Tests.{lt-ltb}
+use Rattle.words.specs.Words.{at}
+use Rattle.words.specs.Lists.{All}
+use Rattle.words.specs.Choice.{cond-true}
+use Rattle.session_state.specs.declared.checkpoints.Checkpoint.{Checkpoint}
+use Rattle.path.specs.Measure.{counted}
+use Rattle.allocator.specs.Handle.{node-of}
+use Rattle.allocator.specs.declared.NodePtr.{NodePtr}
+use Rattle.spec_session.specs.File.{File, Step, add, named}
+use Rattle.spec_session.specs.Places.{StepsAt, StepNamed}
+use Rattle.spec_session.specs.Unfold.{unfolded}
+use Rattle.spec_session.specs.Cache.{Cache, update}
+use Rattle.spec_session.specs.Writer.{Todo, Written, Session, settle}
+use Rattle.spec_session.specs.Writer as writer
+use Rattle.spec_session.specs.Steps.{UndoState, undo-state, room-in, Run, after-add, run-steps}
+use Rattle.spec_session.specs.FindPath.{find-in}
+use Rattle.work_layout.specs.Layout.{ATOM-COUNT, PAIR-COUNT, OPEN, STACK, WRITTEN, MOVED, MAPS, SENTINEL-ENTRY, USED, SEEN, COPIES, ENTRIES}
+use Rattle.work_layout.specs.Rows.{all-counts}
+use Rattle.cache_undo.specs.undo_state.Contracts.{copied-open, copied-stack, copied-marks, Saved}
+use Rattle.cache_stack.proofs.Stacks.{stack-same, stacked-same}
+use Rattle.cache_stack.proofs.marks.Bits.{marked-same}
+use Rattle.cache_nodes.proofs.Frames.{tables-kept}
+use Rattle.cache_nodes.specs.Meaning.{Tables, Names, Whole, Holds, entry-or-none, unmapped}
+use Rattle.cache_nodes.specs.Contracts.{Updated}
+use Rattle.write_turn.specs.State.{AtomPlaces, AtomsThere, todo-of, Running, Writes}
+use Rattle.write_turn.specs.Contracts.{place-of, Fine, goes-on, comes-to, Leads, ended}
+use Rattle.write_turn.proofs.Frames.{todo-same, rights-same, pairs-few}
+use Rattle.write_turn.specs.declared.writer_place.Outcome.{Outcome}
+use Rattle.write_turn.specs.declared.writer_place.Outcome.the-variants as outcome
+use Rattle.session_state.specs.declared.progress.Progress.{Progress}
+use Rattle.session_state.specs.Stored.{bit, record-of}
+use Rattle.session_state.specs.Moves.{noted-at, after-outcome}
+use Rattle.session_state.specs.State.{whole-run, after-words, waits, At, Before, History, Stocked, Underway, Ended, slot-for}
+use Rattle.session_steps.specs.Contracts.{Adding, Added}
+use Rattle.session_state.proofs.Frames.{places-kept, atoms-kept, whole-kept, holds-kept, unmapped-kept, all-counts-kept}
+use Rattle.session_state.proofs.Runs.{run-add, words-ended}
+use Rattle.session_state.proofs.States.{at-kept, history-more, go-on}
+
+-- ---- what an add takes
+
+pub adding : (input : List ℕ) (f : File) (w words : List ℕ) (rows : List Checkpoint) (out : List ℕ) (p : Progress) (h : ℕ) (rest : List Step)
+    (u : Underway input f w words rows out p) → u .left ≡ add h ∷ rest → p .finished ≡ false → p .adds < 16 → Adding input w out p h
+adding input f w words rows out p h rest u e fin few =
+    let left : length (u .left) ≡ suc (length rest) = ap length e in
+    record {
+      places = u .stocked .places;
+      running = subst (λ (b : Bool). Running w out (p .opens) (p .depth) (p .size) (bit b)) fin (u .present .running);
+      names = rw (u .stocked .tables .atom-count, u .stocked .tables .pair-count) (first (u .left) e (u .steps-named));
+      room = omega (arith, u .stocked .room, u .few-steps);
+      counts = u .stocked .counts;
+      few = few;
+    }
+  where
+    first : (ss : List Step) → ss ≡ add h ∷ rest → All (StepNamed (length (f .atoms)) (length (f .pairs))) ss
+        → named (length (f .atoms)) (length (f .pairs)) (node-of h) ≡ true
+    first ss q a = subst (λ (x : List Step). All (StepNamed (length (f .atoms)) (length (f .pairs))) x) q a .0
+
+module _ (input w out : List ℕ) (p : Progress) (h : ℕ) (ad : Adding input w out p h) (w₁ : List ℕ) (len₁ : length w₁ ≡ length w)
+    (sv : Saved w w₁ (p .adds) (p .opens) (p .depth)) where
+  -- ---- the state is saved
+
+  same₁ : (k : ℕ) → k < COPIES → at w₁ k ≡ at w k
+  same₁ k l = sv .low k (omega arith)
+
+  low₁ : (k : ℕ) → k < OPEN → at w₁ k ≡ at w k
+  low₁ k l = same₁ k (omega arith)
+
+  maps₁ : (k : ℕ) → k < 1024 → at w₁ (MAPS + k) ≡ at w (MAPS + k)
+  maps₁ k l = same₁ (MAPS + k) (omega arith)
+
+  cache₁ : (k : ℕ) → USED ≤ k → k < SEEN → at w₁ k ≡ at w k
+  cache₁ k a b = same₁ k (omega arith)
+
+  whole₁ : Whole w₁
+  whole₁ =
+      whole-kept w w₁ len₁ low₁ maps₁ cache₁ (ad .running .stands .whole)
+      (omega (arith, same₁ SENTINEL-ENTRY (omega arith), ad .running .stands .whole .sentinel-entry))
+
+  room₁ : at w₁ USED + 2 * unmapped w₁ (at w₁ PAIR-COUNT) ≡ at w USED + 2 * unmapped w (at w PAIR-COUNT)
+  room₁ = rw (unmapped-kept w w₁ len₁ low₁ maps₁ cache₁ (ad .running .stands .whole), same₁ USED (omega arith)) refl
+
+  -- ---- the tree is entered
+
+  names₁ : Names w₁ (at w₁ PAIR-COUNT) h
+  names₁ = rw (low₁ ATOM-COUNT (omega arith), low₁ PAIR-COUNT (omega arith)) (ad .names)
+
+  pub update-asks : (Whole w₁ × Names w₁ (at w₁ PAIR-COUNT) h) × (at w₁ USED + 2 * unmapped w₁ (at w₁ PAIR-COUNT) < ENTRIES)
+  update-asks = ((whole₁, names₁), omega (arith, room₁, ad .room))
+
+  module _ (w₂ : List ℕ) (len₂ : length w₂ ≡ length w) (up : Updated w₁ w₂ h) where
+    same₂ : (k : ℕ) → k < MOVED → at w₂ k ≡ at w k
+    same₂ k l = up .below k l ∙ same₁ k (omega arith)
+
+    pub low₂ : (k : ℕ) → k < OPEN → at w₂ k ≡ at w k
+    low₂ k l = same₂ k (omega arith)
+
+    pairs₂ : at w₂ PAIR-COUNT ≡ at w PAIR-COUNT
+    pairs₂ = low₂ PAIR-COUNT (omega arith)
+
+    -- What the bounds of the update come to.
+    pub room₂ : at w₂ USED + 2 * unmapped w₂ (at w₂ PAIR-COUNT) ≤ at w USED + 2 * unmapped w (at w PAIR-COUNT) + 1
+    room₂ =
+        let a : unmapped w₂ (at w₂ PAIR-COUNT) ≡ unmapped w₂ (at w₁ PAIR-COUNT) = ap (λ (n : ℕ). unmapped w₂ n) (up .below PAIR-COUNT (omega arith)) in
+        omega (arith, up .bounded .room, room₁)
+
+    pub counts₂ : all-counts w₂ ENTRIES + 2 * unmapped w₂ (at w₂ PAIR-COUNT) ≤ all-counts w ENTRIES + 2 * unmapped w (at w PAIR-COUNT)
+    counts₂ =
+        let a : unmapped w₂ (at w₂ PAIR-COUNT) ≡ unmapped w₂ (at w₁ PAIR-COUNT) = ap (λ (n : ℕ). unmapped w₂ n) (up .below PAIR-COUNT (omega arith)) in
+        let b = all-counts-kept w w₁ len₁ low₁ maps₁ cache₁ (ad .running .stands .whole) in
+        let c = unmapped-kept w w₁ len₁ low₁ maps₁ cache₁ (ad .running .stands .whole) in
+        omega (arith, up .bounded .counts)
+
+    pub running₂ : Running w₂ out (p .opens) (p .depth) (p .size) 0
+    running₂ =
+        let r = ad .running .stands in
+        record {
+          stands =
+              record {
+                whole = up .whole;
+                stacked = stacked-same w w₂ (p .depth) (r .stacked) (λ k a b. same₂ k (omega arith));
+                counts = omega (arith, counts₂, ad .counts);
+                few-opens = r .few-opens;
+                pairs = λ i l. let q = same₂ (OPEN + i) (omega (arith, r .few-opens)) in rw (q, pairs₂) (r .pairs i l);
+                balance = rw (rights-same w w₂ (p .opens) (λ i l. same₂ (OPEN + i) (omega (arith, r .few-opens)))) (r .balance);
+              };
+          fits = ad .running .fits;
+          short = ad .running .short;
+        }
+
+    pub places₂ : AtomPlaces input w₂
+    places₂ = places-kept w w₂ low₂ (ad .running .stands .whole .handles .few-atoms) input (ad .places)
+
+    pub names₂ : Names w₂ (at w₂ PAIR-COUNT) h
+    names₂ = rw (low₂ ATOM-COUNT (omega arith), pairs₂) (ad .names)
+
+    pub todo₂ : (f : File) → todo-of f w₂ (p .opens) ≡ todo-of f w (p .opens)
+    todo₂ f =
+        let r = ad .running .stands in
+        todo-same f w w₂ (p .opens) low₂ (λ i l. same₂ (OPEN + i) (omega (arith, r .few-opens))) (pairs-few w (p .opens) (p .depth) 0 r)
+
+    -- What the words mean once the tree is in the cache.
+    pub writes₂ : (f : File) (c : Cache) (s : Written) → Tables f w → Writes f w out (p .depth) (p .size) c s
+        → Writes f w₂ out (p .depth) (p .size) (update (unfolded f h) c) s
+    writes₂ f c s t v =
+        record {
+          cache = up .holds f c (tables-kept w w₁ low₁ f (ad .running .stands .whole .handles) t) holds₁;
+          stack = v .stack ∙ sym (stack-same w w₂ (p .depth) (λ i l. same₂ (STACK + i) (omega (arith, ad .running .stands .stacked .deep))));
+          marks = λ e l. v .marks e l ∙ sym (marked-same w w₂ e l (λ i q. same₂ (WRITTEN + i) (omega arith)));
+          size-is = v .size-is;
+          bytes-are = v .bytes-are;
+        }
+      where
+        entry : entry-or-none (at w₁ SENTINEL-ENTRY) ≡ c .sentinel-entry
+        entry = ap entry-or-none (same₁ SENTINEL-ENTRY (omega arith)) ∙ sym (v .cache .sentinel-entry)
+
+        holds₁ : Holds f w₁ c
+        holds₁ =
+            subst (λ (o : Option ℕ). Holds f w₁ (record { entries = c .entries; mapped = c .mapped; sentinel-entry = o })) entry
+            (holds-kept w w₁ len₁ low₁ maps₁ cache₁ (ad .running .stands .whole) f c t (v .cache))
+
+-- ---- what an add leaves
+
+module _ (input : List ℕ) (f : File) (w words : List ℕ) (rows : List Checkpoint) (out : List ℕ) (p : Progress) (node : NodePtr) (next : ℕ) (rest : List Step)
+    (u : Underway input f w words rows out p) (e : u .left ≡ add (node .0) ∷ rest) (there : StepsAt input next rest) (fin : p .finished ≡ false) (few : p .adds < 16)
+    (w′ out′ : List ℕ) (q : Progress) (a : Added input w out w′ out′ p node q) where
+  abbrev h : ℕ
+  h = node .0
+
+  abbrev s : Session
+  s = u .session
+
+  abbrev c₂ : Cache
+  c₂ = update (unfolded f h) (s .cache)
+
+  abbrev w₁ : List ℕ
+  w₁ = a .saved-words
+
+  abbrev w₂ : List ℕ
+  w₂ = a .updated-words
+
+  ad : Adding input w out p h
+  ad = adding input f w words rows out p h rest u e fin few
+
+  tables₂ : Tables f w₂
+  tables₂ = tables-kept w w₂ (low₂ input w out p h ad w₁ (a .saved-long) (a .saved) w₂ (a .updated-long) (a .updated)) f (ad .running .stands .whole .handles) (u .stocked .tables)
+
+  few-atoms : at w ATOM-COUNT ≤ 1024
+  few-atoms = ad .running .stands .whole .handles .few-atoms
+
+  atoms₂ : AtomsThere input f w₂
+  atoms₂ = atoms-kept w w₂ (low₂ input w out p h ad w₁ (a .saved-long) (a .saved) w₂ (a .updated-long) (a .updated)) few-atoms input f (u .stocked .tables) (u .stocked .atoms-there)
+
+  meant : Leads f c₂ (length out) w′ out′ (ended (a .outcome)) (goes-on c₂ (length out) (writer.parse (unfolded f h) ∷ todo-of f w₂ (p .opens)) (s .written))
+  meant =
+      a .resumed .leads f c₂ (s .written) tables₂ atoms₂
+      (writes₂ input w out p h ad w₁ (a .saved-long) (a .saved) w₂ (a .updated-long) (a .updated) f (s .cache) (s .written) (u .stocked .tables) (u .present .writes))
+
+  waiting : s .waiting ≡ some (todo-of f w (p .opens))
+  waiting = u .present .waiting ∙ ap (λ (b : Bool). waits b (todo-of f w (p .opens))) fin
+
+  -- The words and the output that stay.
+  low : (k : ℕ) → k < OPEN → at w′ k ≡ at w k
+  low k l = a .resumed .only .low k l ∙ low₂ input w out p h ad w₁ (a .saved-long) (a .saved) w₂ (a .updated-long) (a .updated) k l
+
+  cached : (k : ℕ) → MOVED ≤ k → k < SEEN → at w′ k ≡ at w₂ k
+  cached k l m = a .resumed .only .cache k l m
+
+  used : at w USED ≤ at w′ USED
+  used = omega (arith, cached USED (omega arith) (omega arith), a .updated .more, a .saved .low USED (omega arith))
+
+  copied : (k : ℕ) → COPIES ≤ k → at w′ k ≡ at w₁ k
+  copied k l = a .resumed .only .high k l ∙ a .updated .above k (omega arith)
+
+  stood : At f w out′ (p .opens) (p .depth) (p .size) false s
+  stood =
+      at-kept out out′ (a .out-long) f w (p .opens) (p .depth) (p .size) false s (a .resumed .before)
+      (subst (λ (b : Bool). At f w out (p .opens) (p .depth) (p .size) b s) fin (u .present))
+
+  -- The state before this add.
+  before : Before f w′ out′ (p .adds) (record-of w p) (undo-state s)
+  before =
+      record {
+        words-then = w;
+        session-then = s;
+        stood = stood;
+        is = refl;
+        entry-is = refl;
+        tables-same = low;
+        used-more = used;
+        open-pairs = λ i l. copied (copied-open (p .adds) + i) (omega arith) ∙ a .saved .open-pairs i l;
+        places = λ i l. copied (copied-stack (p .adds) + i) (omega arith) ∙ a .saved .places i l;
+        marks = λ i l. copied (copied-marks (p .adds) + i) (omega arith) ∙ a .saved .marks i l;
+      }
+
+  history : (size′ : ℕ) → p .size ≤ size′ → History f w′ out′ (set rows (p .adds) (record-of w p)) size′ (p .adds + 1) (u .past ++ undo-state s ∷ [])
+  history size′ l =
+      history-more out out′ (a .out-long) f w w′ low used rows (p .size) (p .adds) (u .past)
+      (λ j x y. copied j x ∙ a .saved .low j (omega arith)) (a .resumed .before) (u .history)
+      (record-of w p) (undo-state s) size′ (omega (arith, u .many-rows)) l (omega arith) before
+
+  slot : slot-for (u .left) (p .adds) ≡ p .adds
+  slot = ap (λ (x : List Step). slot-for x (p .adds)) e ∙ cond-true (ltb (p .adds) 16) (p .adds) 0 (lt-ltb (p .adds) 16 few)
+
+  -- The run up to this add, and the add.
+  run : whole-run f (length out′)
+      ≡ after-words (take (p .steps) words) (after-add (settle s c₂ (comes-to f c₂ (length out) w′ (ended (a .outcome)) (meant .last))) (λ t. run-steps counted (length out′) f rest (u .past ++ undo-state s ∷ []) t))
+  run =
+      subst (λ (n : ℕ). whole-run f n
+      ≡ after-words (take (p .steps) words) (after-add (settle s c₂ (comes-to f c₂ (length out) w′ (ended (a .outcome)) (meant .last))) (λ t. run-steps counted n f rest (u .past ++ undo-state s ∷ []) t)))
+      (sym (a .out-long))
+      (u .same
+      ∙ ap (λ (ss : List Step). after-words (take (p .steps) words) (run-steps counted (length out) f ss (u .past) s)) e
+      ∙ ap (λ (r : Run). after-words (take (p .steps) words) r)
+      (run-add (length out) f (u .past) s h rest (todo-of f w (p .opens)) (comes-to f c₂ (length out) w′ (ended (a .outcome)) (meant .last)) waiting (omega (arith, u .history .long)) resumes))
+    where
+      resumes : writer.resume (find-in counted) (room-in (length out)) c₂ (writer.parse (unfolded f h) ∷ todo-of f w (p .opens)) (s .written)
+          ≡ comes-to f c₂ (length out) w′ (ended (a .outcome)) (meant .last)
+      resumes =
+          ap (λ (k : List Todo). writer.resume (find-in counted) (room-in (length out)) c₂ (writer.parse (unfolded f h) ∷ k) (s .written))
+          (sym (todo₂ input w out p h ad w₁ (a .saved-long) (a .saved) w₂ (a .updated-long) (a .updated) f))
+          ∙ meant .same
+
+  long₂ : length w′ ≡ length w₂
+  long₂ = a .long ∙ sym (a .updated-long)
+
+  maps₂ : (k : ℕ) → k < 1024 → at w′ (MAPS + k) ≡ at w₂ (MAPS + k)
+  maps₂ k l = cached (MAPS + k) (omega arith) (omega arith)
+
+  cache₂ : (k : ℕ) → USED ≤ k → k < SEEN → at w′ k ≡ at w₂ k
+  cache₂ k l m = cached k (omega arith) m
+
+  stocked : Stocked input f w′ (p .steps + 1)
+  stocked =
+      let un = unmapped-kept w₂ w′ long₂ (a .resumed .only .low) maps₂ cache₂ (a .updated .whole) in
+      let us = cached USED (omega arith) (omega arith) in
+      let co = all-counts-kept w₂ w′ long₂ (a .resumed .only .low) maps₂ cache₂ (a .updated .whole) in
+      let r = room₂ input w out p h ad w₁ (a .saved-long) (a .saved) w₂ (a .updated-long) (a .updated) in
+      let c = counts₂ input w out p h ad w₁ (a .saved-long) (a .saved) w₂ (a .updated-long) (a .updated) in
+      record {
+        places = places-kept w w′ low few-atoms input (u .stocked .places);
+        tables = tables-kept w w′ low f (ad .running .stands .whole .handles) (u .stocked .tables);
+        atoms-there = atoms-kept w w′ low few-atoms input f (u .stocked .tables) (u .stocked .atoms-there);
+        room = omega (arith, u .stocked .room);
+        counts = omega (arith, u .stocked .counts);
+      }
+
+  -- The session after the add.
+  abbrev session-after : Outcome → Session
+  session-after (outcome.Done pl) = record { cache = c₂; waiting = none; written = meant .last }
+  session-after (outcome.Stopped pl) = record { cache = c₂; waiting = some (todo-of f w′ (pl .opens)); written = meant .last }
+  session-after (outcome.Refused n pl) = record { cache = c₂; waiting = s .waiting; written = meant .last }
+
+  abbrev rows′ : List Checkpoint
+  rows′ = set rows (p .adds) (record-of w p)
+
+  abbrev past′ : List UndoState
+  past′ = u .past ++ undo-state s ∷ []
+
+  abbrev RunTo : Outcome → Type 0
+  RunTo o =
+      whole-run f (length out′)
+      ≡ after-words (take (p .steps) words) (after-add (settle s c₂ (comes-to f c₂ (length out) w′ (ended o) (meant .last))) (λ t. run-steps counted (length out′) f rest past′ t))
+
+  abbrev WritesTo : Outcome → Type 0
+  WritesTo o = Writes f w′ out′ (place-of (ended o) .depth) (place-of (ended o) .size) c₂ (meant .last)
+
+  named-rest : All (StepNamed (length (f .atoms)) (length (f .pairs))) rest
+  named-rest = subst (λ (x : List Step). All (StepNamed (length (f .atoms)) (length (f .pairs))) x) e (u .steps-named) .1
+
+  few-rest : p .steps + 1 + length rest ≤ 1024
+  few-rest = let l : length (u .left) ≡ suc (length rest) = ap length e in omega (arith, u .few-steps)
+
+  many : 16 ≤ length rows′
+  many = omega (arith, length-set rows (p .adds) (record-of w p), u .many-rows)
+
+  on : (o : Outcome) → Fine w′ out′ (ended o) → WritesTo o → p .size ≤ place-of (ended o) .size → RunTo o → after-outcome p o .done ≡ false → (words′ : List ℕ)
+      → words′ ≡ set words (after-outcome p o .steps) (after-outcome p o .size * 2 + bit (after-outcome p o .finished))
+      → Underway input f w′ words′ rows′ out′ (noted-at (after-outcome p o) next)
+  on (outcome.Done pl) ends writes longer to d words′ ws =
+      go-on input f w′ words words′ rows′ out′ (after-outcome p (outcome.Done pl)) next rest past′ (session-after (outcome.Done pl))
+      (record { running = ends .0; writes = writes; waiting = refl }) stocked (history (pl .size) longer) (omega arith) there named-rest few-rest many (u .many-words) to ws
+  on (outcome.Stopped pl) ends writes longer to d words′ ws =
+      go-on input f w′ words words′ rows′ out′ (after-outcome p (outcome.Stopped pl)) next rest past′ (session-after (outcome.Stopped pl))
+      (record { running = ends; writes = writes; waiting = refl }) stocked (history (pl .size) longer) (omega arith) there named-rest few-rest many (u .many-words) to ws
+  on (outcome.Refused n pl) ends writes longer to d words′ ws = absurd (let z : _≡_ {A = ℕ} 0 1 = cc in omega arith)
+
+  off : (o : Outcome) → WritesTo o → RunTo o → after-outcome p o .done ≡ true → Ended f words out′ (after-outcome p o)
+  off (outcome.Done pl) writes to d = absurd (let z : _≡_ {A = ℕ} 0 1 = cc in omega arith)
+  off (outcome.Stopped pl) writes to d = absurd (let z : _≡_ {A = ℕ} 0 1 = cc in omega arith)
+  off (outcome.Refused n pl) writes to d =
+      record {
+        session = session-after (outcome.Refused n pl);
+        size-is = writes .size-is;
+        bytes-are = writes .bytes-are;
+        short = omega (arith, a .out-long, ad .running .short);
+        few-steps = omega (arith, u .few-steps);
+        many-words = u .many-words;
+        same = to ∙ words-ended (take (p .steps) words) n (session-after (outcome.Refused n pl));
+      }
+
+  -- An add that is not refused: its word is noted, and the run goes on.
+  pub added-on : (words′ : List ℕ) (t : Progress) → q .done ≡ false → words′ ≡ set words (q .steps) (q .size * 2 + bit (q .finished)) → t ≡ noted-at q next
+      → Underway input f w′ words′ (set rows (slot-for (u .left) (p .adds)) (record-of w p)) out′ t
+  added-on words′ t d ws is =
+      subst (λ (k : ℕ). Underway input f w′ words′ (set rows k (record-of w p)) out′ t) (sym slot)
+      (subst (λ (x : Progress). Underway input f w′ words′ rows′ out′ x) (sym is)
+      (subst (λ (x : Progress). x .done ≡ false → words′ ≡ set words (x .steps) (x .size * 2 + bit (x .finished))
+      → Underway input f w′ words′ rows′ out′ (noted-at x next)) (sym (a .is))
+      (λ x y. on (a .outcome) (a .resumed .fine) (meant .writes) (a .resumed .grows) run x words′ y) d ws))
+
+  -- A refused add ends the run, and keeps the whole items written.
+  pub added-off : q .done ≡ true → Ended f words out′ q
+  added-off d =
+      subst (λ (x : Progress). x .done ≡ true → Ended f words out′ x) (sym (a .is)) (λ x. off (a .outcome) (meant .writes) run x) d

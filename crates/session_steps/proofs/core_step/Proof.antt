@@ -1,0 +1,83 @@
+-- `session_steps::core_step` meets its contract: the next step of the file is an add, a restore, or the end.
+-- Assumes nothing.
+use mathlib.Core.Path.{subst}
+use borrow.Author.Needs.{needs}
+use Rattle.file_parts.specs.Loaded.{FirstStep}
+use Rattle.file_parts.specs.declared.session_file.NextStep.{NextStep}
+use Rattle.session_state.specs.State.{the-file}
+use Rattle.session_steps.proofs.Answers.{stops-at-end}
+use Rattle.session_steps.proofs.core_step.Statement.{statement}
+use Rattle.session_steps.proofs.core_step.Tie as tie
+
+next-step-requires : tie.Need-next-step-requires
+next-step-requires c κs = search needs
+
+enum-known-node : tie.Need-enum-known-node
+enum-known-node c = search needs
+
+add-step-requires : tie.Need-add-step-requires
+add-step-requires c κs = let s = c .before .before .before .before .before .before .before .before .before .before .before in
+    (s .pre, λ ss st. subst (λ (r : NextStep). FirstStep (s .args .file .now) ss r) (c .before .before .before .before .node .given .1) (c .before .before .before .before .before .before .next-step .ensures ss st))
+
+enum-known-number : tie.Need-enum-known-number
+enum-known-number c = search needs
+
+restore-step-requires : tie.Need-restore-step-requires
+restore-step-requires c κs = let s = c .before .before .before .before .before .before .before .before .before .before .before in
+    (s .pre, λ ss st. subst (λ (r : NextStep). FirstStep (s .args .file .now) ss r) (c .before .before .before .before .number .given .1) (c .before .before .before .before .before .before .next-step .ensures ss st))
+
+enum-told : tie.Need-enum-told
+enum-told c = search needs
+
+stop-requires : tie.Need-stop-requires
+stop-requires c κs = search needs
+
+same-length : tie.Need-same-length
+same-length c = search needs
+
+same-length-2 : tie.Need-same-length-2
+same-length-2 c = search needs
+
+same-length-3 : tie.Need-same-length-3
+same-length-3 c = search needs
+
+returns : tie.Need-returns
+returns c = search needs
+
+same-length-4 : tie.Need-same-length-4
+same-length-4 c = search needs
+
+same-length-5 : tie.Need-same-length-5
+same-length-5 c = search needs
+
+same-length-6 : tie.Need-same-length-6
+same-length-6 c = search needs
+
+returns-2 : tie.Need-returns-2
+returns-2 c = search needs
+
+returns-3 : tie.Need-returns-3
+returns-3 c = let s = c .before .before .before .before .before .before .before .before in let a = s .args in
+    stops-at-end (a .file .now) (the-file (a .file .now)) (a .work .now) (a .words .now) (a .output .now) (a .p) (a .c) (c .stop .result) (c .stop .ensures)
+    (λ ss st. subst (λ (r : NextStep). FirstStep (a .file .now) ss r) (c .before .enum-told .given .1) (c .before .before .before .next-step .ensures ss st))
+
+pub core-step-spec : {M : Type 1} → statement M
+core-step-spec =
+    tie.close
+    (tie.spec
+    next-step-requires
+    enum-known-node
+    add-step-requires
+    enum-known-number
+    restore-step-requires
+    enum-told
+    stop-requires
+    same-length
+    same-length-2
+    same-length-3
+    returns
+    same-length-4
+    same-length-5
+    same-length-6
+    returns-2
+    returns-3)

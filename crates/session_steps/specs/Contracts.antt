@@ -1,0 +1,45 @@
+-- An add: what it takes, and what it leaves.
+use Prim.Native.Nat.{ℕ, _+_, _*_, _≤_, _<_}
+use mathlib.Core.Path.{_≡_}
+use mathlib.Core.List.{List}
+use lib.ListN.{length}
+use Rattle.words.specs.Words.{at}
+use Rattle.allocator.specs.declared.NodePtr.{NodePtr}
+use Rattle.work_layout.specs.Layout.{PAIR-COUNT, USED, ENTRIES}
+use Rattle.work_layout.specs.Rows.{all-counts}
+use Rattle.cache_undo.specs.undo_state.Contracts.{Saved}
+use Rattle.cache_nodes.specs.Meaning.{Names, unmapped}
+use Rattle.cache_nodes.specs.Contracts.{Updated}
+use Rattle.write_turn.specs.State.{AtomPlaces, Running}
+use Rattle.write_turn.specs.Contracts.{Turns, ended}
+use Rattle.write_turn.specs.declared.Next.the-variants as next
+use Rattle.write_turn.specs.declared.writer_place.Place.{Place}
+use Rattle.write_turn.specs.declared.writer_place.Outcome.{Outcome}
+use Rattle.session_state.specs.declared.progress.Progress.{Progress}
+use Rattle.session_state.specs.Moves.{after-outcome}
+
+-- What an add takes.
+pub record Adding (input w out : List ℕ) (p : Progress) (h : ℕ) : Type 0 where
+  pub places : AtomPlaces input w
+  pub running : Running w out (p .opens) (p .depth) (p .size) 0
+  pub names : Names w (at w PAIR-COUNT) h
+  pub room : at w USED + 2 * unmapped w (at w PAIR-COUNT) < ENTRIES
+  pub counts : all-counts w ENTRIES + 2 * unmapped w (at w PAIR-COUNT) ≤ 2048
+  pub few : p .adds < 16
+
+abbrev pub place-at : Progress → Place
+place-at p = record { opens = p .opens; depth = p .depth; size = p .size }
+
+-- The state is saved, the tree entered in the cache, and written up to the next open place.
+pub record Added (input w out w′ out′ : List ℕ) (p : Progress) (node : NodePtr) (q : Progress) : Type 0 where
+  pub saved-words : List ℕ
+  pub updated-words : List ℕ
+  pub outcome : Outcome
+  pub saved : Saved w saved-words (p .adds) (p .opens) (p .depth)
+  pub saved-long : length saved-words ≡ length w
+  pub updated : Updated saved-words updated-words (node .0)
+  pub updated-long : length updated-words ≡ length w
+  pub resumed : Turns input updated-words w′ out out′ (next.Parse (place-at p) node) (ended outcome)
+  pub long : length w′ ≡ length w
+  pub out-long : length out′ ≡ length out
+  pub is : q ≡ after-outcome p outcome

@@ -1,0 +1,100 @@
+// incremental.rs and the session file: the steps of a session.
+mod restore_step;
+
+use allocator::NodePtr;
+use cache_undo::undo_state;
+use file_parts::NextStep;
+use session_state::Checkpoint;
+use session_state::StepAnswer;
+use session_state::progress;
+use session_state::progress::Progress;
+use session_state::step_records;
+use write_turn::Place;
+ghost use lib.ListN.{take};
+ghost use Rattle.file_parts.specs.declared.session_file.NextStep.the-variants as next-step;
+ghost use Rattle.session_state.specs.State.{the-file};
+ghost use Rattle.session_state.specs.Steps.{Comes, Ready, Onward};
+ghost use Rattle.session_steps.specs.Contracts.{Adding, Added};
+
+// The tree of a handle is added: the state is saved, the tree entered in the cache, and written up to the next open place.
+fn add(file: &[u8], work: &mut [u32], output: &mut [u8], p: Progress, node: NodePtr) -> Progress
+    requires { ⌜ Adding (now file) (now work) (now output) p (node .0) ⌝ }
+    ensures { λ q. ⌜ Added (now (file .entry)) (now (work .entry)) (now (output .entry)) (now (work .exit)) (now (output .exit)) p node q ⌝ }
+{
+    undo_state::save(work, p.adds, p.opens, p.depth);
+    cache_update::update(work, node);
+    let place = Place {
+        opens: p.opens,
+        depth: p.depth,
+        size: p.size,
+    };
+    let o = write_loop::resume(work, file, output, place, node);
+    progress::after_outcome(p, o)
+}
+
+// An add: questions 9 and 10; the tree is added, and the step's word written unless the add is refused.
+fn add_step(
+    file: &[u8],
+    work: &mut [u32],
+    words: &mut [u32],
+    output: &mut [u8],
+    p: Progress,
+    node: NodePtr,
+    next: usize,
+    c: Checkpoint,
+) -> StepAnswer
+    requires { ⌜ (Ready (now file) (the-file (now file)) (now work) (now words) (now output) p c) × (Comes (now file) (p .at) (next-step.Add node next)) ⌝ }
+    ensures { λ a. ⌜ Onward (now (file .entry)) (the-file (now (file .entry))) (now (work .entry)) (now (words .entry)) (now (output .entry)) p c (now (work .exit)) (now (words .exit)) (now (output .exit)) a ⌝ }
+{
+    let number = step_records::question(p.finished, p.adds);
+    if number != 0 {
+        return progress::stop(p, number, c);
+    }
+    let saved = step_records::record_of(work, p);
+    let q = add(file, work, output, p, node);
+    if q.done {
+        return StepAnswer { state: q, saved };
+    }
+    StepAnswer {
+        state: step_records::note(words, q, next),
+        saved,
+    }
+}
+
+// One step of the file: an add, a restore, or the end. It takes the session's state and one checkpoint record, and gives the state and the record to store.
+pub fn core_step(
+    file: &[u8],
+    work: &mut [u32],
+    words: &mut [u32],
+    output: &mut [u8],
+    p: Progress,
+    c: Checkpoint,
+) -> StepAnswer
+    requires { ⌜ Ready (now file) (the-file (now file)) (now work) (now words) (now output) p c ⌝ }
+    ensures { λ a. ⌜ Onward (now (file .entry)) (the-file (now (file .entry))) (now (work .entry)) (now (words .entry)) (now (output .entry)) p c (now (work .exit)) (now (words .exit)) (now (output .exit)) a ⌝ }
+{
+    let at = p.at;
+    match file_parts::next_step(file, at) {
+        NextStep::Add { node, next } => { add_step(file, work, words, output, p, node, next, c) }
+        NextStep::Restore { number, next } => {
+            restore_step::restore_step(file, work, words, output, p, number, next, c)
+        }
+        NextStep::End => progress::stop(p, 0, c),
+    }
+}
+
+// A step, with the first 65,535 bytes of the output.
+pub fn bounded_step(
+    work: &mut [u32],
+    words: &mut [u32],
+    output: &mut [u8],
+    file: &[u8],
+    p: Progress,
+    c: Checkpoint,
+) -> StepAnswer
+    requires { ⌜ Ready (now file) (the-file (now file)) (now work) (now words) (take 65535 (now output)) p c ⌝ }
+    ensures { λ a. ⌜ Onward (now (file .entry)) (the-file (now (file .entry))) (now (work .entry)) (now (words .entry)) (take 65535 (now (output .entry))) p c (now (work .exit)) (now (words .exit)) (take 65535 (now (output .exit))) a ⌝ }
+{
+    let space = step_records::space_of(output);
+    core_step(file, work, words, &mut output[..space], p, c)
+}

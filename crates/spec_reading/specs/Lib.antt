@@ -1,0 +1,13 @@
+pub mod Tree
+pub mod Format
+pub mod Plain
+pub mod Store
+pub mod Sound
+pub mod Names
+pub mod Blobs
+pub mod Fuel
+pub mod Same
+pub mod Call
+pub mod Agree
+pub mod Bounds
+pub mod Cases

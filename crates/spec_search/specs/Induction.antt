@@ -1,0 +1,187 @@
+-- What the step of a path keeps, the search keeps: an invariant of the paths of the working list, under the entries seen so far. On the way it is shown that the
+-- paths go in lock step: where pass L begins, every path has L bits or more, the pass steps those that have L, and all have more where it ends.
+-- Assumes nothing.
+use Prim.Native.Nat.{ℕ, zero, suc, _+_, _-_, _*_, _≤_, _<_}
+use mathlib.Core.Path.{_≡_, refl, subst}
+use mathlib.Core.Bool.{Bool, true, cond}
+use mathlib.Core.List.{List, [], _∷_, _++_}
+use mathlib.Core.Option.{Option, none, some}
+use native.Mathlib.Omega.{arith}
+use lib.ListN.{length}
+use lib.Dec.{ltb}
+use borrow.Author.Tests.{lt-ltb, le-ltb}
+use Rattle.spec_search.specs.Search.{Trail, atEntry, onStack, Parents, Stepped, result, stays, dropped, capped, member, distance, most-visits, upward, sideward, moves, visit, Passed, found, gone, left, step, last-first, goes-on, walk, then, passes, search}
+use Rattle.words.specs.Choice.{by-cond, by-lt}
+use Rattle.words.specs.Lists.{All, all-append, all-map}
+use Rattle.spec_search.specs.Lists.{all-last-first, size, AtLeast, Longer, shorts, shorts-short, shorts-long, shorts-append, shorts-last-first, shorts-all-long, shorts-le-length, long-of-no-shorts}
+
+-- ---- the walk's equations
+
+module _ (parents : Parents) (stack : List ℕ) (n L : ℕ) (before : List Trail) where
+  pub walk-zero : (after : List Trail) (seen : List ℕ) → walk parents stack 0 L before after seen ≡ left (before ++ after) seen
+  unfolding walk
+  walk-zero after seen = refl
+
+  pub walk-nil : (seen : List ℕ) → walk parents stack (suc n) L before [] seen ≡ left before seen
+  unfolding walk
+  walk-nil seen = refl
+
+  pub walk-long : (p : Trail) (ps : List Trail) (seen : List ℕ) → L < size p
+      → walk parents stack (suc n) L before (p ∷ ps) seen ≡ walk parents stack (suc n) L (before ++ p ∷ []) ps seen
+  unfolding walk
+  walk-long p ps seen h = rw (lt-ltb L (size p) h, walk)
+
+  pub walk-short : (p : Trail) (ps : List Trail) (seen : List ℕ) → size p ≤ L
+      → walk parents stack (suc n) L before (p ∷ ps) seen ≡ goes-on (walk parents stack n L) before ps (step parents stack seen p)
+  unfolding walk
+  walk-short p ps seen h = rw (le-ltb L (size p) h, walk)
+
+-- ---- a step makes paths that have more bits
+
+module _ (L : ℕ) where
+  abbrev pub Grown : Stepped → Type 0
+  Grown (result bits) = Unit {0}
+  Grown (stays p copies seen) = Longer L p × All (Longer L) copies
+  Grown (dropped copies seen) = All (Longer L) copies
+  Grown capped = Unit {0}
+
+  grown-upward : (seen : List ℕ) (bits : List Bool) → L < length bits → (qs : List (ℕ × Bool)) → All (Longer L) (upward seen bits qs)
+  grown-upward seen bits h [] = tt
+  grown-upward seen bits h (q ∷ qs) =
+      by-cond (All (Longer L)) (member (q .0) seen) (upward seen bits qs) (atEntry bits (q .0) (q .1) ∷ upward seen bits qs)
+      (λ c. grown-upward seen bits h qs) (λ c. (h, grown-upward seen bits h qs))
+
+  grown-sideward : (bits : List Bool) → L < length bits → (o : Option ℕ) → All (Longer L) (sideward bits o)
+  grown-sideward bits h none = tt
+  grown-sideward bits h (some d) = (omega arith, tt)
+
+  grown-moves : (seen : List ℕ) (ps qs : List Trail) → All (Longer L) ps → All (Longer L) qs → Grown (moves ps qs seen)
+  grown-moves seen [] qs h k = k
+  grown-moves seen (p ∷ ps) qs h k = (h .0, all-append (Longer L) ps qs (h .1) k)
+
+  module _ (parents : Parents) (stack : List ℕ) where
+    pub step-grown : (seen : List ℕ) (p : Trail) → AtLeast L p → Grown (step parents stack seen p)
+    step-grown seen (onStack bits zero) h = tt
+    step-grown seen (onStack bits (suc d)) h = (omega arith, tt)
+    step-grown seen (atEntry bits x pos) h =
+        by-cond Grown (member x seen) (dropped [] seen) (cond (ltb (length seen) most-visits) (visit parents stack seen bits x pos) capped)
+        (λ c. tt)
+        (λ c. by-cond Grown (ltb (length seen) most-visits) (visit parents stack seen bits x pos) capped
+        (λ c′. grown-moves (x ∷ seen) (upward (x ∷ seen) (pos ∷ bits) (parents x)) (sideward (pos ∷ bits) (distance x stack))
+        (grown-upward (x ∷ seen) (pos ∷ bits) (omega arith) (parents x)) (grown-sideward (pos ∷ bits) (omega arith) (distance x stack)))
+        (λ c′. tt))
+
+-- ---- the invariant through a step, a pass and the passes
+
+module _ (I : List ℕ → Trail → Type 0) (R : List Bool → Type 0) where
+  -- The invariant stays true of a path that is not touched.
+  abbrev pub Later : List ℕ → List ℕ → Type 0
+  Later seen seen′ = (q : Trail) → I seen q → I seen′ q
+
+  abbrev pub StepOK : List ℕ → Stepped → Type 0
+  StepOK seen (result bits) = R bits
+  StepOK seen (stays p copies seen′) = I seen′ p × All (I seen′) copies × Later seen seen′
+  StepOK seen (dropped copies seen′) = All (I seen′) copies × Later seen seen′
+  StepOK seen capped = Unit {0}
+
+  abbrev pub PassOK : ℕ → Passed → Type 0
+  PassOK L (found bits) = R bits
+  PassOK L gone = Unit {0}
+  PassOK L (left list seen) = All (I seen) list × All (Longer L) list
+
+  abbrev pub AnswerOK : Option (List Bool) → Type 0
+  AnswerOK none = Unit {0}
+  AnswerOK (some bits) = R bits
+
+  -- Where pass L stands, with n steps left.
+  pub record Midway (n L : ℕ) (before after : List Trail) (seen : List ℕ) : Type 0 where
+    pub before-ok : All (I seen) before
+    pub after-ok : All (I seen) after
+    pub before-long : All (Longer L) before
+    pub after-least : All (AtLeast L) after
+    pub few : shorts L after ≤ n
+
+  abbrev pub WalkOK : ℕ → ℕ → (List Trail → List Trail → List ℕ → Passed) → Type 0
+  WalkOK n L w = (before after : List Trail) (seen : List ℕ) → Midway n L before after seen → PassOK L (w before after seen)
+
+  goes-on-ok : (n L : ℕ) (w : List Trail → List Trail → List ℕ → Passed) → WalkOK n L w → (before behind : List Trail) (seen : List ℕ)
+      → Midway n L before behind seen → (s : Stepped) → Grown L s → StepOK seen s → PassOK L (goes-on w before behind s)
+  goes-on-ok n L w ok before behind seen m (result bits) g h = h
+  goes-on-ok n L w ok before behind seen m (stays p copies seen′) g h =
+      ok (before ++ p ∷ []) (behind ++ copies) seen′ record {
+        before-ok = all-append (I seen′) before (p ∷ []) (all-map (I seen) (I seen′) (h .2) before (m .before-ok)) (h .0, tt);
+        after-ok = all-append (I seen′) behind copies (all-map (I seen) (I seen′) (h .2) behind (m .after-ok)) (h .1);
+        before-long = all-append (Longer L) before (p ∷ []) (m .before-long) (g .0, tt);
+        after-least = all-append (AtLeast L) behind copies (m .after-least) (all-map (Longer L) (AtLeast L) (λ q k. omega arith) copies (g .1));
+        few = omega (arith, shorts-append L behind copies, shorts-all-long L copies (g .1), m .few);
+      }
+  goes-on-ok n L w ok before behind seen m (dropped copies seen′) g h =
+      ok before (last-first (behind ++ copies)) seen′ record {
+        before-ok = all-map (I seen) (I seen′) (h .1) before (m .before-ok);
+        after-ok = all-last-first (I seen′) (behind ++ copies) (all-append (I seen′) behind copies (all-map (I seen) (I seen′) (h .1) behind (m .after-ok)) (h .0));
+        before-long = m .before-long;
+        after-least = all-last-first (AtLeast L) (behind ++ copies) (all-append (AtLeast L) behind copies (m .after-least) (all-map (Longer L) (AtLeast L) (λ q k. omega arith) copies g));
+        few = omega (arith, shorts-last-first L (behind ++ copies), shorts-append L behind copies, shorts-all-long L copies g, m .few);
+      }
+  goes-on-ok n L w ok before behind seen m capped g h = tt
+
+  module _ (parents : Parents) (stack : List ℕ) (top : ℕ)
+      (steps : (L : ℕ) → L ≤ top → (seen : List ℕ) (p : Trail) → size p ≡ L → I seen p → StepOK seen (step parents stack seen p)) where
+    pub walk-ok : (n L : ℕ) → L ≤ top → WalkOK n L (walk parents stack n L)
+    walk-ok zero L l before after seen m =
+        rw (walk-zero parents stack 0 L before after seen)
+        (all-append (I seen) before after (m .before-ok) (m .after-ok), all-append (Longer L) before after (m .before-long) (long-of-no-shorts L after (m .few)))
+    walk-ok (suc n) L l before [] seen m = rw (walk-nil parents stack n L before seen) (m .before-ok, m .before-long)
+    walk-ok (suc n) L l before (p ∷ ps) seen m =
+        by-lt L (size p)
+        (λ h. rw (walk-long parents stack n L before p ps seen h)
+        (walk-ok (suc n) L l (before ++ p ∷ []) ps seen (record {
+          before-ok = all-append (I seen) before (p ∷ []) (m .before-ok) (m .after-ok .0, tt);
+          after-ok = m .after-ok .1;
+          before-long = all-append (Longer L) before (p ∷ []) (m .before-long) (h, tt);
+          after-least = m .after-least .1;
+          few = omega (arith, shorts-long L p ps h, m .few);
+        })))
+        (λ h. rw (walk-short parents stack n L before p ps seen h)
+        (goes-on-ok n L (walk parents stack n L) (walk-ok n L l) before ps seen
+        (record {
+          before-ok = m .before-ok;
+          after-ok = m .after-ok .1;
+          before-long = m .before-long;
+          after-least = m .after-least .1;
+          few = omega (arith, shorts-short L p ps h, m .few);
+        })
+        (step parents stack seen p)
+        (step-grown L parents stack seen p (m .after-least .0))
+        (steps L l seen p (omega (arith, m .after-least .0)) (m .after-ok .0))))
+
+    then-ok : (L : ℕ) (next : List Trail → List ℕ → Option (List Bool))
+        → ((list : List Trail) (seen : List ℕ) → All (I seen) list → All (AtLeast (suc L)) list → AnswerOK (next list seen))
+        → (r : Passed) → PassOK L r → AnswerOK (then next r)
+    then-ok L next ok (found bits) h = h
+    then-ok L next ok gone h = tt
+    then-ok L next ok (left list seen) h = ok list seen (h .0) (h .1)
+
+    -- A whole pass.
+    pub pass-ok : (L : ℕ) → L ≤ top → (list : List Trail) (seen : List ℕ) → All (I seen) list → All (AtLeast L) list
+        → PassOK L (walk parents stack (length list) L [] list seen)
+    pass-ok L l list seen h k =
+        walk-ok (length list) L l [] list seen (record { before-ok = tt; after-ok = h; before-long = tt; after-least = k; few = shorts-le-length L list })
+
+    pub passes-ok : (n L : ℕ) → n + L ≡ suc top → (list : List Trail) (seen : List ℕ) → All (I seen) list → All (AtLeast L) list
+        → AnswerOK (passes parents stack n L list seen)
+    unfolding passes
+    passes-ok zero L s list seen h k = tt
+    passes-ok (suc n) L s [] seen h k = tt
+    passes-ok (suc n) L s (p ∷ ps) seen h k =
+        then-ok L (passes parents stack n (suc L)) (passes-ok n (suc L) (omega arith)) (walk parents stack (length (p ∷ ps)) L [] (p ∷ ps) seen)
+        (pass-ok L (omega arith) (p ∷ ps) seen h k)
+
+-- What holds of the first path and is kept by every step holds of the result.
+pub search-ok : (I : List ℕ → Trail → Type 0) (R : List Bool → Type 0) (parents : Parents) (stack : List ℕ) (len e : ℕ) (bits : List Bool)
+    → ((L : ℕ) → L ≤ 8 * (len - 1) → (seen : List ℕ) (p : Trail) → size p ≡ L → I seen p → StepOK I R seen (step parents stack seen p))
+    → I [] (atEntry [] e true) → search parents stack len e ≡ some bits → R bits
+unfolding search
+search-ok I R parents stack len e bits steps h q =
+    subst (AnswerOK I R) q
+    (passes-ok I R parents stack (8 * (len - 1)) steps (suc (8 * (len - 1))) 0 (omega arith) (atEntry [] e true ∷ []) [] (h, tt) (omega arith, tt))

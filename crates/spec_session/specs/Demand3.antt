@@ -1,0 +1,252 @@
+-- DEMAND 3 of the session call: one claim about a whole list of adds, a refused last one included.
+-- A file has add steps only. Its adds keep 01's premises up to the one whose word says finished. Then the reading call accepts the finished bytes, which are
+-- the first `size` bytes of the output at the end of the run, and gives a root whose tree is the plain filling's whole tree; each reference takes at most as
+-- many bytes as its subtree in full; and that add was the last one taken: the next one, where there is one, gets 9, and the bytes stay.
+-- References stand exactly where 01's search rules put them by definition: `session` writes the items of `write`, which puts a reference at a subtree exactly
+-- where `find-in` gives a path.
+-- Assumes nothing.
+use Prim.Native.Nat.{ℕ, zero, suc, _+_, _*_, _%_, _^_, _-_, _≤_, _<_, min}
+use mathlib.Core.Path.{_≡_, refl, sym, ap, _∙_, subst}
+use mathlib.Core.Bool.{Bool, true, false, cond}
+use mathlib.Core.List.{List, [], _∷_, _++_, map}
+use mathlib.Core.Option.{Option, none, some}
+use native.Mathlib.Omega.{arith}
+use lib.Dec.{ltb, leb}
+use lib.ListN.{length, take, replicate, List·getD-append}
+use lib.Seq.{take-at}
+use borrow.Author.Tests.{le-leb}
+use Rattle.words.specs.Lists.{Bytes}
+use Rattle.words.specs.Words.{at}
+use Rattle.spec_reading.specs.Tree.{Tree}
+use Rattle.path.specs.Measure.{counted}
+use Rattle.spec_reading.specs.Format.{accepted}
+use Rattle.spec_reading.specs.Store.{Store, read-stored}
+use Rattle.spec_reading.specs.Names.{NamesHandle, names-more}
+use Rattle.spec_reading.specs.Call as read
+use Rattle.spec_session.specs.File.{File, Step, add, Limits, version-1, Got, got, refused, file}
+use Rattle.spec_session.specs.Unfold.{unfolded}
+use Rattle.spec_session.specs.Filling.{plain-filling}
+use Rattle.spec_session.specs.Premises.{opens, Apart}
+use Rattle.spec_session.specs.Items.{Item, size-of, output, NoLonger}
+use Rattle.spec_session.specs.Output.{output-size}
+use Rattle.spec_session.specs.Writer.{Todo, Session, start, Added, added, turned-down, add-tree, add-all}
+use Rattle.spec_session.specs.FindPath.{find-in}
+use Rattle.spec_session.specs.FindPathLaws.{Covers}
+use Rattle.spec_session.specs.Counted.{counted-covers}
+use Rattle.spec_session.specs.Steps.{room-in, UndoState, undo-state, Run, run-steps, with-word, after-add, unless-full, word-of, finished-bit}
+use Rattle.spec_session.specs.Call.{Slices, Result, long-enough, untouched, after-run, after-file, session}
+use Rattle.spec_session.specs.TheoremBytes.{BytesReadBack}
+use Rattle.spec_session.specs.TheoremFile.{read-back-file}
+
+-- ---- the statement
+
+-- The store that the reading call left in its slices.
+abbrev pub store-in : read.Result → Store
+store-in r = record { pairs = r .slices .pairs; atoms = r .slices .atoms; bytes = r .slices .bytes; ghosts = r .answer .ghosts }
+
+-- Reading exactly these bytes gives 0 and a root, and the root followed through the pairs and atoms read is the tree.
+pub record ReadAs (r : read.Result) (tree : Tree) : Type 0 where
+  pub number : r .answer .number ≡ 0
+  pub root : NamesHandle (store-in r) (r .answer .root) tree
+
+-- 01: "Each finished step writes one 32-bit word: size × 2, plus 1 if finished."
+abbrev pub Finished : (words : List ℕ) → (step : ℕ) → Type 0
+Finished words k = at words k % 2 ≡ 1
+
+-- What demand 3 says of a session's result r, where the file has the adds of `handles` and the word of add k says finished.
+pub record ReadBack {C : Type 0} (f : File) (handles : List ℕ) (k : ℕ) (r : Result C) : Type 0 where
+  -- The plain filling's whole tree, of the adds up to this one.
+  pub tree : Tree
+  pub is-whole : opens tree ≡ 0
+  pub filling : plain-filling f (take (suc k) handles) ≡ some tree
+  -- The finished bytes, read with any slices that pass question 1.
+  pub reads : (lent : read.Slices) → read.long-enough lent ≡ true → ReadAs (read.reading (take (r .answer .size) (r .slices .output)) lent) tree
+  -- They are the bytes of items whose references are short enough.
+  pub items : List Item
+  pub bytes-are : take (r .answer .size) (r .slices .output) ≡ output items
+  pub no-longer : NoLonger items
+  -- The word has the size, this add was the last one taken, and the next one gets 9.
+  pub word : at (r .slices .words) k ≡ r .answer .size * 2 + 1
+  pub last : r .answer .steps ≡ suc k
+  pub next : suc k < length handles → r .answer .number ≡ 9
+
+-- ---- the run of a list of adds
+
+odd-waits : (s : Session) (o : Option (List Todo)) → s .waiting ≡ o → word-of s % 2 ≡ 1 → s .waiting ≡ none
+odd-waits s none e h = e
+odd-waits s (some k) e h =
+    let z : finished-bit (s .waiting) ≡ 0 = ap finished-bit e in
+    absurd (omega arith)
+
+finished-word : (s : Session) → s .waiting ≡ none → word-of s ≡ size-of (s .written .items) * 2 + 1
+finished-word s e = let z : finished-bit (s .waiting) ≡ 1 = ap finished-bit e in omega arith
+
+module _ (measure : List Bool → ℕ) (space : ℕ) (f : File) where
+  abbrev run : List ℕ → List UndoState → Session → Run
+  run hs past s = run-steps measure space f (map add hs) past s
+
+  abbrev adds : List ℕ → Session → Added
+  adds hs s = add-all (find-in measure) (room-in space) (map (unfolded f) hs) s
+
+  -- What the run is, where the word of add k says finished.
+  record Ended (hs : List ℕ) (k : ℕ) (s : Session) (r : Run) : Type 0 where
+    all-words : length (r .words) ≡ suc k
+    added-are : adds (take (suc k) hs) s ≡ added (r .last)
+    is-finished : r .last .waiting ≡ none
+    last-word : at (r .words) k ≡ size-of (r .last .written .items) * 2 + 1
+    gets-9 : suc k < length hs → r .number ≡ 9
+
+  -- A finished session takes no add.
+  no-more : (hs : List ℕ) (past : List UndoState) (s : Session) → s .waiting ≡ none → (run hs past s .words ≡ []) × (run hs past s .last ≡ s) × (0 < length hs → run hs past s .number ≡ 9)
+  unfolding run-steps
+  no-more [] past s e = (refl, refl, λ l. absurd (omega arith))
+  no-more (h ∷ hs) past s e = rw e (refl, refl, λ l. refl)
+
+  not-odd : (k : ℕ) → at [] k % 2 ≡ 1 → ⊥
+  not-odd k h = omega arith
+
+  ended : (hs : List ℕ) (past : List UndoState) (s : Session) (k : ℕ) → at (run hs past s .words) k % 2 ≡ 1 → Ended hs k s (run hs past s)
+  unfolding run-steps
+  ended [] past s k h = absurd (not-odd k h)
+  ended (g ∷ hs) past s k h =
+      by-state (s .waiting) (ltb 15 (length past)) (add-tree (find-in measure) (room-in space) (unfolded f g) s) refl k h
+      (λ t j. ended hs (past ++ undo-state s ∷ []) t j)
+    where
+      next : Session → Run
+      next t = run hs (past ++ undo-state s ∷ []) t
+
+      at-once : (t : Session) → add-tree (find-in measure) (room-in space) (unfolded f g) s ≡ added t → t .waiting ≡ none
+          → Ended (g ∷ hs) 0 s (with-word (word-of t) (next t))
+      at-once t e w =
+          let n = no-more hs (past ++ undo-state s ∷ []) t w in
+          record {
+            all-words = ap (λ (l : List ℕ). suc (length l)) (n .0);
+            added-are = rw e (ap added (sym (n .1)));
+            is-finished = rw (n .1) w;
+            last-word = rw (n .1) (finished-word t w);
+            gets-9 = λ l. n .2 (omega arith);
+          }
+
+      later-on : (t : Session) (j : ℕ) → add-tree (find-in measure) (room-in space) (unfolded f g) s ≡ added t → Ended hs j t (next t)
+          → Ended (g ∷ hs) (suc j) s (with-word (word-of t) (next t))
+      later-on t j e m =
+          record {
+            all-words = ap suc (m .all-words);
+            added-are = rw e (m .added-are);
+            is-finished = m .is-finished;
+            last-word = m .last-word;
+            gets-9 = λ l. m .gets-9 (omega arith);
+          }
+
+      by-word : (t : Session) (j : ℕ) → add-tree (find-in measure) (room-in space) (unfolded f g) s ≡ added t
+          → at (word-of t ∷ next t .words) j % 2 ≡ 1 → ((i : ℕ) → at (next t .words) i % 2 ≡ 1 → Ended hs i t (next t))
+          → Ended (g ∷ hs) j s (with-word (word-of t) (next t))
+      by-word t zero e h ih = at-once t e (odd-waits t (t .waiting) refl h)
+      by-word t (suc j) e h ih = later-on t j e (ih j h)
+
+      by-state : (o : Option (List Todo)) (full : Bool) (a : Added) → add-tree (find-in measure) (room-in space) (unfolded f g) s ≡ a
+          → (j : ℕ) → at (unless-full o full s (after-add a next) .words) j % 2 ≡ 1
+          → ((t : Session) (i : ℕ) → at (next t .words) i % 2 ≡ 1 → Ended hs i t (next t))
+          → Ended (g ∷ hs) j s (unless-full o full s (after-add a next))
+      by-state none full a e j h ih = absurd (not-odd j h)
+      by-state (some k) true a e j h ih = absurd (not-odd j h)
+      by-state (some k) false (turned-down n t) e j h ih = absurd (not-odd j h)
+      by-state (some k) false (added t) e j h ih = by-word t j e h (ih t)
+
+-- ---- the finished bytes
+
+-- What is filled in stands at the front.
+taken : (l used : List ℕ) (n : ℕ) → n ≡ length used → take n (read.filled l used) ≡ used
+taken l used n e = take-at used (replicate (length l - length used) 0) n (sym e)
+
+at-front : (l used : List ℕ) (k : ℕ) → k < length used → at (read.filled l used) k ≡ at used k
+at-front l used k h = List·getD-append used (replicate (length l - length used) 0) 0 k h
+
+-- The store that was read names the tree also in the slices, past whose used slots there are zeros.
+read-as : (bytes : List ℕ) (f : File) (hs : List ℕ) (items : List Item) → bytes ≡ output items → length (output items) ≤ 65535 → (b : BytesReadBack f hs items)
+    → (lent : read.Slices) → read.long-enough lent ≡ true → ReadAs (read.reading bytes lent) (b .result)
+unfolding read.reading
+read-as bytes f hs items e short b lent long =
+    let few : leb (length bytes) 65535 ≡ true = rw e (le-leb (length (output items)) 65535 short) in
+    let got : read-stored bytes ≡ accepted (b .stored) = rw e (b .reads) in
+    rw (long, few, got)
+    (record {
+      number = refl;
+      root =
+          names-more (b .stored .store) _ _ (b .result)
+          (record {
+            pairs-added = replicate (length (lent .pairs) - length (b .stored .store .pairs)) 0;
+            atoms-added = replicate (length (lent .atoms) - length (b .stored .store .atoms)) 0;
+            bytes-added = replicate (length (lent .bytes) - length (b .stored .store .bytes)) 0;
+            pairs-are = refl;
+            atoms-are = refl;
+            bytes-are = refl;
+          })
+          (b .root-named);
+    })
+
+-- A run in the slices.
+run-result : {C : Type 0} (blank : C) (l : Limits) (carried : l .file-bytes < 2 ^ 34) (most : l .output-bytes ≤ 65535) (measure : List Bool → ℕ) (covers : Covers measure)
+    (input : List ℕ) → Bytes input → (f : File) (rest : List ℕ) → file l input ≡ got f rest → (handles : List ℕ) (space : ℕ) → space ≤ l .output-bytes
+    → (s : Slices C) (k : ℕ) (r : Run) → Ended measure space f handles k start r → Apart (map (unfolded f) (take (suc k) handles))
+    → ReadBack f handles k (after-run blank r s)
+run-result blank l carried most measure covers input bytes f rest file-is handles space fits s k r m apart =
+    let b =
+    read-back-file l carried measure covers space (omega arith) input bytes f rest file-is (take (suc k) handles) (r .last) apart (m .added-are) (m .is-finished) in
+    let size-is = output-size (r .last .written .items) in
+    let front : take (size-of (r .last .written .items)) (read.filled (s .output) (output (r .last .written .items))) ≡ output (r .last .written .items) =
+    taken (s .output) (output (r .last .written .items)) (size-of (r .last .written .items)) size-is in
+    record {
+      tree = b .result;
+      is-whole = b .is-whole;
+      filling = b .filled;
+      reads = read-as _ f (take (suc k) handles) (r .last .written .items) front (omega (arith, b .short)) b;
+      items = r .last .written .items;
+      bytes-are = front;
+      no-longer = b .no-longer;
+      word = at-front (s .words) (r .words) k (omega (arith, m .all-words)) ∙ m .last-word;
+      last = m .all-words;
+      next = m .gets-9;
+    }
+
+-- ---- THE THEOREM
+
+-- Over any limits whose atoms a prefix can carry and whose output the reading call takes, and any measure that covers a path's atom.
+module _ {C : Type 0} (blank : C) (l : Limits) (carried : l .file-bytes < 2 ^ 34) (most : l .output-bytes ≤ 65535) (measure : List Bool → ℕ) (covers : Covers measure) where
+  pub read-back-session : (input : List ℕ) → Bytes input → (f : File) (rest : List ℕ) → file l input ≡ got f rest
+      → (handles : List ℕ) → f .steps ≡ map add handles → (slices : Slices C) (k : ℕ)
+      → k < session blank l measure input slices .answer .steps → Finished (session blank l measure input slices .slices .words) k
+      → Apart (map (unfolded f) (take (suc k) handles)) → ReadBack f handles k (session blank l measure input slices)
+  unfolding session
+  read-back-session input bytes f rest file-is handles steps-are s k = asks (long-enough l s) (file l input) file-is
+    where
+      result-of : Bool → Got File → Result C
+      result-of b g = cond b (after-file blank l measure g s) (untouched 1 s)
+
+      space : ℕ
+      space = min (length (s .output)) (l .output-bytes)
+
+      ran : (r : Run) → r ≡ run measure space f handles [] start → k < length (r .words) → at (read.filled (s .words) (r .words)) k % 2 ≡ 1
+          → Apart (map (unfolded f) (take (suc k) handles)) → ReadBack f handles k (after-run blank r s)
+      ran r e h w apart =
+          let odd : at (r .words) k % 2 ≡ 1 = ap (λ (n : ℕ). n % 2) (sym (at-front (s .words) (r .words) k h)) ∙ w in
+          let m : Ended measure space f handles k start r =
+          subst (λ (x : Run). Ended measure space f handles k start x) (sym e) (ended measure space f handles [] start k (subst (λ (x : Run). at (x .words) k % 2 ≡ 1) e odd)) in
+          run-result blank l carried most measure covers input bytes f rest file-is handles space (omega arith) s k r m apart
+
+      asks : (b : Bool) (g : Got File) → g ≡ got f rest → k < result-of b g .answer .steps → Finished (result-of b g .slices .words) k
+          → Apart (map (unfolded f) (take (suc k) handles)) → ReadBack f handles k (result-of b g)
+      asks false g e h w apart = absurd (omega arith)
+      asks true (refused n) e h w apart = absurd (omega arith)
+      asks true (got f′ rest′) e h w apart =
+          let alike : f′ ≡ f = cc in
+          ran (run-steps measure space f′ (f′ .steps) [] start)
+          (ap (λ (x : File). run-steps measure space x (x .steps) [] start) alike ∙ ap (λ (x : List Step). run-steps measure space f x [] start) steps-are)
+          h w apart
+
+-- Demand 3, of 01's call.
+pub demand-3 : {C : Type 0} (blank : C) (input : List ℕ) → Bytes input → (f : File) (rest : List ℕ) → file version-1 input ≡ got f rest
+    → (handles : List ℕ) → f .steps ≡ map add handles → (slices : Slices C) (k : ℕ)
+    → k < session blank version-1 counted input slices .answer .steps → Finished (session blank version-1 counted input slices .slices .words) k
+    → Apart (map (unfolded f) (take (suc k) handles)) → ReadBack f handles k (session blank version-1 counted input slices)
+demand-3 blank = read-back-session blank version-1 (omega arith) (omega arith) counted counted-covers

@@ -1,0 +1,52 @@
+-- `write_item::write_reference::put_reference` meets its contract.
+-- Assumes nothing.
+use Prim.Native.Nat.{ℕ, _+_}
+use mathlib.Core.List.{List}
+use mathlib.Core.Path.{ap, _∙_}
+use native.Mathlib.Omega.{arith}
+use lib.Seq.{paste}
+use lib.ListN.{length-set}
+use borrow.Author.Needs.{needs}
+use Rattle.path.specs.Bytes.{path-bytes}
+use Rattle.search_list.specs.State.{path-at}
+use Rattle.write_item.proofs.write_reference.put_reference.Statement.{statement}
+use Rattle.write_item.proofs.write_reference.put_reference.Tie as tie
+
+slice-write-output : tie.Need-slice-write-output
+slice-write-output c = search needs
+
+add-write-prefix : tie.Need-add-write-prefix
+add-write-prefix c = search needs
+
+write-prefix-requires : tie.Need-write-prefix-requires
+write-prefix-requires c κs = let s = c .before .before .before in (s .pre .1 .0, omega (arith, s .pre .0 .3), omega (arith, length-set (s .args .output .now) (s .args .size) 0xfe, s .pre .1 .1))
+
+add-put-path : tie.Need-add-put-path
+add-put-path c = search needs
+
+add-put-path-2 : tie.Need-add-put-path-2
+add-put-path-2 c = search needs
+
+put-path-requires : tie.Need-put-path-requires
+put-path-requires c κs = let s = c .before .before .before .before .before .before .before in let w = c .before .before .before .write-prefix in (s .pre .0 .0, s .pre .0 .1, s .pre .0 .2, omega (arith, w .kept .0, length-set (s .args .output .now) (s .args .size) 0xfe, s .pre .1 .1))
+
+same-length : tie.Need-same-length
+same-length c = let s = c .before .before .before .before .before .before .before .before .before .before in let w = c .before .before .before .before .before .before .write-prefix in c .before .before .put-path .kept .1 .1 .0 ∙ w .kept .0 ∙ length-set (s .args .output .now) (s .args .size) 0xfe
+
+returns : tie.Need-returns
+returns c = let s = c .before .before .before .before .before .before .before .before .before .before in
+    c .before .before .put-path .ensures
+    ∙ ap (λ (x : List ℕ). paste x (s .args .size + 1 + s .args .width) (path-bytes (path-at (s .args .work .now) (s .args .slot))) (s .args .count)) (c .before .before .before .before .before .before .write-prefix .ensures)
+
+pub put-reference-spec : {M : Type 1} → statement M
+put-reference-spec =
+    tie.close
+    (tie.spec
+    slice-write-output
+    add-write-prefix
+    write-prefix-requires
+    add-put-path
+    add-put-path-2
+    put-path-requires
+    same-length
+    returns)

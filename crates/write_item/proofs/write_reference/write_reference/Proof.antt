@@ -1,0 +1,74 @@
+-- `write_item::write_reference::write_reference` meets its contract.
+-- Assumes nothing.
+use Prim.Native.Nat.{ℕ, _+_, _/_}
+use mathlib.Core.Path.{ap}
+use native.Mathlib.Omega.{arith}
+use lib.ListN.{length}
+use borrow.Author.Needs.{needs}
+use Rattle.search_list.specs.State.{path-at}
+use Rattle.write_item.proofs.Puts.{no-room, has-room}
+use Rattle.write_item.proofs.write_reference.References.{reference-full, reference-next}
+use Rattle.write_item.proofs.write_reference.write_reference.Statement.{statement}
+use Rattle.write_item.proofs.write_reference.write_reference.Tie as tie
+
+path-bits-requires : tie.Need-path-bits-requires
+path-bits-requires c κs = search needs
+
+path-width-requires : tie.Need-path-width-requires
+path-width-requires c κs = search needs
+
+add-count : tie.Need-add-count
+add-count c = search needs
+
+add-total : tie.Need-add-total
+add-total c = search needs
+
+add-total-2 : tie.Need-add-total-2
+add-total-2 c = search needs
+
+fits-requires : tie.Need-fits-requires
+fits-requires c κs = search needs
+
+returns : tie.Need-returns
+returns c = let s = c .before .before .before .before .before .before in
+    let w = c .before .before .path-width in
+    let b = c .before .before .before .path-bits in
+    λ path e. reference-full (s .args .output .now) (s .args .size) (b .result) (w .result) (path-at (s .args .work .now) (s .args .slot)) path e (b .ensures .0) (w .ensures .1)
+    (no-room _ _ _ (c .before .fits2 .ensures) (c .if1 .taken))
+
+put-reference-requires : tie.Need-put-reference-requires
+put-reference-requires c κs = let s = c .before .before .before .before .before .before .before in
+    let w = c .before .before .before .path-width in
+    let b = c .before .before .before .before .path-bits in
+    ((s .pre .0, s .pre .1, ap (λ (k : ℕ). (k + 7) / 8) (b .ensures .0), omega (arith, b .ensures .1)), (w .ensures .0, has-room _ _ _ (c .before .before .fits2 .ensures) (c .before .if1 .left)))
+
+add-t9 : tie.Need-add-t9
+add-t9 c = let s = c .before .before .before .before .before .before .before .before .before .before in
+    let total = 1 + (c .before .before .before .before .before .before .path-width .result + (c .before .before .before .before .before .before .before .path-bits .result + 7) / 8) in
+    record { fits = omega (arith, has-room (length (s .args .output .now)) (s .args .size + total) _ (c .before .before .before .before .before .fits2 .ensures) (c .before .before .before .before .if1 .left)) }
+
+same-length : tie.Need-same-length
+same-length c = search needs
+
+returns-2 : tie.Need-returns-2
+returns-2 c = let s = c .before .before .before .before .before .before .before .before .before .before in
+    let w = c .before .before .before .before .before .before .path-width in
+    let b = c .before .before .before .before .before .before .before .path-bits in
+    λ path e. reference-next (s .args .output .now) (s .args .size) (b .result) (w .result) (path-at (s .args .work .now) (s .args .slot)) path e (b .ensures .0) (w .ensures .1)
+    (c .before .before .put-reference .last .1 .1 .0) (has-room _ _ _ (c .before .before .before .before .before .fits2 .ensures) (c .before .before .before .before .if1 .left)) (c .before .before .put-reference .ensures)
+
+pub write-reference-spec : {M : Type 1} → statement M
+write-reference-spec =
+    tie.close
+    (tie.spec
+    path-bits-requires
+    path-width-requires
+    add-count
+    add-total
+    add-total-2
+    fits-requires
+    returns
+    put-reference-requires
+    add-t9
+    same-length
+    returns-2)

@@ -1,0 +1,28 @@
+-- `write_turn::refer` meets its contract: a reference stands for the whole subtree.
+-- Assumes nothing.
+use Rattle.write_turn.proofs.Values.{refer-turns}
+use borrow.Author.Needs.{needs}
+use Rattle.write_turn.proofs.refer.Statement.{statement}
+use Rattle.write_turn.proofs.refer.Tie as tie
+
+write-reference-requires : tie.Need-write-reference-requires
+write-reference-requires c κs = search needs
+
+push-value-requires : tie.Need-push-value-requires
+push-value-requires c κs = search needs
+
+same-length : tie.Need-same-length
+same-length c = search needs
+
+same-length-2 : tie.Need-same-length-2
+same-length-2 c = search needs
+
+returns : tie.Need-returns
+returns c = let s = c .before .before .before .before .before .before .before .before .before .before .before in
+    refer-turns (s .args .work .now) _ (s .args .output .now) _ (s .args .place) (s .args .node) (s .args .e .0) (c .before .before .push-value .kept .0) (c .before .before .before .before .before .before .write-reference .result) (c .before .before .push-value .result) (c .before .before .push-value .ensures)
+    (s .args .slot) (s .pre) (s .pre .finds .ready .1) (c .before .before .before .before .before .before .write-reference .ensures)
+
+pub refer-spec : {M : Type 1} → statement M
+refer-spec =
+    tie.close
+    (tie.spec write-reference-requires push-value-requires same-length same-length-2 returns)
