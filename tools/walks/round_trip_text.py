@@ -61,7 +61,7 @@ use Rattle.read_answer.specs.declared.ReadAnswer.{{ReadAnswer}}
 use Rattle.read_answer.specs.Answer.{{slices as store-slices}}
 use Rattle.read_answer.proofs.ReadAnswer as Q
 use Rattle.read_answer.proofs.ReadAnswer.Laws as Q′
-use Rattle.read_call.specs.Outcome.{{resultOf}}
+use Rattle.read_call.specs.Outcome.{{read-result-of}}
 use Rattle.spec_session.specs.Call.{{Slices, Result}}
 use Rattle.session_answer.specs.declared.SessionAnswer.{{SessionAnswer}}
 use Rattle.session_answer.proofs.SessionAnswer as R
@@ -154,7 +154,7 @@ module _ {{M : Type 1}} (𝓤 : URA M) (H : Heap 𝓤) (A : Atoms 𝓤) (W : Giv
   Back s w w₂ cs o = ReadsBack (x₀ .now) (result-of s w w₂ cs o)
 
   abbrev WasRead : SessionAnswer → List ℕ → List ℕ → ReadAnswer → List ℕ → List ℕ → List ℕ → List ℕ → Type 0
-  WasRead s w o r w₁ ps ns bs = resultOf r w₁ ps ns bs ≡ read.reading (take (s .size) o) (store-slices w (x₅ .now) (x₆ .now) (x₇ .now))
+  WasRead s w o r w₁ ps ns bs = read-result-of r w₁ ps ns bs ≡ read.reading (take (s .size) o) (store-slices w (x₅ .now) (x₆ .now) (x₇ .now))
 
   -- `work` and `output` as the session call takes them
   abbrev lent₁ : ℕ → GName → RefT (List ℕ)
@@ -188,9 +188,9 @@ module _ {{M : Type 1}} (𝓤 : URA M) (H : Heap 𝓤) (A : Atoms 𝓤) (W : Giv
       → ent 𝓤 (⋆ 𝓤 H A (@EXITEMS@ ∷ [])) (Post (mach (whole s r)))
   exits s w w₂ cs o e₀ e₂ e₃ e₄ ran back r w₁ ps ns bs d₁ e₅ e₆ e₇ was-read is =
       let e₁ = d₁ ∙ e₀ in
-      let says₁ = session-part (x₀ .now) lent (x₅ .now) (x₆ .now) (x₇ .now) (result-of s w w₂ cs o) ran (resultOf r w₁ ps ns bs) was-read in
-      let says₂ = reading-part (x₀ .now) lent (x₅ .now) (x₆ .now) (x₇ .now) (result-of s w w₂ cs o) ran (resultOf r w₁ ps ns bs) was-read in
-      let says₃ = whole-read (x₀ .now) lent (x₅ .now) (x₆ .now) (x₇ .now) (result-of s w w₂ cs o) ran (resultOf r w₁ ps ns bs) was-read back e₀ in
+      let says₁ = session-part (x₀ .now) lent (x₅ .now) (x₆ .now) (x₇ .now) (result-of s w w₂ cs o) ran (read-result-of r w₁ ps ns bs) was-read in
+      let says₂ = reading-part (x₀ .now) lent (x₅ .now) (x₆ .now) (x₇ .now) (result-of s w w₂ cs o) ran (read-result-of r w₁ ps ns bs) was-read in
+      let says₃ = whole-read (x₀ .now) lent (x₅ .now) (x₆ .now) (x₇ .now) (result-of s w w₂ cs o) ran (read-result-of r w₁ ps ns bs) was-read back e₀ in
 @EXITS@
 
   module _ (C : Calls 𝓤 H) (Λ : Loops 𝓤 H) (fm : FmC 𝓤 H (W .laws) C) (known-session : Triple 𝓤 (C #call) (Session 𝓤 H A mem run)) (known-read : Triple 𝓤 (C #first) (Read 𝓤 H A mem run)) where

@@ -4,6 +4,6 @@ use mathlib.Core.Option.{Option, none, some}
 use Rattle.atom.specs.declared.PrefixWidth.{PrefixWidth}
 use Rattle.atom.specs.declared.PrefixWidth.the-variants as prefix-width
 
-abbrev pub widthOf : PrefixWidth → Option ℕ
-widthOf (prefix-width.Width w) = some w
-widthOf prefix-width.TooLong = none
+abbrev pub width-of : PrefixWidth → Option ℕ
+width-of (prefix-width.Width w) = some w
+width-of prefix-width.TooLong = none

@@ -1,13 +1,18 @@
-// The format of an atom in a serialized tree: definitions and laws alone. The crates prefix, write_atom, decode_size and parse_atom have the code.
-// The prefix table, which reader and writer share, and the width of an atom's prefix.
+// The format of an atom in a serialized tree: definitions and laws; the prefix table and the marks, which reader and writer share.
+// `atom_decode` reads an atom, `atom_encode` writes one.
 ghost use mathlib.Core.Path.{_≡_};
 ghost use mathlib.Core.Option.{some};
 ghost use Prim.Native.Nat.{_^_, _≤_, _<_};
 ghost use Rattle.atom.specs.Prefix.{least, width, single, «prefix-width»};
-ghost use Rattle.atom.specs.Answers.{widthOf};
+ghost use Rattle.atom.specs.Answers.{width-of};
 
 // The least size that each prefix width may carry, for the widths 1 to 5.
 const LEAST: [u64; 5] = [0, 64, 8192, 1048576, 134217728];
+
+// What begins an item that is no atom: a pair, and a reference.
+pub const CONS_BOX_MARKER: u8 = 0xff;
+
+pub const BACK_REFERENCE: u8 = 0xfe;
 
 // The first size that no prefix holds.
 pub const SIZE_LIMIT: u64 = 0x400000000;
@@ -55,7 +60,7 @@ fn is_single(atom: &[u8]) -> bool
 }
 
 pub fn prefix_width(atom: &[u8]) -> PrefixWidth
-    ensures { λ r. ⌜ widthOf r ≡ «prefix-width» (now (atom .entry)) ⌝ }
+    ensures { λ r. ⌜ width-of r ≡ «prefix-width» (now (atom .entry)) ⌝ }
 {
     if is_single(atom) {
         return PrefixWidth::Width(0);

@@ -3,7 +3,7 @@ use Rattle.atom.specs.Parse.{Parse, blob, refused}
 use Rattle.atom_decode.specs.declared.ParseAtom.{ParseAtom}
 use Rattle.atom_decode.specs.declared.ParseAtom.the-variants as parse-atom
 
-abbrev pub parseOf : ParseAtom → Parse
-parseOf (parse-atom.Blob start end) = blob start end
-parseOf parse-atom.SerializationError = refused 14
-parseOf parse-atom.NonCanonicalSerialization = refused 15
+abbrev pub parse-of : ParseAtom → Parse
+parse-of (parse-atom.Blob start end) = blob start end
+parse-of parse-atom.SerializationError = refused 14
+parse-of parse-atom.NonCanonicalSerialization = refused 15

@@ -5,7 +5,7 @@ ghost use mathlib.Core.Path.{_≡_};
 ghost use Prim.Native.Nat.{_+_, _-_, _^_, _≤_, _<_};
 ghost use lib.ListN.{length, getD, drop};
 ghost use Rattle.atom.specs.Parse.{ones, «one-byte», «decode-size»};
-ghost use Rattle.atom_decode.specs.decode_size.Answers.{sizeOf};
+ghost use Rattle.atom_decode.specs.decode_size.Answers.{decoded-size};
 
 // A prefix: how many bytes it takes and the size that it carries, or why it is refused.
 pub enum DecodeSize {
@@ -42,7 +42,7 @@ fn leading_ones(byte: u8) -> Ones
 
 // A prefix that carries the size 1: the byte has to follow, and not be one that stands for itself.
 fn one_byte(input: &[u8], position: usize, offset: usize) -> DecodeSize
-    ensures { λ r. ⌜ sizeOf r ≡ «one-byte» offset (drop position (now (input .entry))) ⌝ }
+    ensures { λ r. ⌜ decoded-size r ≡ «one-byte» offset (drop position (now (input .entry))) ⌝ }
 {
     if input.len() <= position {
         return DecodeSize::SerializationError;
@@ -56,7 +56,7 @@ fn one_byte(input: &[u8], position: usize, offset: usize) -> DecodeSize
 // The prefix at a place whose byte is no single one.
 pub fn decode_size_with_offset(input: &[u8], position: usize) -> DecodeSize
     requires { ⌜ (position < length (now input)) × (0x80 ≤ getD (now input) position 0) ⌝ }
-    ensures { λ r. ⌜ sizeOf r ≡ «decode-size» (drop position (now (input .entry))) ⌝ }
+    ensures { λ r. ⌜ decoded-size r ≡ «decode-size» (drop position (now (input .entry))) ⌝ }
 {
     let first = leading_ones(input[position]);
     let width = first.width;

@@ -8,7 +8,7 @@ ghost use mathlib.Core.Bool.{cond};
 ghost use lib.Dec.{ltb};
 ghost use lib.ListN.{length};
 ghost use Rattle.atom.specs.Parse.{«parse-at», «blob-of», blob, refused};
-ghost use Rattle.atom_decode.specs.Answers.{parseOf};
+ghost use Rattle.atom_decode.specs.Answers.{parse-of};
 
 const MAX_SINGLE_BYTE: u8 = 0x7f;
 
@@ -21,7 +21,7 @@ pub enum ParseAtom {
 
 // The atom or path at a place of the input.
 pub fn parse_atom(input: &[u8], position: usize) -> ParseAtom
-    ensures { λ r. ⌜ parseOf r ≡ «parse-at» (now (input .entry)) position ⌝ }
+    ensures { λ r. ⌜ parse-of r ≡ «parse-at» (now (input .entry)) position ⌝ }
 {
     if input.len() <= position {
         return ParseAtom::SerializationError;
@@ -42,7 +42,7 @@ pub fn parse_atom(input: &[u8], position: usize) -> ParseAtom
 // The bytes of an atom of this size that begin at `start`.
 fn whole_atom(input: &[u8], start: usize, size: u64) -> ParseAtom
     requires { ⌜ start ≤ length (now input) ⌝ }
-    ensures { λ r. ⌜ parseOf r ≡ cond (ltb (length (now (input .entry))) (start + size)) (refused 14) (blob start (start + size)) ⌝ }
+    ensures { λ r. ⌜ parse-of r ≡ cond (ltb (length (now (input .entry))) (start + size)) (refused 14) (blob start (start + size)) ⌝ }
 {
     let left = (input.len() - start) as u64;
     if left < size {
@@ -69,7 +69,7 @@ fn part_of(input: &[u8], start: usize, end: usize) -> &[u8]
 
 // The found atom or path, as a part of the input; no bytes where it was refused.
 pub fn parse_atom_ptr(input: &[u8], found: ParseAtom) -> &[u8]
-    ensures { λ r. ⌜ now r ≡ «blob-of» (now (input .entry)) (parseOf found) ⌝ }
+    ensures { λ r. ⌜ now r ≡ «blob-of» (now (input .entry)) (parse-of found) ⌝ }
 {
     match found {
         ParseAtom::Blob { start, end } => part_of(input, start, end),

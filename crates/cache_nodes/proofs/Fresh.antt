@@ -10,7 +10,7 @@ use native.Mathlib.Omega.{arith}
 use lib.Dec.{eqb}
 use lib.ListN.{length, getD}
 use Rattle.words.specs.Lists.{same, same-refl}
-use Rattle.words.specs.Words.{at, tabulate}
+use Rattle.words.specs.Words.{at, tabulate, WORK}
 use Rattle.allocator.specs.Handle.{node-of}
 use Rattle.spec_session.specs.File.{File, named}
 use Rattle.spec_session.specs.Cache.{fresh}
@@ -71,7 +71,7 @@ tables-handles f w s t =
 
 -- ---- no entries yet
 
-module _ (w : List ℕ) (long : 524288 ≤ length w) (handles : Handles w) (zeros : (k : ℕ) → MAPS ≤ k → k < PARENTS → at w k ≡ 0) where
+module _ (w : List ℕ) (long : WORK ≤ length w) (handles : Handles w) (zeros : (k : ℕ) → MAPS ≤ k → k < PARENTS → at w k ≡ 0) where
   none-used : at w USED ≡ 0
   none-used = zeros USED (omega arith) (omega arith)
 

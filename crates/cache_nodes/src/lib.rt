@@ -10,7 +10,7 @@ ghost use mathlib.Core.Bool.{true};
 ghost use lib.Dec.{eqb};
 ghost use Prim.Native.Nat.{_+_, _*_, _^_, _≤_, _<_};
 ghost use lib.ListN.{length};
-ghost use Rattle.words.specs.Words.{at};
+ghost use Rattle.words.specs.Words.{at, WORK};
 ghost use Rattle.atom.specs.Write.{serialized-length};
 ghost use Rattle.allocator.specs.Handle.{node-of, is-atom};
 ghost use Rattle.allocator.specs.SmallAtom.{small-bytes};
@@ -30,7 +30,7 @@ fn long(x: u32) -> u64
 
 // One more than the entry of pair i, or 0.
 pub fn map_of(work: &[u32], i: usize) -> u32
-    requires { ⌜ (524288 ≤ length (now work)) × (i < 1024) ⌝ }
+    requires { ⌜ (WORK ≤ length (now work)) × (i < 1024) ⌝ }
     ensures { λ r. ⌜ r ≡ at (now (work .entry)) (MAPS + i) ⌝ }
 {
     work[work_layout::MAPS + i]
@@ -38,7 +38,7 @@ pub fn map_of(work: &[u32], i: usize) -> u32
 
 // The left handle of pair i.
 pub fn left_of(work: &[u32], i: usize) -> NodePtr
-    requires { ⌜ (524288 ≤ length (now work)) × (i < 1024) ⌝ }
+    requires { ⌜ (WORK ≤ length (now work)) × (i < 1024) ⌝ }
     ensures { λ r. ⌜ r .0 ≡ at (now (work .entry)) (PAIRS + 2 * i) ⌝ }
 {
     NodePtr(work[work_layout::PAIRS + 2 * i])
@@ -46,7 +46,7 @@ pub fn left_of(work: &[u32], i: usize) -> NodePtr
 
 // The right handle of pair i.
 pub fn right_of(work: &[u32], i: usize) -> NodePtr
-    requires { ⌜ (524288 ≤ length (now work)) × (i < 1024) ⌝ }
+    requires { ⌜ (WORK ≤ length (now work)) × (i < 1024) ⌝ }
     ensures { λ r. ⌜ r .0 ≡ at (now (work .entry)) (PAIRS + 2 * i + 1) ⌝ }
 {
     NodePtr(work[work_layout::PAIRS + 2 * i + 1])
@@ -54,7 +54,7 @@ pub fn right_of(work: &[u32], i: usize) -> NodePtr
 
 // Whether the handle is the sentinel's.
 pub fn is_sentinel(work: &[u32], h: NodePtr) -> bool
-    requires { ⌜ 524288 ≤ length (now work) ⌝ }
+    requires { ⌜ WORK ≤ length (now work) ⌝ }
     ensures { λ r. ⌜ r ≡ eqb (at (now (work .entry)) SENTINEL) (h .0) ⌝ }
 {
     work[work_layout::SENTINEL] == h.0
@@ -74,7 +74,7 @@ pub fn is_listed(h: NodePtr) -> bool
 
 // The first listed atom with the bytes of listed atom i.
 fn first_of(work: &[u32], i: usize) -> u32
-    requires { ⌜ (524288 ≤ length (now work)) × (i < 1024) ⌝ }
+    requires { ⌜ (WORK ≤ length (now work)) × (i < 1024) ⌝ }
     ensures { λ r. ⌜ r ≡ at (now (work .entry)) (FIRST + i) ⌝ }
 {
     work[work_layout::FIRST + i]
@@ -107,7 +107,7 @@ fn small_length(value: u32) -> u64
 
 // The serialized length of listed atom i.
 fn listed_length(work: &[u32], i: usize) -> u64
-    requires { ⌜ (524288 ≤ length (now work)) × (i < 1024) ⌝ }
+    requires { ⌜ (WORK ≤ length (now work)) × (i < 1024) ⌝ }
     ensures { λ r. ⌜ r ≡ at (now (work .entry)) (ATOM-LENGTHS + i) ⌝ }
 {
     long(work[work_layout::ATOM_LENGTHS + i])

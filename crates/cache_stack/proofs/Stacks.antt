@@ -7,7 +7,7 @@ use native.Mathlib.Omega.{arith}
 use native.Mathlib.Numerals.{add-one}
 use native.Mathlib.Decide.{ℕ-discrete}
 use lib.ListN.{length, set}
-use Rattle.words.specs.Words.{at}
+use Rattle.words.specs.Words.{at, WORK}
 use Rattle.words.proofs.Words.{Store, stores, miss, hits}
 use Rattle.work_layout.specs.Layout.{STACK, BELOW, TOPS, WRITTEN, ENTRIES, DEPTH}
 use Rattle.work_layout.specs.Rows.{prev, stack-of, Tops}
@@ -57,7 +57,7 @@ stacked-same w w′ d s h =
 
 -- ---- push
 
-module _ (w : List ℕ) (d e : ℕ) (long : 524288 ≤ length w) (s : Stacked w d) (room : d < DEPTH) (small : e < ENTRIES) where
+module _ (w : List ℕ) (d e : ℕ) (long : WORK ≤ length w) (s : Stacked w d) (room : d < DEPTH) (small : e < ENTRIES) where
   push-stores : List Store
   push-stores =
       record { to = STACK + d; word = e } ∷ record { to = BELOW + d; word = at w (TOPS + e) } ∷ record { to = TOPS + e; word = d + 1 } ∷ []

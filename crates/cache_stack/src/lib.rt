@@ -9,15 +9,16 @@ use work_layout::STACK;
 use work_layout::TOPS;
 ghost use Prim.Native.Nat.{_≤_, _<_};
 ghost use lib.ListN.{length};
+ghost use Rattle.words.specs.Words.{WORK};
 ghost use Rattle.work_layout.specs.Layout.{ENTRIES, DEPTH};
 ghost use Rattle.cache_stack.specs.Contracts.{Stacked, Pushed, PushedMarked};
 
-// An entry is marked written only from this length on.
-const MIN_SERIALIZED_LENGTH: u64 = 4;
+// An entry is marked written, and referred to, only from this length on: a reference to anything shorter takes no fewer bytes.
+pub const MIN_SERIALIZED_LENGTH: u64 = 4;
 
 // Entry e goes on top of the `depth` entries that are there.
 pub fn push(work: &mut [u32], depth: usize, e: EntryIndex)
-    requires { ⌜ (524288 ≤ length (now work)) × (Stacked (now work) depth) × (depth < DEPTH) × (e .0 < ENTRIES) ⌝ }
+    requires { ⌜ (WORK ≤ length (now work)) × (Stacked (now work) depth) × (depth < DEPTH) × (e .0 < ENTRIES) ⌝ }
     ensures { λ _. ⌜ Pushed (now (work .entry)) (now (work .exit)) depth (e .0) ⌝ }
 {
     let x = wide(e.0);
@@ -29,7 +30,7 @@ pub fn push(work: &mut [u32], depth: usize, e: EntryIndex)
 
 // Entry e, of length `len`, goes on top of the `depth` entries that are there, and is marked written unless it is too short to be referred to.
 pub fn push_marked(work: &mut [u32], depth: usize, e: EntryIndex, len: u64)
-    requires { ⌜ (524288 ≤ length (now work)) × (Stacked (now work) depth) × (depth < DEPTH) × (e .0 < ENTRIES) ⌝ }
+    requires { ⌜ (WORK ≤ length (now work)) × (Stacked (now work) depth) × (depth < DEPTH) × (e .0 < ENTRIES) ⌝ }
     ensures { λ _. ⌜ PushedMarked (now (work .entry)) (now (work .exit)) depth (e .0) len ⌝ }
 {
     push(work, depth, e);

@@ -6,12 +6,13 @@ use work_layout::WRITTEN;
 ghost use mathlib.Core.Path.{_≡_};
 ghost use Prim.Native.Nat.{_≤_, _<_};
 ghost use lib.ListN.{length};
+ghost use Rattle.words.specs.Words.{WORK};
 ghost use Rattle.work_layout.specs.Layout.{WRITTEN, ENTRIES};
 ghost use Rattle.cache_stack.specs.marks.Contracts.{marked-at, Marked};
 
 // Whether entry e is marked written.
 pub fn is_marked(work: &[u32], e: EntryIndex) -> bool
-    requires { ⌜ (524288 ≤ length (now work)) × (e .0 < ENTRIES) ⌝ }
+    requires { ⌜ (WORK ≤ length (now work)) × (e .0 < ENTRIES) ⌝ }
     ensures { λ r. ⌜ r ≡ marked-at (now (work .entry)) (e .0) ⌝ }
 {
     let x = wide(e.0);
@@ -22,7 +23,7 @@ pub fn is_marked(work: &[u32], e: EntryIndex) -> bool
 
 // Marks entry e written.
 pub fn mark(work: &mut [u32], e: EntryIndex)
-    requires { ⌜ (524288 ≤ length (now work)) × (e .0 < ENTRIES) ⌝ }
+    requires { ⌜ (WORK ≤ length (now work)) × (e .0 < ENTRIES) ⌝ }
     ensures { λ _. ⌜ Marked (now (work .entry)) (now (work .exit)) (e .0) ⌝ }
 {
     let x = wide(e.0);

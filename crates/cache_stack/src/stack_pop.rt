@@ -6,13 +6,13 @@ use work_layout::TOPS;
 ghost use mathlib.Core.Path.{_≡_};
 ghost use Prim.Native.Nat.{_+_, _≤_, _<_};
 ghost use lib.ListN.{length};
-ghost use Rattle.words.specs.Words.{at};
+ghost use Rattle.words.specs.Words.{at, WORK};
 ghost use Rattle.work_layout.specs.Layout.{STACK, ENTRIES};
 ghost use Rattle.cache_stack.specs.Contracts.{Stacked, Popped, PoppedTwo};
 
 // The entry at a place of the stack.
 fn entry_at(work: &[u32], depth: usize, i: usize) -> usize
-    requires { ⌜ (524288 ≤ length (now work)) × (Stacked (now work) depth) × (i < depth) ⌝ }
+    requires { ⌜ (WORK ≤ length (now work)) × (Stacked (now work) depth) × (i < depth) ⌝ }
     ensures { λ r. ⌜ (r ≡ at (now (work .entry)) (STACK + i)) × (r < ENTRIES) ⌝ }
 {
     wide(work[STACK + i])
@@ -20,7 +20,7 @@ fn entry_at(work: &[u32], depth: usize, i: usize) -> usize
 
 // The top of `depth` entries goes.
 pub fn pop(work: &mut [u32], depth: usize)
-    requires { ⌜ (524288 ≤ length (now work)) × (Stacked (now work) depth) × (0 < depth) ⌝ }
+    requires { ⌜ (WORK ≤ length (now work)) × (Stacked (now work) depth) × (0 < depth) ⌝ }
     ensures { λ _. ⌜ Popped (now (work .entry)) (now (work .exit)) depth ⌝ }
 {
     let i = depth - 1;
@@ -30,7 +30,7 @@ pub fn pop(work: &mut [u32], depth: usize)
 
 // The two topmost of `depth` entries go.
 pub fn pop2(work: &mut [u32], depth: usize)
-    requires { ⌜ (524288 ≤ length (now work)) × (Stacked (now work) depth) × (2 ≤ depth) ⌝ }
+    requires { ⌜ (WORK ≤ length (now work)) × (Stacked (now work) depth) × (2 ≤ depth) ⌝ }
     ensures { λ _. ⌜ PoppedTwo (now (work .entry)) (now (work .exit)) depth ⌝ }
 {
     pop(work, depth);

@@ -13,7 +13,7 @@ use work_layout::OPEN;
 use work_layout::WRITTEN;
 ghost use Prim.Native.Nat.{ℕ, _+_, _≤_, _<_};
 ghost use lib.ListN.{length};
-ghost use Rattle.words.specs.Words.{at};
+ghost use Rattle.words.specs.Words.{at, WORK};
 ghost use Rattle.work_layout.specs.Layout.{WRITTEN, ENTRIES, DEPTH};
 ghost use Rattle.cache_stack.specs.Contracts.{Stacked};
 ghost use Rattle.cache_undo.specs.undo_state.Contracts.{copied-stack};
@@ -21,7 +21,7 @@ ghost use Rattle.cache_undo.specs.Contracts.{PoppedAll, PushedAll, Resto
 
 // All `depth` entries go.
 fn pop_all(work: &mut [u32], depth: usize)
-    requires { ⌜ (524288 ≤ length (now work)) × (Stacked (now work) depth) ⌝ }
+    requires { ⌜ (WORK ≤ length (now work)) × (Stacked (now work) depth) ⌝ }
     ensures { λ _. ⌜ PoppedAll (now (work .entry)) (now (work .exit)) ⌝ }
 {
     let mut d = depth;
@@ -33,7 +33,7 @@ fn pop_all(work: &mut [u32], depth: usize)
 
 // The `depth` entries that stand from `from` on go on the empty stack, the first one first.
 fn push_all(work: &mut [u32], from: usize, depth: usize)
-    requires { ⌜ (524288 ≤ length (now work)) × (Stacked (now work) 0) × (depth ≤ DEPTH) × (WRITTEN ≤ from) × (from + depth ≤ 524288) × ((i : ℕ) → i < depth → at (now work) (from + i) < ENTRIES) ⌝ }
+    requires { ⌜ (WORK ≤ length (now work)) × (Stacked (now work) 0) × (depth ≤ DEPTH) × (WRITTEN ≤ from) × (from + depth ≤ WORK) × ((i : ℕ) → i < depth → at (now work) (from + i) < ENTRIES) ⌝ }
     ensures { λ _. ⌜ PushedAll (now (work .entry)) (now (work .exit)) from depth ⌝ }
 {
     let mut i = 0;
@@ -46,7 +46,7 @@ fn push_all(work: &mut [u32], from: usize, depth: usize)
 
 // The first `opens` open pairs, the `depth` entries of the stack and the marks become those of copy k. The stack has `present` entries before.
 pub fn restore(work: &mut [u32], k: usize, opens: usize, present: usize, depth: usize)
-    requires { ⌜ (524288 ≤ length (now work)) × (Stacked (now work) present) × (k < 16) × (opens ≤ 4096) × (depth ≤ DEPTH) × ((i : ℕ) → i < depth → at (now work) (copied-stack k + i) < ENTRIES) ⌝ }
+    requires { ⌜ (WORK ≤ length (now work)) × (Stacked (now work) present) × (k < 16) × (opens ≤ 4096) × (depth ≤ DEPTH) × ((i : ℕ) → i < depth → at (now work) (copied-stack k + i) < ENTRIES) ⌝ }
     ensures { λ _. ⌜ Restored (now (work .entry)) (now (work .exit)) k opens depth ⌝ }
 {
     let from = COPIES + k * COPY;

@@ -7,6 +7,7 @@ use work_layout::STACK;
 use work_layout::WRITTEN;
 ghost use Prim.Native.Nat.{_≤_, _<_};
 ghost use lib.ListN.{length};
+ghost use Rattle.words.specs.Words.{WORK};
 ghost use Rattle.work_layout.specs.Layout.{DEPTH};
 ghost use Rattle.cache_undo.specs.undo_state.Contracts.{Saved};
 
@@ -20,7 +21,7 @@ pub const MARKS: usize = 96;
 
 // Copy k of undo gets the first `opens` open pairs, the `depth` entries of the stack, and the marks.
 pub fn save(work: &mut [u32], k: usize, opens: usize, depth: usize)
-    requires { ⌜ (524288 ≤ length (now work)) × (k < 16) × (opens ≤ 4096) × (depth ≤ DEPTH) ⌝ }
+    requires { ⌜ (WORK ≤ length (now work)) × (k < 16) × (opens ≤ 4096) × (depth ≤ DEPTH) ⌝ }
     ensures { λ _. ⌜ Saved (now (work .entry)) (now (work .exit)) k opens depth ⌝ }
 {
     let to = COPIES + k * COPY;

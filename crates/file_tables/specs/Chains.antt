@@ -5,7 +5,7 @@ use mathlib.Core.Bool.{cond}
 use mathlib.Core.List.{List}
 use lib.Dec.{eqb}
 use lib.ListN.{length}
-use Rattle.words.specs.Words.{at, tabulate}
+use Rattle.words.specs.Words.{at, tabulate, WORK}
 use Rattle.atom.specs.Write.{serialized-length}
 use Rattle.work_layout.specs.Layout.{FIRST, ATOM-LENGTHS, ATOM-HEADS, ATOM-NEXT}
 use Rattle.work_layout.specs.Rows.{prev}
@@ -22,7 +22,7 @@ chain-of b k = cond (eqb (first-of b k) k) (slot-of (b k)) 1024
 
 -- The first i atoms are loaded: their tables, and the chain of each slot, the last atom first.
 pub record Loading (b : ℕ → List ℕ) (w : List ℕ) (i : ℕ) : Type 0 where
-  pub long : 524288 ≤ length w
+  pub long : WORK ≤ length w
   pub few : i ≤ 1024
   pub firsts : (k : ℕ) → k < i → at w (FIRST + k) ≡ first-of b k
   pub lengths : (k : ℕ) → k < i → at w (ATOM-LENGTHS + k) ≡ serialized-length (b k)

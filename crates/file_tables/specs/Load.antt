@@ -3,7 +3,7 @@ use Prim.Native.Nat.{ℕ, _+_, _≤_, _<_}
 use mathlib.Core.Path.{_≡_}
 use mathlib.Core.List.{List}
 use lib.ListN.{length}
-use Rattle.words.specs.Words.{at, tabulate}
+use Rattle.words.specs.Words.{at, tabulate, WORK}
 use Rattle.atom.specs.Write.{serialized-length}
 use Rattle.work_layout.specs.Layout.{FIRST, ATOM-LENGTHS, ATOM-HEADS, ATOM-COUNT}
 use Rattle.cache_nodes.specs.Meaning.{first-same}
@@ -15,7 +15,7 @@ atoms file w n = tabulate n (atom-bytes file w)
 
 -- What loading takes: work is long, the file short, the atoms are few and lie within the file, and no chain has begun.
 pub record Ready (file w : List ℕ) (count : ℕ) : Type 0 where
-  pub long : 524288 ≤ length w
+  pub long : WORK ≤ length w
   pub short : length file ≤ 65535
   pub few : count ≤ 1024
   pub inside : (i : ℕ) → i < count → Inside file w i

@@ -3,6 +3,7 @@ use words::wide;
 ghost use mathlib.Core.Path.{_≡_};
 ghost use Prim.Native.Nat.{_≤_, _<_};
 ghost use lib.ListN.{length};
+ghost use Rattle.words.specs.Words.{WORK};
 ghost use Rattle.words.specs.Lists.{same};
 ghost use Rattle.atom.specs.Write.{serialized-length};
 ghost use Rattle.file_tables.specs.Listed.{start-of, end-of, atom-bytes, Inside, slot-of};
@@ -30,7 +31,7 @@ fn slot_of(bytes: &[u8]) -> usize
 
 // Where the bytes of listed atom i start.
 pub fn start_of(work: &[u32], i: usize) -> usize
-    requires { ⌜ (524288 ≤ length (now work)) × (i < 1024) ⌝ }
+    requires { ⌜ (WORK ≤ length (now work)) × (i < 1024) ⌝ }
     ensures { λ r. ⌜ r ≡ start-of (now (work .entry)) i ⌝ }
 {
     wide(work[work_layout::ATOMS + 2 * i])
@@ -38,7 +39,7 @@ pub fn start_of(work: &[u32], i: usize) -> usize
 
 // Where they end.
 pub fn end_of(work: &[u32], i: usize) -> usize
-    requires { ⌜ (524288 ≤ length (now work)) × (i < 1024) ⌝ }
+    requires { ⌜ (WORK ≤ length (now work)) × (i < 1024) ⌝ }
     ensures { λ r. ⌜ r ≡ end-of (now (work .entry)) i ⌝ }
 {
     wide(work[work_layout::ATOMS + 2 * i + 1])
@@ -46,7 +47,7 @@ pub fn end_of(work: &[u32], i: usize) -> usize
 
 // The slot of atom i.
 pub fn slot_at(work: &[u32], file: &[u8], i: usize) -> usize
-    requires { ⌜ (524288 ≤ length (now work)) × (i < 1024) × (Inside (now file) (now work) i) ⌝ }
+    requires { ⌜ (WORK ≤ length (now work)) × (i < 1024) × (Inside (now file) (now work) i) ⌝ }
     ensures { λ s. ⌜ s ≡ slot-of (atom-bytes (now (file .entry)) (now (work .entry)) i) ⌝ }
 {
     let start = start_of(work, i);
@@ -56,7 +57,7 @@ pub fn slot_at(work: &[u32], file: &[u8], i: usize) -> usize
 
 // The serialized length of atom i.
 pub fn length_at(work: &[u32], file: &[u8], i: usize) -> u32
-    requires { ⌜ (524288 ≤ length (now work)) × (i < 1024) × (Inside (now file) (now work) i) × (length (now file) ≤ 65535) ⌝ }
+    requires { ⌜ (WORK ≤ length (now work)) × (i < 1024) × (Inside (now file) (now work) i) × (length (now file) ≤ 65535) ⌝ }
     ensures { λ n. ⌜ n ≡ serialized-length (atom-bytes (now (file .entry)) (now (work .entry)) i) ⌝ }
 {
     let start = start_of(work, i);
@@ -66,7 +67,7 @@ pub fn length_at(work: &[u32], file: &[u8], i: usize) -> u32
 
 // Whether atoms i and j have the same bytes. They are compared where they lie.
 pub fn same_atoms(work: &[u32], file: &[u8], i: usize, j: usize) -> bool
-    requires { ⌜ (524288 ≤ length (now work)) × (i < 1024) × (j < 1024) × (Inside (now file) (now work) i) × (Inside (now file) (now work) j) ⌝ }
+    requires { ⌜ (WORK ≤ length (now work)) × (i < 1024) × (j < 1024) × (Inside (now file) (now work) i) × (Inside (now file) (now work) j) ⌝ }
     ensures { λ r. ⌜ r ≡ same (atom-bytes (now (file .entry)) (now (work .entry)) i) (atom-bytes (now (file .entry)) (now (work .entry)) j) ⌝ }
 {
     let start = start_of(work, i);

@@ -9,7 +9,7 @@ use text::questions;
 // lengths, so that no zeros are counted.
 fn report_with(
     input: &[u8],
-    work: &mut [u32; 524288],
+    work: &mut [u32; words::WORK],
     pairs: &mut [u32; 262144],
     atoms: &mut [u32; 131072],
     bytes: &mut [u8; 65536],
@@ -24,7 +24,7 @@ fn report_with(
 
 // The same, with arrays of its own.
 fn report(input: &[u8]) {
-    let mut work = [0u32; 524288];
+    let mut work = [0u32; words::WORK];
     let mut pairs = [0u32; 262144];
     let mut atoms = [0u32; 131072];
     let mut bytes = [0u8; 65536];

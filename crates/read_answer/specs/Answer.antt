@@ -8,8 +8,8 @@ use Rattle.read_store.specs.Layout.{VALUES}
 use Rattle.read_item.specs.declared.settle.Reader.{Reader}
 use Rattle.read_answer.specs.declared.ReadAnswer.{ReadAnswer}
 
-abbrev pub answerOf : ReadAnswer → Answer
-answerOf r = record { number = r .number; root = r .root; pairs = r .pairs; atoms = r .atoms; bytes = r .bytes; ghosts = r .ghosts }
+abbrev pub read-answer-of : ReadAnswer → Answer
+read-answer-of r = record { number = r .number; root = r .root; pairs = r .pairs; atoms = r .atoms; bytes = r .bytes; ghosts = r .ghosts }
 
 -- The lowest value lies in work, and the counts fit a word.
 pub record Counts (w : List ℕ) (r : Reader) : Type 0 where
@@ -20,8 +20,8 @@ pub record Counts (w : List ℕ) (r : Reader) : Type 0 where
   pub ghosts-fit : r .ghosts < 2 ^ 32
 
 -- The lowest value's node and the reader's counts.
-abbrev pub answerAt : List ℕ → Reader → Answer
-answerAt w r = record { number = 0; root = at w VALUES; pairs = r .pairs; atoms = r .atoms; bytes = r .bytes; ghosts = r .ghosts }
+abbrev pub read-answer-at : List ℕ → Reader → Answer
+read-answer-at w r = record { number = 0; root = at w VALUES; pairs = r .pairs; atoms = r .atoms; bytes = r .bytes; ghosts = r .ghosts }
 
 abbrev pub slices : (w p a b : List ℕ) → Slices
 slices w p a b = record { work = w; pairs = p; atoms = a; bytes = b }

@@ -5,7 +5,7 @@ use read_item::Reader;
 use read_store::reader_stacks;
 ghost use mathlib.Core.Path.{_≡_};
 ghost use Rattle.spec_reading.specs.Call.{refusal as call-refusal, long-enough};
-ghost use Rattle.read_answer.specs.Answer.{slices, answerOf, Counts, answerAt};
+ghost use Rattle.read_answer.specs.Answer.{slices, read-answer-of, Counts, read-answer-at};
 
 // The number, 0 for none; the root, and how many pairs, listed atoms, atom bytes and ghost pairs there are.
 #[repr(C)]
@@ -19,7 +19,7 @@ pub struct ReadAnswer {
 }
 
 pub fn refusal(number: u32) -> ReadAnswer
-    ensures { λ r. ⌜ answerOf r ≡ call-refusal number ⌝ }
+    ensures { λ r. ⌜ read-answer-of r ≡ call-refusal number ⌝ }
 {
     ReadAnswer {
         number,
@@ -34,7 +34,7 @@ pub fn refusal(number: u32) -> ReadAnswer
 pub fn long_enough(work: &[u32], pairs: &[u32], atoms: &[u32], bytes: &[u8]) -> bool
     ensures { λ r. ⌜ r ≡ long-enough (slices (now (work .entry)) (now (pairs .entry)) (now (atoms .entry)) (now (bytes .entry))) ⌝ }
 {
-    if work.len() < 524288 {
+    if work.len() < words::WORK {
         return false;
     }
     if pairs.len() < 262144 {
@@ -49,7 +49,7 @@ pub fn long_enough(work: &[u32], pairs: &[u32], atoms: &[u32], bytes: &[u8]) -> 
 // What was read: the one value's node, and the counts.
 pub fn answer(work: &[u32], r: Reader) -> ReadAnswer
     requires { ⌜ Counts (now work) r ⌝ }
-    ensures { λ a. ⌜ answerOf a ≡ answerAt (now (work .entry)) r ⌝ }
+    ensures { λ a. ⌜ read-answer-of a ≡ read-answer-at (now (work .entry)) r ⌝ }
 {
     ReadAnswer {
         number: 0,

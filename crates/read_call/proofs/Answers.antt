@@ -9,20 +9,20 @@ use borrow.Author.Tests.{leb-true, le-leb, lt-leb}
 use lib.Dec.{leb}
 use lib.ListN.{length, take, drop, replicate, length-replicate, take-append-drop}
 use lib.Seq.{length-take-le}
-use Rattle.words.specs.Words.{at}
+use Rattle.words.specs.Words.{at, WORK}
 use Rattle.spec_reading.specs.Format.{Read}
 use Rattle.spec_reading.specs.Store.{Stored, read-stored}
 use Rattle.spec_reading.specs.Bounds.{Bounds, sound-bounds}
 use Rattle.spec_reading.specs.Call.{Slices, Result, refusal, zeroed, filled, root-of, answer-of, after, long-enough, reading}
-use Rattle.read_store.specs.Layout.{VALUES, valuesOf}
-use Rattle.read_item.specs.Whole.{storedOf, Lent, Ends}
+use Rattle.read_store.specs.Layout.{VALUES, values-of}
+use Rattle.read_item.specs.Whole.{stored-of, Lent, Ends}
 use Rattle.read_item.specs.declared.settle.Reader.{Reader}
 use Rattle.read_call.specs.declared.read_items.Outcome.{Outcome}
 use Rattle.read_call.specs.declared.read_items.Outcome.the-variants as outcome
 use Rattle.read_call.specs.read_items.Outcome.{start, ReadAll}
 use Rattle.read_answer.specs.declared.ReadAnswer.{ReadAnswer}
-use Rattle.read_answer.specs.Answer.{answerOf, Counts, answerAt, slices}
-use Rattle.read_call.specs.Outcome.{resultOf}
+use Rattle.read_answer.specs.Answer.{read-answer-of, Counts, read-answer-at, slices}
+use Rattle.read_call.specs.Outcome.{read-result-of}
 
 -- ---- a fresh store
 
@@ -37,17 +37,17 @@ both-right false false e = e
 
 -- Question 1 was answered: the four lengths.
 record Long (w p a b : List ℕ) : Type 0 where
-  work : 524288 ≤ length w
+  work : WORK ≤ length w
   pairs : 262144 ≤ length p
   atoms : 131072 ≤ length a
   bytes : 65536 ≤ length b
 
 long : (w p a b : List ℕ) → long-enough (slices w p a b) ≡ true → Long w p a b
 long w p a b e =
-    let f = both-right (leb 524288 (length w)) (leb 262144 (length p) && (leb 131072 (length a) && leb 65536 (length b))) e in
+    let f = both-right (leb WORK (length w)) (leb 262144 (length p) && (leb 131072 (length a) && leb 65536 (length b))) e in
     let g = both-right (leb 262144 (length p)) (leb 131072 (length a) && leb 65536 (length b)) f in
     record {
-      work = leb-true 524288 (length w) (both-left (leb 524288 (length w)) (leb 262144 (length p) && (leb 131072 (length a) && leb 65536 (length b))) e);
+      work = leb-true WORK (length w) (both-left (leb WORK (length w)) (leb 262144 (length p) && (leb 131072 (length a) && leb 65536 (length b))) e);
       pairs = leb-true 262144 (length p) (both-left (leb 262144 (length p)) (leb 131072 (length a) && leb 65536 (length b)) f);
       atoms = leb-true 131072 (length a) (both-left (leb 131072 (length a)) (leb 65536 (length b)) g);
       bytes = leb-true 65536 (length b) (both-right (leb 131072 (length a)) (leb 65536 (length b)) g);
@@ -83,8 +83,8 @@ lent-start input w p a b p′ a′ b′ e short ep ea eb =
 
 -- ---- what was read
 
-values-length : (w : List ℕ) (n : ℕ) → length (valuesOf w n) ≡ n
-unfolding valuesOf
+values-length : (w : List ℕ) (n : ℕ) → length (values-of w n) ≡ n
+unfolding values-of
 values-length w zero = refl
 values-length w (suc n) = ap suc (values-length w n)
 
@@ -104,8 +104,8 @@ module _ (input w p a b : List ℕ) (r : Reader) (h : Ends input w p a b r) wher
   bytes-length : length (take (r .bytes) b) ≡ r .bytes
   bytes-length = length-take-le (r .bytes) b (h .lent .bytes-in)
 
-  bounds : Bounds (storedOf w p a b r)
-  bounds = sound-bounds (r .position) _ (storedOf w p a b r) (omega (arith, h .lent .inside, h .lent .short)) (h .sound)
+  bounds : Bounds (stored-of w p a b r)
+  bounds = sound-bounds (r .position) _ (stored-of w p a b r) (omega (arith, h .lent .inside, h .lent .short)) (h .sound)
 
   pub counts : Counts w r
   counts =
@@ -120,11 +120,11 @@ module _ (input w p a b : List ℕ) (r : Reader) (h : Ends input w p a b r) wher
   one-value : r .values ≡ 1
   one-value = sym (values-length w (r .values)) ∙ h .sound .fits
 
-  root : at w VALUES ≡ root-of (valuesOf w (r .values))
-  unfolding valuesOf
-  root = ap (λ (n : ℕ). root-of (valuesOf w n)) (sym one-value)
+  root : at w VALUES ≡ root-of (values-of w (r .values))
+  unfolding values-of
+  root = ap (λ (n : ℕ). root-of (values-of w n)) (sym one-value)
 
-  answered : answerAt w r ≡ answer-of (storedOf w p a b r)
+  answered : read-answer-at w r ≡ answer-of (stored-of w p a b r)
   answered =
       let np : r .pairs ≡ length (take (2 * r .pairs) p) / 2 = omega (arith, pairs-length) in
       let na : r .atoms ≡ length (take (2 * r .atoms) a) / 2 = omega (arith, atoms-length) in
@@ -139,8 +139,8 @@ zeroed-same l l₁ e = ap (λ (n : ℕ). replicate n 0) e
 -- The call's result after everything was read: work is cleared, the store is left as it was read.
 pub result-accepted : (input w p a b w₁ p₁ a₁ b₁ : List ℕ) (o : Outcome) (r : Reader) → ReadAll input w₁ p₁ a₁ b₁ (read-stored input) o → o ≡ outcome.Accepted r
     → length w₁ ≡ length w → length p₁ ≡ length p → length a₁ ≡ length a → length b₁ ≡ length b
-    → (w₂ : List ℕ) → w₂ ≡ zeroed w₁ → (x : ReadAnswer) → answerOf x ≡ answerAt w₁ r
-    → resultOf x w₂ p₁ a₁ b₁ ≡ after (read-stored input) (slices w p a b)
+    → (w₂ : List ℕ) → w₂ ≡ zeroed w₁ → (x : ReadAnswer) → read-answer-of x ≡ read-answer-at w₁ r
+    → read-result-of x w₂ p₁ a₁ b₁ ≡ after (read-stored input) (slices w p a b)
 result-accepted input w p a b w₁ p₁ a₁ b₁ o r all-read e lw lp la lb w₂ zw x ex =
     (λ i.
     record {
@@ -161,8 +161,8 @@ result-accepted input w p a b w₁ p₁ a₁ b₁ o r all-read e lw lp la lb w�
 -- The call's result after a refusal: everything is cleared.
 pub result-refused : (input w p a b w₁ p₁ a₁ b₁ : List ℕ) (o : Outcome) (n : ℕ) → ReadAll input w₁ p₁ a₁ b₁ (read-stored input) o → o ≡ outcome.Refused n
     → length w₁ ≡ length w → length p₁ ≡ length p → length a₁ ≡ length a → length b₁ ≡ length b
-    → (w₂ p₂ a₂ b₂ : List ℕ) → w₂ ≡ zeroed w₁ → p₂ ≡ zeroed p₁ → a₂ ≡ zeroed a₁ → b₂ ≡ zeroed b₁ → (x : ReadAnswer) → answerOf x ≡ refusal n
-    → resultOf x w₂ p₂ a₂ b₂ ≡ after (read-stored input) (slices w p a b)
+    → (w₂ p₂ a₂ b₂ : List ℕ) → w₂ ≡ zeroed w₁ → p₂ ≡ zeroed p₁ → a₂ ≡ zeroed a₁ → b₂ ≡ zeroed b₁ → (x : ReadAnswer) → read-answer-of x ≡ refusal n
+    → read-result-of x w₂ p₂ a₂ b₂ ≡ after (read-stored input) (slices w p a b)
 result-refused input w p a b w₁ p₁ a₁ b₁ o n all-read e lw lp la lb w₂ p₂ a₂ b₂ zw zp za zb x ex =
     (λ i.
     record {
@@ -191,21 +191,21 @@ module _ (input w p a b : List ℕ) (t : Bool) (test : t ≡ long-enough (slices
   unfolding reading cases
   reading-cases x y e f = ap (λ (u : Bool). cases input (slices w p a b) u (leb (length input) 65535)) (sym test ∙ e) ∙ ap (λ (u : Bool). cases input (slices w p a b) x u) f
 
-  untouched : (n : ℕ) (r : ReadAnswer) → answerOf r ≡ refusal n → resultOf r w p a b ≡ record { answer = refusal n; slices = slices w p a b }
+  untouched : (n : ℕ) (r : ReadAnswer) → read-answer-of r ≡ refusal n → read-result-of r w p a b ≡ record { answer = refusal n; slices = slices w p a b }
   untouched n r e = λ i. record { answer = e i; slices = slices w p a b }
 
-  pub too-short : t ≡ false → (r : ReadAnswer) → answerOf r ≡ refusal 1 → resultOf r w p a b ≡ reading input (slices w p a b)
+  pub too-short : t ≡ false → (r : ReadAnswer) → read-answer-of r ≡ refusal 1 → read-result-of r w p a b ≡ reading input (slices w p a b)
   unfolding cases
   too-short e r h = untouched 1 r h ∙ sym (reading-cases false (leb (length input) 65535) e refl)
 
-  pub too-long : t ≡ true → 65535 < length input → (r : ReadAnswer) → answerOf r ≡ refusal 2 → resultOf r w p a b ≡ reading input (slices w p a b)
+  pub too-long : t ≡ true → 65535 < length input → (r : ReadAnswer) → read-answer-of r ≡ refusal 2 → read-result-of r w p a b ≡ reading input (slices w p a b)
   unfolding cases
   too-long e l r h = untouched 2 r h ∙ sym (reading-cases true false e (lt-leb _ _ l))
 
   pub asked : t ≡ true → length input ≤ 65535 → (long-enough (slices w p a b) ≡ true) × (length input ≤ 65535)
   asked e l = (sym test ∙ e, l)
 
-  pub within : t ≡ true → length input ≤ 65535 → (r : ReadAnswer) (w′ p′ a′ b′ : List ℕ) → resultOf r w′ p′ a′ b′ ≡ after (read-stored input) (slices w p a b)
-      → resultOf r w′ p′ a′ b′ ≡ reading input (slices w p a b)
+  pub within : t ≡ true → length input ≤ 65535 → (r : ReadAnswer) (w′ p′ a′ b′ : List ℕ) → read-result-of r w′ p′ a′ b′ ≡ after (read-stored input) (slices w p a b)
+      → read-result-of r w′ p′ a′ b′ ≡ reading input (slices w p a b)
   unfolding cases
   within e l r w′ p′ a′ b′ h = h ∙ sym (reading-cases true true e (le-leb _ _ l))

@@ -3,7 +3,7 @@ use Prim.Native.Nat.{ℕ}
 use mathlib.Core.List.{List}
 use Rattle.spec_reading.specs.Call.{Result}
 use Rattle.read_answer.specs.declared.ReadAnswer.{ReadAnswer}
-use Rattle.read_answer.specs.Answer.{answerOf, slices}
+use Rattle.read_answer.specs.Answer.{read-answer-of, slices}
 
-abbrev pub resultOf : ReadAnswer → (w p a b : List ℕ) → Result
-resultOf r w p a b = record { answer = answerOf r; slices = slices w p a b }
+abbrev pub read-result-of : ReadAnswer → (w p a b : List ℕ) → Result
+read-result-of r w p a b = record { answer = read-answer-of r; slices = slices w p a b }

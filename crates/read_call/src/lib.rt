@@ -12,7 +12,7 @@ ghost use lib.ListN.{length};
 ghost use Rattle.spec_reading.specs.Store.{read-stored};
 ghost use Rattle.spec_reading.specs.Call.{long-enough, after, reading};
 ghost use Rattle.read_answer.specs.Answer.{slices};
-ghost use Rattle.read_call.specs.Outcome.{resultOf};
+ghost use Rattle.read_call.specs.Outcome.{read-result-of};
 
 // Reading past the questions 1 and 2.
 fn read_in(
@@ -23,7 +23,7 @@ fn read_in(
     bytes: &mut [u8],
 ) -> ReadAnswer
     requires { ⌜ (long-enough (slices (now work) (now pairs) (now atoms) (now bytes)) ≡ true) × (length (now input) ≤ 65535) ⌝ }
-    ensures { λ r. ⌜ resultOf r (now (work .exit)) (now (pairs .exit)) (now (atoms .exit)) (now (bytes .exit)) ≡ after (read-stored (now (input .entry))) (slices (now (work .entry)) (now (pairs .entry)) (now (atoms .entry)) (now (bytes .entry))) ⌝ }
+    ensures { λ r. ⌜ read-result-of r (now (work .exit)) (now (pairs .exit)) (now (atoms .exit)) (now (bytes .exit)) ≡ after (read-stored (now (input .entry))) (slices (now (work .entry)) (now (pairs .entry)) (now (atoms .entry)) (now (bytes .entry))) ⌝ }
 {
     clear_slices::clear_store(pairs, atoms, bytes);
     match read_items::read_all(input, work, pairs, atoms, bytes) {
@@ -48,7 +48,7 @@ pub extern "C" fn nikvoldra_read(
     atoms: &mut [u32],
     bytes: &mut [u8],
 ) -> ReadAnswer
-    ensures { λ r. ⌜ resultOf r (now (work .exit)) (now (pairs .exit)) (now (atoms .exit)) (now (bytes .exit)) ≡ reading (now (input .entry)) (slices (now (work .entry)) (now (pairs .entry)) (now (atoms .entry)) (now (bytes .entry))) ⌝ }
+    ensures { λ r. ⌜ read-result-of r (now (work .exit)) (now (pairs .exit)) (now (atoms .exit)) (now (bytes .exit)) ≡ reading (now (input .entry)) (slices (now (work .entry)) (now (pairs .entry)) (now (atoms .entry)) (now (bytes .entry))) ⌝ }
 {
     if !read_answer::long_enough(work, pairs, atoms, bytes) {
         return read_answer::refusal(1);

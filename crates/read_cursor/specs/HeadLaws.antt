@@ -11,7 +11,7 @@ use borrow.Author.Tests.{eqb-true, eqb-false}
 use Rattle.words.specs.Choice.{by-cond, by-lt}
 use Rattle.atom.specs.Parse.{parse-at}
 use Rattle.read_cursor.specs.declared.Head.{Head}
-use Rattle.read_cursor.specs.Heads.{There, end, pair, path, atom, headOf, begun, head-of, head-at}
+use Rattle.read_cursor.specs.Heads.{There, end, pair, path, atom, there-of, begun, head-of, head-at}
 
 abbrev pub Says : List ℕ → ℕ → There → Type 0
 Says input p end = length input ≤ p
@@ -36,5 +36,5 @@ module _ (input : List ℕ) (p : ℕ) where
       (λ h. subst (λ (l : List ℕ). Says input p (head-of l input p)) (sym (drop-of-length-le input {i = p} h)) h)
 
   -- What the code's answer h, which is x, says.
-  pub told : (h x : Head) → headOf h ≡ head-at input p → h ≡ x → Says input p (headOf x)
-  told h x e g = subst (Says input p) (sym e ∙ ap headOf g) head-says
+  pub told : (h x : Head) → there-of h ≡ head-at input p → h ≡ x → Says input p (there-of x)
+  told h x e g = subst (Says input p) (sym e ∙ ap there-of g) head-says

@@ -5,7 +5,7 @@ use mathlib.Core.List.{List, [], _∷_}
 use lib.Dec.{eqb}
 use lib.ListN.{drop}
 use Rattle.atom.specs.Parse.{Parse, parse-at}
-use Rattle.atom_decode.specs.Answers.{parseOf}
+use Rattle.atom_decode.specs.Answers.{parse-of}
 use Rattle.read_cursor.specs.declared.First.{First}
 use Rattle.read_cursor.specs.declared.First.the-variants as first
 use Rattle.read_cursor.specs.declared.Head.{Head}
@@ -18,11 +18,11 @@ pub data There : Type 0 where
   path : Parse → There
   atom : Parse → There
 
-abbrev pub headOf : Head → There
-headOf head.End = end
-headOf head.Pair = pair
-headOf (head.Path z) = path (parseOf z)
-headOf (head.Atom z) = atom (parseOf z)
+abbrev pub there-of : Head → There
+there-of head.End = end
+there-of head.Pair = pair
+there-of (head.Path z) = path (parse-of z)
+there-of (head.Atom z) = atom (parse-of z)
 
 -- What begins with the byte b at the place p: `ff` is a pair's mark; after `fe` stands a path; anything else begins an atom.
 abbrev pub begun : ℕ → List ℕ → ℕ → There

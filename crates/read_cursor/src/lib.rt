@@ -1,12 +1,10 @@
 // de_br.rs: the reader's Cursor, the input and a position in it; what stands at a place of the input.
+use atom::BACK_REFERENCE;
+use atom::CONS_BOX_MARKER;
 use atom_decode::ParseAtom;
 ghost use mathlib.Core.Path.{_≡_};
 ghost use Prim.Native.Nat.{_+_, _<_, _^_};
-ghost use Rattle.read_cursor.specs.Heads.{«byte-at», «prefix-of», parsed, «head-at», headOf};
-
-const BACK_REFERENCE: u8 = 0xfe;
-
-const CONS_BOX_MARKER: u8 = 0xff;
+ghost use Rattle.read_cursor.specs.Heads.{«byte-at», «prefix-of», parsed, «head-at», there-of};
 
 // A place of the input. A struct that holds a reference is proved by hand, so what is over it is thin and goes straight on.
 pub struct Cursor<'a> {
@@ -54,7 +52,7 @@ fn prefix_of(first: First) -> usize
 
 // What begins with this byte. Its atom or path stands at the place.
 fn parse_at(input: &[u8], position: usize, first: First) -> Head
-    ensures { λ h. ⌜ headOf h ≡ parsed first (now (input .entry)) position ⌝ }
+    ensures { λ h. ⌜ there-of h ≡ parsed first (now (input .entry)) position ⌝ }
 {
     match first {
         First::Byte(b) => {
@@ -91,14 +89,14 @@ fn advance<'a>(c: Cursor<'a>, count: usize) -> Cursor<'a>
 
 // What begins with this byte, with its atom or path parsed at the cursor.
 fn parse<'a>(c: Cursor<'a>, first: First) -> Head
-    ensures { λ h. ⌜ headOf h ≡ parsed first (now (c .entry .input)) (c .entry .position) ⌝ }
+    ensures { λ h. ⌜ there-of h ≡ parsed first (now (c .entry .input)) (c .entry .position) ⌝ }
 {
     parse_at(c.input, c.position, first)
 }
 
 // What stands at a place of the input. A reference's path is parsed after its mark.
 pub fn head_at(input: &[u8], position: usize) -> Head
-    ensures { λ h. ⌜ headOf h ≡ «head-at» (now (input .entry)) position ⌝ }
+    ensures { λ h. ⌜ there-of h ≡ «head-at» (now (input .entry)) position ⌝ }
 {
     let c = Cursor { input, position };
     let first = read_byte(c);

@@ -3,6 +3,7 @@ use Prim.Native.Nat.{ℕ, _+_, _*_, _^_, _≤_, _<_}
 use mathlib.Core.Path.{_≡_}
 use mathlib.Core.List.{List, _∷_}
 use lib.ListN.{length, drop}
+use Rattle.words.specs.Words.{WORK}
 use Rattle.spec_reading.specs.Format.{SExp, Step, stop, settle, atom-item, path-item}
 use Rattle.spec_reading.specs.Store.{Stored, store-values}
 use Rattle.spec_reading.specs.Sound.{Sound}
@@ -10,17 +11,17 @@ use Rattle.atom.specs.Parse.{Parse, blob, parse, parse-at}
 use Rattle.read_path.specs.declared.stack_list.Built.{Built}
 use Rattle.read_path.specs.Lists.{HaveLists}
 use Rattle.read_store.specs.Atoms.{AtomStored}
-use Rattle.read_store.specs.Layout.{opsOf, PushedValue}
-use Rattle.read_item.specs.State.{storedWith, Next}
+use Rattle.read_store.specs.Layout.{ops-of, PushedValue}
+use Rattle.read_item.specs.State.{stored-with, Next}
 use Rattle.read_item.specs.declared.settle.Reader.{Reader}
 use Rattle.read_item.specs.declared.settle.Item.{Item}
 use Rattle.read_item.specs.declared.settle.Item.the-variants as item
-use Rattle.read_item.specs.Whole.{storedOf, itemOf, StandsItem}
+use Rattle.read_item.specs.Whole.{stored-of, item-of, StandsItem}
 
 -- ---- an atom
 
 pub record AtomRoom (w a b : List ℕ) (r : Reader) (blob : List ℕ) : Type 0 where
-  pub work : 524288 ≤ length w
+  pub work : WORK ≤ length w
   pub values : r .values < 131072
   pub atoms-room : 2 * r .atoms + 2 ≤ length a
   pub bytes-room : r .bytes + length blob ≤ length b
@@ -42,7 +43,7 @@ pub record AtomPushed (w a b : List ℕ) (r : Reader) (blob : List ℕ) (end : �
 
 -- The atom at the place was read as the definition says.
 pub record SteppedAtom (input w p a b : List ℕ) (r : Reader) (w′ p′ a′ b′ : List ℕ) (i : Item) : Type 0 where
-  pub same : atom-item store-values (parse (drop (r .position) input)) (drop (r .position) input) (opsOf w (r .ops)) (storedOf w p a b r) ≡ itemOf input w′ p′ a′ b′ i
+  pub same : atom-item store-values (parse (drop (r .position) input)) (drop (r .position) input) (ops-of w (r .ops)) (stored-of w p a b r) ≡ item-of input w′ p′ a′ b′ i
   pub stands : StandsItem input w′ p′ a′ b′ i
 
 -- ---- a reference
@@ -55,12 +56,12 @@ node-pushed r b end = record { position = end; ops = r .ops; values = r .values 
 pub record BeforePath (input w p : List ℕ) (r : Reader) : Type 0 where
   pub atoms : List ℕ
   pub bytes : List ℕ
-  pub work : 524288 ≤ length w
+  pub work : WORK ≤ length w
   pub room : 262144 ≤ length p
   pub short : length input ≤ 65535
   pub inside : r .position < length input
   pub pairs-in : 2 * r .pairs ≤ length p
-  pub sound : Sound (r .position) (SExp ∷ opsOf w (r .ops)) (storedWith w p atoms bytes r)
+  pub sound : Sound (r .position) (SExp ∷ ops-of w (r .ops)) (stored-with w p atoms bytes r)
   pub lists : HaveLists w (r .listed) (r .values)
 
 -- The path's atom was found, and ends at `end`.
@@ -71,12 +72,12 @@ pub record PathFound (input : List ℕ) (r : Reader) (z : Parse) (end : ℕ) : T
 
 -- What the definition does with the path at the place.
 abbrev pub path-there : (input w p a b : List ℕ) → Reader → Step Stored
-path-there input w p a b r = path-item store-values (parse (drop (r .position + 1) input)) (drop (r .position + 1) input) (opsOf w (r .ops)) (storedWith w p a b r)
+path-there input w p a b r = path-item store-values (parse (drop (r .position + 1) input)) (drop (r .position + 1) input) (ops-of w (r .ops)) (stored-with w p a b r)
 
 -- The node that the path led to is on top.
 pub record PathPushed (input w p : List ℕ) (r : Reader) (w′ p′ : List ℕ) (r′ : Reader) : Type 0 where
-  pub same : (a b : List ℕ) → path-there input w p a b r ≡ settle store-values (drop (r′ .position) input) (opsOf w′ (r′ .ops)) (storedWith w′ p′ a b r′)
-  pub kept : (a b : List ℕ) → Sound (r .position) (SExp ∷ opsOf w (r .ops)) (storedWith w p a b r) → Sound (r′ .position) (opsOf w′ (r′ .ops)) (storedWith w′ p′ a b r′)
+  pub same : (a b : List ℕ) → path-there input w p a b r ≡ settle store-values (drop (r′ .position) input) (ops-of w′ (r′ .ops)) (stored-with w′ p′ a b r′)
+  pub kept : (a b : List ℕ) → Sound (r .position) (SExp ∷ ops-of w (r .ops)) (stored-with w p a b r) → Sound (r′ .position) (ops-of w′ (r′ .ops)) (stored-with w′ p′ a b r′)
   pub long-work : length w′ ≡ length w
   pub long-pairs : length p′ ≡ length p
   pub inside : r′ .position ≤ length input

@@ -9,12 +9,13 @@ pub use settle::Reader;
 ghost use mathlib.Core.Path.{_≡_};
 ghost use Prim.Native.Nat.{_+_, _≤_};
 ghost use lib.ListN.{length};
+ghost use Rattle.words.specs.Words.{WORK};
 ghost use Rattle.read_store.specs.Layout.{PushedPair};
 ghost use Rattle.read_item.specs.Whole.{Stands};
 ghost use Rattle.read_item.specs.Step.{Stepped, pair-begun};
 
 fn pair_item(work: &mut [u32], r: Reader) -> Item
-    requires { ⌜ (524288 ≤ length (now work)) × (r .ops + 2 ≤ 131072) × (r .position ≤ 65535) ⌝ }
+    requires { ⌜ (WORK ≤ length (now work)) × (r .ops + 2 ≤ 131072) × (r .position ≤ 65535) ⌝ }
     ensures { λ i. ⌜ (PushedPair (now (work .entry)) (now (work .exit)) (r .ops)) × (i ≡ Item.Go (pair-begun r)) ⌝ }
 {
     let ops = r.ops;

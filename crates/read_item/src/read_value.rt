@@ -9,11 +9,12 @@ use read_store::reader_stacks;
 ghost use mathlib.Core.Path.{_≡_};
 ghost use Prim.Native.Nat.{_+_, _<_, _≤_};
 ghost use lib.ListN.{length};
+ghost use Rattle.words.specs.Words.{WORK};
 ghost use Rattle.read_store.specs.Layout.{PushedValue};
 ghost use Rattle.read_item.specs.Whole.{Stands};
 ghost use Rattle.read_item.specs.Values.{AtomRoom, AtomPushed, SteppedAtom, node-pushed, BeforePath, PathFound, SteppedPath};
 ghost use Rattle.atom.specs.Parse.{blob-of, parse-at};
-ghost use Rattle.atom_decode.specs.Answers.{parseOf};
+ghost use Rattle.atom_decode.specs.Answers.{parse-of};
 
 // The atom that was found, and ends at `end`, is stored and pushed.
 fn push_atom(
@@ -25,8 +26,8 @@ fn push_atom(
     found: ParseAtom,
     end: usize,
 ) -> Reader
-    requires { ⌜ AtomRoom (now work) (now atoms) (now bytes) r (blob-of (now input) (parseOf found)) ⌝ }
-    ensures { λ s. ⌜ AtomPushed (now (work .entry)) (now (atoms .entry)) (now (bytes .entry)) r (blob-of (now (input .entry)) (parseOf found)) end (now (work .exit)) (now (atoms .exit)) (now (bytes .exit)) s ⌝ }
+    requires { ⌜ AtomRoom (now work) (now atoms) (now bytes) r (blob-of (now input) (parse-of found)) ⌝ }
+    ensures { λ s. ⌜ AtomPushed (now (work .entry)) (now (atoms .entry)) (now (bytes .entry)) r (blob-of (now (input .entry)) (parse-of found)) end (now (work .exit)) (now (atoms .exit)) (now (bytes .exit)) s ⌝ }
 {
     let blob = atom_decode::parse_atom_ptr(input, found);
     let used = r.atoms;
@@ -55,7 +56,7 @@ pub fn atom_item(
     r: Reader,
     found: ParseAtom,
 ) -> Item
-    requires { ⌜ (Stands (now input) (now work) (now pairs) (now atoms) (now bytes) r) × (parseOf found ≡ parse-at (now input) (r .position)) ⌝ }
+    requires { ⌜ (Stands (now input) (now work) (now pairs) (now atoms) (now bytes) r) × (parse-of found ≡ parse-at (now input) (r .position)) ⌝ }
     ensures { λ i. ⌜ SteppedAtom (now (input .entry)) (now (work .entry)) (now (pairs .entry)) (now (atoms .entry)) (now (bytes .entry)) r (now (work .exit)) (now (pairs .exit)) (now (atoms .exit)) (now (bytes .exit)) i ⌝ }
 {
     match found {
@@ -70,7 +71,7 @@ pub fn atom_item(
 
 // The node that a path led to is pushed. The path ends at `end`.
 fn push_node(work: &mut [u32], r: Reader, b: Built, end: usize) -> Reader
-    requires { ⌜ (524288 ≤ length (now work)) × (r .values < 131072) × (b .ghosts ≤ 131072) ⌝ }
+    requires { ⌜ (WORK ≤ length (now work)) × (r .values < 131072) × (b .ghosts ≤ 131072) ⌝ }
     ensures { λ s. ⌜ (PushedValue (now (work .entry)) (now (work .exit)) (r .values) (b .node .0)) × (s ≡ node-pushed r b end) ⌝ }
 {
     let values = r.values;
@@ -96,7 +97,7 @@ fn push_path(
     found: ParseAtom,
     end: usize,
 ) -> Item
-    requires { ⌜ (BeforePath (now input) (now work) (now pairs) r) × (PathFound (now input) r (parseOf found) end) ⌝ }
+    requires { ⌜ (BeforePath (now input) (now work) (now pairs) r) × (PathFound (now input) r (parse-of found) end) ⌝ }
     ensures { λ i. ⌜ SteppedPath (now (input .entry)) (now (work .entry)) (now (pairs .entry)) r (now (work .exit)) (now (pairs .exit)) i ⌝ }
 {
     let path = atom_decode::parse_atom_ptr(input, found);
@@ -124,7 +125,7 @@ pub fn path_item(
     r: Reader,
     found: ParseAtom,
 ) -> Item
-    requires { ⌜ (BeforePath (now input) (now work) (now pairs) r) × (parseOf found ≡ parse-at (now input) (r .position + 1)) ⌝ }
+    requires { ⌜ (BeforePath (now input) (now work) (now pairs) r) × (parse-of found ≡ parse-at (now input) (r .position + 1)) ⌝ }
     ensures { λ i. ⌜ SteppedPath (now (input .entry)) (now (work .entry)) (now (pairs .entry)) r (now (work .exit)) (now (pairs .exit)) i ⌝ }
 {
     match found {

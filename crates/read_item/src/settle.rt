@@ -7,7 +7,7 @@ ghost use mathlib.Core.List.{_∷_};
 ghost use Prim.Native.Nat.{_-_, _<_, _≤_};
 ghost use lib.ListN.{length};
 ghost use Rattle.spec_reading.specs.Format.{Cons};
-ghost use Rattle.read_store.specs.Layout.{opsOf};
+ghost use Rattle.read_store.specs.Layout.{ops-of};
 ghost use Rattle.read_item.specs.State.{Ready, Onward, Settled, Next};
 
 // Where the reader stands: the next byte, and how much of each stack and of the store is in use. The lowest `listed` values are known to have a list.
@@ -31,7 +31,7 @@ pub enum Item {
 
 // The topmost operation, a join, is done. The lists of the two values go with them, and the pair has none.
 fn join_top(work: &mut [u32], pairs: &mut [u32], r: Reader) -> Reader
-    requires { ⌜ (Ready (now work) (now pairs) r) × (0 < r .ops) × (opsOf (now work) (r .ops) ≡ Cons ∷ opsOf (now work) (r .ops - 1)) ⌝ }
+    requires { ⌜ (Ready (now work) (now pairs) r) × (0 < r .ops) × (ops-of (now work) (r .ops) ≡ Cons ∷ ops-of (now work) (r .ops - 1)) ⌝ }
     ensures { λ s. ⌜ (Onward (now (work .entry)) (now (pairs .entry)) r (now (work .exit)) (now (pairs .exit)) s) × (s .ops ≡ r .ops - 1) ⌝ }
 {
     let values = r.values;

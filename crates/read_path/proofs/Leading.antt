@@ -14,14 +14,14 @@ use Rattle.path.specs.Bytes.{read-path}
 use Rattle.allocator.specs.Handle.{Node, node-of, nil}
 use Rattle.allocator.specs.HandleLaws.{handle-of-node-of, handle-of-nil, node-of-nil}
 use Rattle.spec_reading.specs.Store.{Store, Value, Listed, Led, walk, node-handle, led-to, list-of, above, lead}
-use Rattle.read_store.specs.Layout.{VALUES, listOf, valueAt, valuesOf}
+use Rattle.read_store.specs.Layout.{VALUES, cached-list, value-at, values-of}
 use Rattle.read_store.proofs.reader_stacks.Stacks.{length-values, drop-values}
 use Rattle.path.specs.declared.path_bits.PathBits.the-variants as path-bits
 use Rattle.path.specs.Answers.{counted}
 use Rattle.path.proofs.path_bits.Bits.{lowest}
 use Rattle.read_path.specs.declared.path_walk.Walked.{Walked}
 use Rattle.read_path.specs.declared.path_walk.Walked.the-variants as walked
-use Rattle.read_path.specs.Answers.{down, Within, Reachable, walkedTo, Walks}
+use Rattle.read_path.specs.Answers.{down, Within, Reachable, walked-to, Walks}
 use Rattle.read_path.specs.declared.stack_list.Built.{Built}
 use Rattle.read_path.specs.declared.Traversed.{Traversed}
 use Rattle.spec_reading.specs.Sound.{unlisted}
@@ -92,34 +92,34 @@ lead-value (true ∷ bs) (u ∷ vs) s (suc k) e h v below q = ap (above u) (lead
 
 -- ---- the values in work
 
-pub value-next : (w : List ℕ) (n k : ℕ) → k < n → drop k (valuesOf w n) ≡ valueAt w (n - 1 - k) ∷ valuesOf w (n - 1 - k)
-unfolding valuesOf
-value-next w n k h = drop-values w n k (omega arith) ∙ ap (valuesOf w) next
+pub value-next : (w : List ℕ) (n k : ℕ) → k < n → drop k (values-of w n) ≡ value-at w (n - 1 - k) ∷ values-of w (n - 1 - k)
+unfolding values-of
+value-next w n k h = drop-values w n k (omega arith) ∙ ap (values-of w) next
   where
     next : n - k ≡ suc (n - 1 - k)
     next = omega arith
 
 -- The k topmost values keep where their words keep.
 pub values-split : (w w′ : List ℕ) (n k : ℕ) → k ≤ n → ((j : ℕ) → VALUES + 2 * (n - k) ≤ j → at w′ j ≡ at w j)
-    → valuesOf w′ n ≡ take k (valuesOf w n) ++ valuesOf w′ (n - k)
-unfolding valuesOf
-values-split w w′ n zero h f = ap (valuesOf w′) less
+    → values-of w′ n ≡ take k (values-of w n) ++ values-of w′ (n - k)
+unfolding values-of
+values-split w w′ n zero h f = ap (values-of w′) less
   where
     less : n ≡ n - 0
     less = omega arith
 values-split w w′ zero (suc k) h f = absurd (omega arith)
 values-split w w′ (suc n) (suc k) h f =
-    (λ i. record { node = f (VALUES + 2 * n) (omega arith) i; list = listOf (f (VALUES + 2 * n + 1) (omega arith) i) }
+    (λ i. record { node = f (VALUES + 2 * n) (omega arith) i; list = cached-list (f (VALUES + 2 * n + 1) (omega arith) i) }
     ∷ values-split w w′ n k (omega arith) (λ j l. f j (omega arith)) i)
-    ∙ ap (λ (m : ℕ). valueAt w n ∷ take k (valuesOf w n) ++ valuesOf w′ m) less
+    ∙ ap (λ (m : ℕ). value-at w n ∷ take k (values-of w n) ++ values-of w′ m) less
   where
     less : n - k ≡ suc n - suc k
     less = omega arith
 
 -- ---- what is left where a path leads to a node of the store
 
-leads-to : (w p : List ℕ) (values listed used ghosts : ℕ) → HaveLists w listed values → (r : Walked) (n : Option Node) (s : Store) → s .pairs ≡ take (2 * used) p → s .ghosts ≡ ghosts → walkedTo r ≡ n
-    → LeadsTo w p values used (led-to n (valuesOf w values) s) w p (reached r used ghosts listed)
+leads-to : (w p : List ℕ) (values listed used ghosts : ℕ) → HaveLists w listed values → (r : Walked) (n : Option Node) (s : Store) → s .pairs ≡ take (2 * used) p → s .ghosts ≡ ghosts → walked-to r ≡ n
+    → LeadsTo w p values used (led-to n (values-of w values) s) w p (reached r used ghosts listed)
 leads-to w p values listed used ghosts a (walked.Node h) n s e f q =
     record {
       node-is = ap node-handle (sym q) ∙ ap some (handle-of-node-of (h .0));
@@ -135,9 +135,9 @@ leads-to w p values listed used ghosts a walked.IntoAtom n s e f q = ap node-han
 module _ (path w p : List ℕ) (values listed used ghosts : ℕ) (a : HaveLists w listed values) where
   -- A path with no set bit is nil.
   pub leads-nil : (b : Built) → b .node .0 ≡ 134217728 → b .pairs ≡ used → b .ghosts ≡ ghosts → b .listed ≡ listed → read-path path ≡ none → (s : Store) → s .pairs ≡ take (2 * used) p → s .ghosts ≡ ghosts
-      → Leads w p values used (led (read-path path) (valuesOf w values) s) w p b
+      → Leads w p values used (led (read-path path) (values-of w values) s) w p b
   leads-nil b n u g m z s e f =
-      subst (λ (o : Option (List Bool)). Leads w p values used (led o (valuesOf w values) s) w p b) (sym z)
+      subst (λ (o : Option (List Bool)). Leads w p values used (led o (values-of w values) s) w p b) (sym z)
       record {
         node-is = ap some (handle-of-nil ∙ sym n);
         values-are = refl;
@@ -149,57 +149,57 @@ module _ (path w p : List ℕ) (values listed used ghosts : ℕ) (a : HaveLists 
       }
 
   module _ (count : ℕ) (q : Counted path count) (steps : ℕ) (d : steps ≡ down (q .bits) values) where
-    led-some : (s : Store) → led (read-path path) (valuesOf w values) s ≡ lead (q .bits) (valuesOf w values) s
-    led-some s = ap (λ (o : Option (List Bool)). led o (valuesOf w values) s) (q .is)
+    led-some : (s : Store) → led (read-path path) (values-of w values) s ≡ lead (q .bits) (values-of w values) s
+    led-some s = ap (λ (o : Option (List Bool)). led o (values-of w values) s) (q .is)
 
-    down-values : down (q .bits) (length (valuesOf w values)) ≡ steps
+    down-values : down (q .bits) (length (values-of w values)) ≡ steps
     down-values = ap (down (q .bits)) (length-values w values) ∙ sym d
 
     pub steps-within : (steps ≤ count) × (steps ≤ values)
     steps-within = omega (arith, d, q .long, down-within (q .bits) values)
 
     module _ (r : Walked) (t : Traversed) (is : t ≡ reached r used ghosts listed) where
-      reaches : (n : Option Node) (s : Store) → lead (q .bits) (valuesOf w values) s ≡ led-to n (valuesOf w values) s → s .pairs ≡ take (2 * used) p → s .ghosts ≡ ghosts
-          → walkedTo r ≡ n → LeadsTo w p values used (led (read-path path) (valuesOf w values) s) w p t
+      reaches : (n : Option Node) (s : Store) → lead (q .bits) (values-of w values) s ≡ led-to n (values-of w values) s → s .pairs ≡ take (2 * used) p → s .ghosts ≡ ghosts
+          → walked-to r ≡ n → LeadsTo w p values used (led (read-path path) (values-of w values) s) w p t
       reaches n s l e f g =
-          subst (λ (x : Traversed). LeadsTo w p values used (led (read-path path) (valuesOf w values) s) w p x) (sym is)
+          subst (λ (x : Traversed). LeadsTo w p values used (led (read-path path) (values-of w values) s) w p x) (sym is)
           (subst (λ (y : Led). LeadsTo w p values used y w p (reached r used ghosts listed)) (sym (led-some s ∙ l)) (leads-to w p values listed used ghosts a r n s e f g))
 
       -- Below the lowest value is nil.
       pub leads-below : steps ≡ values → Walks p used (drop steps (q .bits)) 134217728 r → (s : Store) → s .pairs ≡ take (2 * used) p → s .ghosts ≡ ghosts
-          → LeadsTo w p values used (led (read-path path) (valuesOf w values) s) w p t
+          → LeadsTo w p values used (led (read-path path) (values-of w values) s) w p t
       leads-below z g s e f =
           reaches (walk s (drop steps (q .bits)) nil) s
-          (lead-below (q .bits) (valuesOf w values) s (down-values ∙ z ∙ sym (length-values w values))
-          ∙ ap (λ (k : ℕ). led-to (walk s (drop k (q .bits)) nil) (valuesOf w values) s) (length-values w values ∙ sym z))
+          (lead-below (q .bits) (values-of w values) s (down-values ∙ z ∙ sym (length-values w values))
+          ∙ ap (λ (k : ℕ). led-to (walk s (drop k (q .bits)) nil) (values-of w values) s) (length-values w values ∙ sym z))
           e f (g s e ∙ ap (walk s (drop steps (q .bits))) node-of-nil)
 
       -- Into the value that a clear bit comes to.
       pub leads-value : steps < values → steps < count → Walks p used (drop (steps + 1) (q .bits)) (at w (VALUES + 2 * (values - 1 - steps))) r
-          → (s : Store) → s .pairs ≡ take (2 * used) p → s .ghosts ≡ ghosts → LeadsTo w p values used (led (read-path path) (valuesOf w values) s) w p t
+          → (s : Store) → s .pairs ≡ take (2 * used) p → s .ghosts ≡ ghosts → LeadsTo w p values used (led (read-path path) (values-of w values) s) w p t
       leads-value m n g s e f =
           reaches (walk s (drop (suc steps) (q .bits)) (node-of (at w (VALUES + 2 * (values - 1 - steps))))) s
-          (lead-value (q .bits) (valuesOf w values) s steps down-values (omega (arith, q .long)) (valueAt w (values - 1 - steps)) (valuesOf w (values - 1 - steps))
+          (lead-value (q .bits) (values-of w values) s steps down-values (omega (arith, q .long)) (value-at w (values - 1 - steps)) (values-of w (values - 1 - steps))
           (value-next w values steps m))
           e f (g s e ∙ ap (λ (k : ℕ). walk s (drop k (q .bits)) (node-of (at w (VALUES + 2 * (values - 1 - steps))))) (add-one steps))
 
     -- The list from the value that the path ends on.
     module _ (w′ p′ : List ℕ) (b : Built) (m : steps < values) (z : steps ≡ count) (l : Lists w p (values - steps) listed used ghosts w′ p′ b) where
-      led-listed : (s : Store) → led (read-path path) (valuesOf w values) s ≡ values-above (take steps (valuesOf w values)) (list-of (valuesOf w (values - steps)) s)
+      led-listed : (s : Store) → led (read-path path) (values-of w values) s ≡ values-above (take steps (values-of w values)) (list-of (values-of w (values - steps)) s)
       led-listed s =
           led-some s
-          ∙ lead-list (q .bits) (valuesOf w values) s (down-values ∙ z ∙ q .long) (omega (arith, q .long, length-values w values))
-          ∙ ap (λ (k : ℕ). values-above (take k (valuesOf w values)) (list-of (drop k (valuesOf w values)) s)) (sym (z ∙ q .long))
-          ∙ ap (λ (vs : List Value). values-above (take steps (valuesOf w values)) (list-of vs s)) (drop-values w values steps (omega arith))
+          ∙ lead-list (q .bits) (values-of w values) s (down-values ∙ z ∙ q .long) (omega (arith, q .long, length-values w values))
+          ∙ ap (λ (k : ℕ). values-above (take k (values-of w values)) (list-of (drop k (values-of w values)) s)) (sym (z ∙ q .long))
+          ∙ ap (λ (vs : List Value). values-above (take steps (values-of w values)) (list-of vs s)) (drop-values w values steps (omega arith))
 
-      pub leads-list : (s : Store) → s .pairs ≡ take (2 * used) p → s .ghosts ≡ ghosts → Leads w p values used (led (read-path path) (valuesOf w values) s) w′ p′ b
+      pub leads-list : (s : Store) → s .pairs ≡ take (2 * used) p → s .ghosts ≡ ghosts → Leads w p values used (led (read-path path) (values-of w values) s) w′ p′ b
       leads-list s e f =
           subst (λ (y : Led). Leads w p values used y w′ p′ b) (sym (led-listed s))
           record {
             node-is = ap some (sym (l .node-is s e f));
             values-are =
                 values-split w w′ values steps (omega arith) (λ j h. l .high j h)
-                ∙ ap (λ (vs : List Value). take steps (valuesOf w values) ++ vs) (l .values-are s e f);
+                ∙ ap (λ (vs : List Value). take steps (values-of w values) ++ vs) (l .values-are s e f);
             pairs-are = l .pairs-are s e f;
             ghosts-are = l .ghosts-are s e f;
             pairs-rest = l .pairs-rest;
@@ -223,7 +223,7 @@ fewer-room w p values steps listed used ghosts r l =
       work = r .work;
       pairs = r .pairs;
       few = omega (arith, r .few);
-      ghost = omega (arith, r .ghost, unlisted-up w (values - steps) steps, ap (λ (n : ℕ). unlisted (valuesOf w n)) whole);
+      ghost = omega (arith, r .ghost, unlisted-up w (values - steps) steps, ap (λ (n : ℕ). unlisted (values-of w n)) whole);
       room = r .room;
       lists = r .lists;
     }

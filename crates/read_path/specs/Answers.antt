@@ -31,10 +31,10 @@ pub record Reachable (p : List ℕ) (n h : ℕ) : Type 0 where
   pub here : Within n (node-of h)
   pub there : (k : ℕ) → k < 2 * n → Within n (node-of (at p k))
 
-abbrev pub walkedTo : Walked → Option Node
-walkedTo (walked.Node h) = some (node-of (h .0))
-walkedTo walked.IntoAtom = none
+abbrev pub walked-to : Walked → Option Node
+walked-to (walked.Node h) = some (node-of (h .0))
+walked-to walked.IntoAtom = none
 
 -- The walk of the definition, in any store whose pairs are those in use.
 abbrev pub Walks : List ℕ → ℕ → List Bool → ℕ → Walked → Type 0
-Walks p n bits h r = (s : Store) → s .pairs ≡ take (2 * n) p → walkedTo r ≡ walk s bits (node-of h)
+Walks p n bits h r = (s : Store) → s .pairs ≡ take (2 * n) p → walked-to r ≡ walk s bits (node-of h)

@@ -8,7 +8,7 @@ use lib.ListN.{take, drop}
 use Rattle.words.specs.Words.{at}
 use Rattle.allocator.specs.Handle.{node-of, handle-of, nil}
 use Rattle.spec_reading.specs.Store.{Store, Value, Led, lead}
-use Rattle.read_store.specs.Layout.{VALUES, valuesOf}
+use Rattle.read_store.specs.Layout.{VALUES, values-of}
 use Rattle.read_path.specs.Answers.{Within}
 use Rattle.read_path.specs.declared.path_walk.Walked.{Walked}
 use Rattle.read_path.specs.declared.path_walk.Walked.the-variants as walked
@@ -37,7 +37,7 @@ pub record Walkable (w p : List ℕ) (values listed used ghosts : ℕ) : Type 0 
 -- The node and the counts are those of the definition, and so are the stack and the pairs; the rest is as it was.
 pub record Leads (w p : List ℕ) (values used : ℕ) (l : Led) (w′ p′ : List ℕ) (b : Built) : Type 0 where
   pub node-is : l .node ≡ some (b .node .0)
-  pub values-are : valuesOf w′ values ≡ l .stored .values
+  pub values-are : values-of w′ values ≡ l .stored .values
   pub pairs-are : take (2 * b .pairs) p′ ≡ l .stored .store .pairs
   pub ghosts-are : b .ghosts ≡ l .stored .store .ghosts
   pub pairs-rest : drop (2 * b .pairs) p′ ≡ drop (2 * b .pairs) p

@@ -13,7 +13,7 @@ ghost use Prim.Native.Nat.{_*_, _≤_};
 ghost use lib.ListN.{length, take};
 ghost use Rattle.path.specs.Bytes.{read-path};
 ghost use Rattle.spec_reading.specs.Store.{Store};
-ghost use Rattle.read_store.specs.Layout.{valuesOf};
+ghost use Rattle.read_store.specs.Layout.{values-of};
 ghost use Rattle.read_path.specs.Leads.{led, reached, Walkable, LeadsTo, SameTotal};
 
 // What a path leads to: a node, with the counts then; or that it steps into an atom.
@@ -33,7 +33,7 @@ pub fn traverse_path_with_vec(
     ghosts: usize,
 ) -> Traversed
     requires { ⌜ (length (now path) ≤ 65535) × (Walkable (now work) (now pairs) values listed used ghosts) ⌝ }
-    ensures { λ r. ⌜ ((s : Store) → s .pairs ≡ take (2 * used) (now (pairs .entry)) → s .ghosts ≡ ghosts → LeadsTo (now (work .entry)) (now (pairs .entry)) values used (led (read-path (now (path .entry))) (valuesOf (now (work .entry)) values) s) (now (work .exit)) (now (pairs .exit)) r) ⌝ }
+    ensures { λ r. ⌜ ((s : Store) → s .pairs ≡ take (2 * used) (now (pairs .entry)) → s .ghosts ≡ ghosts → LeadsTo (now (work .entry)) (now (pairs .entry)) values used (led (read-path (now (path .entry))) (values-of (now (work .entry)) values) s) (now (work .exit)) (now (pairs .exit)) r) ⌝ }
     ensures { λ r. ⌜ SameTotal used ghosts r ⌝ }
 {
     let PathBits::Bits(count) = path_bits::path_bits(path) else {

@@ -4,8 +4,9 @@ use read_store::reader_stacks::VALUES;
 ghost use mathlib.Core.Path.{_≡_};
 ghost use Prim.Native.Nat.{_≤_};
 ghost use lib.ListN.{length};
+ghost use Rattle.words.specs.Words.{WORK};
 ghost use Rattle.spec_reading.specs.Store.{Store, list-of};
-ghost use Rattle.read_store.specs.Layout.{valuesOf};
+ghost use Rattle.read_store.specs.Layout.{values-of};
 ghost use Rattle.read_path.specs.Lists.{HaveLists, AddRoom, Adds, ListRoom, Lists};
 
 // A list of the stack, how many pairs and ghost pairs there are then, and how many of the lowest values are known to have a list.
@@ -28,8 +29,8 @@ pub fn listed_among(listed: usize, values: usize) -> usize
 
 // The list that the lowest `count` values have: that of the topmost of them.
 fn list_at(work: &[u32], count: usize) -> NodePtr
-    requires { ⌜ (524288 ≤ length (now work)) × (HaveLists (now work) count 131072) ⌝ }
-    ensures { λ r. ⌜ ((s : Store) → r .0 ≡ list-of (valuesOf (now (work .entry)) count) s .node) ⌝ }
+    requires { ⌜ (WORK ≤ length (now work)) × (HaveLists (now work) count 131072) ⌝ }
+    ensures { λ r. ⌜ ((s : Store) → r .0 ≡ list-of (values-of (now (work .entry)) count) s .node) ⌝ }
 {
     if count == 0 {
         return NodePtr::NIL;

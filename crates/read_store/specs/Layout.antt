@@ -13,35 +13,35 @@ OPS = 0
 abbrev pub VALUES : ℕ
 VALUES = 131072
 
-abbrev pub opOf : ℕ → ParseOp
-opOf zero = SExp
-opOf (suc n) = Cons
+abbrev pub op-of : ℕ → ParseOp
+op-of zero = SExp
+op-of (suc n) = Cons
 
 -- n operations, the last one first
-unfoldable pub opsOf : List ℕ → ℕ → List ParseOp
-opsOf w zero = []
-opsOf w (suc n) = opOf (at w (OPS + n)) ∷ opsOf w n
+unfoldable pub ops-of : List ℕ → ℕ → List ParseOp
+ops-of w zero = []
+ops-of w (suc n) = op-of (at w (OPS + n)) ∷ ops-of w n
 
-abbrev pub listOf : ℕ → Option ℕ
-listOf zero = none
-listOf (suc h) = some h
+abbrev pub cached-list : ℕ → Option ℕ
+cached-list zero = none
+cached-list (suc h) = some h
 
 -- value n, counted from the bottom
-abbrev pub valueAt : List ℕ → ℕ → Value
-valueAt w n = record { node = at w (VALUES + 2 * n); list = listOf (at w (VALUES + 2 * n + 1)) }
+abbrev pub value-at : List ℕ → ℕ → Value
+value-at w n = record { node = at w (VALUES + 2 * n); list = cached-list (at w (VALUES + 2 * n + 1)) }
 
 -- n values, the last one first
-unfoldable pub valuesOf : List ℕ → ℕ → List Value
-valuesOf w zero = []
-valuesOf w (suc n) = valueAt w n ∷ valuesOf w n
+unfoldable pub values-of : List ℕ → ℕ → List Value
+values-of w zero = []
+values-of w (suc n) = value-at w n ∷ values-of w n
 
 -- A value is on top; the operations and the values below are as they were.
 pub record PushedValue (w w′ : List ℕ) (n node : ℕ) : Type 0 where
-  pub values : valuesOf w′ (n + 1) ≡ record { node = node; list = none } ∷ valuesOf w n
-  pub below : (m : ℕ) → m ≤ n → valuesOf w′ m ≡ valuesOf w m
-  pub ops : (m : ℕ) → m ≤ VALUES → opsOf w′ m ≡ opsOf w m
+  pub values : values-of w′ (n + 1) ≡ record { node = node; list = none } ∷ values-of w n
+  pub below : (m : ℕ) → m ≤ n → values-of w′ m ≡ values-of w m
+  pub ops : (m : ℕ) → m ≤ VALUES → ops-of w′ m ≡ ops-of w m
 
 -- To read a tree and to join two are on top; the values are as they were.
 pub record PushedPair (w w′ : List ℕ) (n : ℕ) : Type 0 where
-  pub ops : opsOf w′ (n + 2) ≡ SExp ∷ Cons ∷ opsOf w n
-  pub values : (m : ℕ) → valuesOf w′ m ≡ valuesOf w m
+  pub ops : ops-of w′ (n + 2) ≡ SExp ∷ Cons ∷ ops-of w n
+  pub values : (m : ℕ) → values-of w′ m ≡ values-of w m

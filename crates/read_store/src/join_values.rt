@@ -4,11 +4,12 @@ use crate::reader_stacks::VALUES;
 use allocator::NodePtr;
 ghost use Prim.Native.Nat.{_+_, _*_, _^_, _≤_, _<_};
 ghost use lib.ListN.{length};
+ghost use Rattle.words.specs.Words.{WORK};
 ghost use Rattle.read_store.specs.Joined.{Joined};
 
 // The two topmost of `values` values become the pair of the second and the first, after the `used` pairs that are there.
 pub fn join(work: &mut [u32], pairs: &mut [u32], values: usize, used: usize)
-    requires { ⌜ (524288 ≤ length (now work)) × (2 ≤ values) × (values ≤ 131072) × (2 * used + 2 ≤ length (now pairs)) × (used < 2 ^ 26) ⌝ }
+    requires { ⌜ (WORK ≤ length (now work)) × (2 ≤ values) × (values ≤ 131072) × (2 * used + 2 ≤ length (now pairs)) × (used < 2 ^ 26) ⌝ }
     ensures { λ _. ⌜ Joined (now (work .entry)) (now (pairs .entry)) values used (now (work .exit)) (now (pairs .exit)) ⌝ }
 {
     let right = NodePtr(work[VALUES + 2 * (values - 1)]);

@@ -6,6 +6,7 @@ use mathlib.Core.Bool.{true, _&&_}
 use mathlib.Core.List.{List}
 use lib.Dec.{leb}
 use lib.ListN.{length}
+use Rattle.words.specs.Words.{WORK}
 use Rattle.spec_reading.specs.Call as read
 use Rattle.read_answer.specs.Answer.{slices as store-slices}
 use Rattle.spec_session.specs.Demand3.{ReadAs}
@@ -17,7 +18,7 @@ use Rattle.round_trip.specs.RoundTrip.{the-session, the-reading, RoundTr
 -- Question 1 asks only for lengths.
 same-enough : (w w′ p a b : List ℕ) → length w′ ≡ length w → read.long-enough (store-slices w p a b) ≡ true → read.long-enough (store-slices w′ p a b) ≡ true
 same-enough w w′ p a b e h =
-    ap (λ (n : ℕ). leb 524288 n && (leb 262144 (length p) && (leb 131072 (length a) && leb 65536 (length b)))) e ∙ h
+    ap (λ (n : ℕ). leb WORK n && (leb 262144 (length p) && (leb 131072 (length a) && leb 65536 (length b)))) e ∙ h
 
 -- The session gave t, and the reading of t's bytes with t's work gave r.
 module _ (input : List ℕ) (lent : Slices Checkpoint) (p a b : List ℕ) (t : Result Checkpoint) (ran : t ≡ the-session input lent) (r : read.Result)

@@ -9,7 +9,7 @@ use lib.ListN.{length, set, take, drop, length-set, drop-of-length-le}
 use lib.Seq.{drop-cons, getD-set-same, drop-set-lt, take-set-lt, length-take-le, drop-nil, take-nil}
 use lib.Dec.{eqb}
 use borrow.Author.Tests.{eqb-true, eqb-false}
-use Rattle.spec_search.specs.Search.{bitsOf}
+use Rattle.spec_search.specs.Search.{trail-bits}
 use Rattle.path.specs.Bytes.{value, octets, path-bytes, odd}
 use Rattle.words.specs.Words.{at}
 use Rattle.work_layout.specs.Layout.{PREVS, NODES, LENS}
@@ -142,7 +142,7 @@ writing-more w x₀ a₀ k out out′ x a j v x′ a′ hk m h r =
       rest = drop-set-lt k out′ (j - 1) v (omega (arith, m .within)) ∙ m .rest;
     }
 
-bits-of : (x : ℕ) (w : List ℕ) (a v : ℕ) → bitsOf (trail x (node-bits w a) v) ≡ read-bits w x a
+bits-of : (x : ℕ) (w : List ℕ) (a v : ℕ) → trail-bits (trail x (node-bits w a) v) ≡ read-bits w x a
 unfolding read-bits
 bits-of zero w a v = refl
 bits-of (suc x) w a v = refl

@@ -1,6 +1,7 @@
 // The bits of a path, from the latest on.
 ghost use Prim.Native.Nat.{_≤_};
 ghost use lib.ListN.{length};
+ghost use Rattle.words.specs.Words.{WORK};
 ghost use Rattle.search_list.specs.State.{Chain};
 ghost use Rattle.search_bytes.specs.Bits.{Read, one-more, four-more, eight-more};
 
@@ -13,7 +14,7 @@ pub struct Bits {
 
 // The latest bit, 0 where there is none.
 pub fn next_bit(work: &[u32], x: usize, a: usize) -> Bits
-    requires { ⌜ (524288 ≤ length (now work)) × (Chain (now work) a) ⌝ }
+    requires { ⌜ (WORK ≤ length (now work)) × (Chain (now work) a) ⌝ }
     ensures { λ r. ⌜ Read (now (work .entry)) one-more 2 x a (r .v) (r .x) (r .a) ⌝ }
 {
     if x > 1 {
@@ -38,7 +39,7 @@ pub fn next_bit(work: &[u32], x: usize, a: usize) -> Bits
 
 // The latest four bits, the latest one lowest.
 pub fn next_four(work: &[u32], x: usize, a: usize) -> Bits
-    requires { ⌜ (524288 ≤ length (now work)) × (Chain (now work) a) ⌝ }
+    requires { ⌜ (WORK ≤ length (now work)) × (Chain (now work) a) ⌝ }
     ensures { λ r. ⌜ Read (now (work .entry)) four-more 16 x a (r .v) (r .x) (r .a) ⌝ }
 {
     let p = next_bit(work, x, a);
@@ -54,7 +55,7 @@ pub fn next_four(work: &[u32], x: usize, a: usize) -> Bits
 
 // The latest eight bits.
 pub fn next_byte(work: &[u32], x: usize, a: usize) -> Bits
-    requires { ⌜ (524288 ≤ length (now work)) × (Chain (now work) a) ⌝ }
+    requires { ⌜ (WORK ≤ length (now work)) × (Chain (now work) a) ⌝ }
     ensures { λ r. ⌜ Read (now (work .entry)) eight-more 256 x a (r .v) (r .x) (r .a) ⌝ }
 {
     let p = next_four(work, x, a);

@@ -4,12 +4,13 @@ mod bits;
 ghost use mathlib.Core.Path.{_≡_};
 ghost use Prim.Native.Nat.{_≤_};
 ghost use lib.ListN.{length};
+ghost use Rattle.words.specs.Words.{WORK};
 ghost use Rattle.search_list.specs.State.{Readable};
 ghost use Rattle.search_bytes.specs.Bits.{bytes-at, Written};
 
 // The number of bytes of the path at a slot.
 pub fn path_length(work: &[u32], slot: usize) -> usize
-    requires { ⌜ (524288 ≤ length (now work)) × (Readable (now work) slot) ⌝ }
+    requires { ⌜ (WORK ≤ length (now work)) × (Readable (now work) slot) ⌝ }
     ensures { λ r. ⌜ (r ≡ bytes-at (now (work .entry)) slot) × (r ≤ 641) ⌝ }
 {
     (search_list::size_of(work, slot) + 7) / 8
@@ -17,7 +18,7 @@ pub fn path_length(work: &[u32], slot: usize) -> usize
 
 // The path at a slot, right-aligned in bytes, at the front of `out`.
 pub fn path_bytes(work: &[u32], slot: usize, out: &mut [u8])
-    requires { ⌜ (524288 ≤ length (now work)) × (Readable (now work) slot) × (bytes-at (now work) slot ≤ length (now out)) ⌝ }
+    requires { ⌜ (WORK ≤ length (now work)) × (Readable (now work) slot) × (bytes-at (now work) slot ≤ length (now out)) ⌝ }
     ensures { λ _. ⌜ Written (now (work .entry)) slot (now (out .entry)) (now (out .exit)) ⌝ }
 {
     let k = path_length(work, slot);

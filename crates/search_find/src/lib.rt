@@ -8,19 +8,16 @@ use work_layout::EntryIndex;
 ghost use mathlib.Core.Path.{_≡_};
 ghost use Prim.Native.Nat.{_≤_, _<_};
 ghost use lib.ListN.{length};
-ghost use Rattle.words.specs.Words.{at};
+ghost use Rattle.words.specs.Words.{at, WORK};
 ghost use Rattle.work_layout.specs.Layout.{USED, ENTRIES};
 ghost use Rattle.work_layout.specs.Rows.{all-counts};
 ghost use Rattle.cache_stack.specs.Contracts.{Stacked};
 ghost use Rattle.cache_nodes.specs.Meaning.{Whole};
 ghost use Rattle.search_find.specs.Contracts.{LengthOf, FindsIn};
 
-// A reference to anything shorter takes no fewer bytes.
-const MIN_SERIALIZED_LENGTH: u64 = 4;
-
 // How many entries there are.
 fn used_of(work: &[u32]) -> u32
-    requires { ⌜ 524288 ≤ length (now work) ⌝ }
+    requires { ⌜ WORK ≤ length (now work) ⌝ }
     ensures { λ r. ⌜ r ≡ at (now (work .entry)) USED ⌝ }
 {
     work[work_layout::USED]
@@ -49,7 +46,7 @@ pub fn find(work: &mut [u32], node: NodePtr, e: EntryIndex, depth: usize) -> Pat
         return Path::NoPath;
     }
     let len = length_at(work, e);
-    if len < MIN_SERIALIZED_LENGTH {
+    if len < cache_stack::MIN_SERIALIZED_LENGTH {
         return Path::NoPath;
     }
     find_path::find_path(work, e, len, depth)

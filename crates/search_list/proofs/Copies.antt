@@ -10,7 +10,7 @@ use lib.ListN.{length, set, drop, length-append}
 use native.Mathlib.Decide.{ℕ-discrete}
 use Rattle.spec_search.specs.Search.{Trail, member, upward, sideward, distance}
 use Rattle.words.specs.Choice.{cond-true, cond-false}
-use Rattle.words.specs.Words.{at}
+use Rattle.words.specs.Words.{at, WORK}
 use Rattle.work_layout.specs.Layout.{PARENTS, COUNTS, PREVS, NODES, LENS, PATHS, COPIES, DEPTH, ENTRIES, TOPS}
 use Rattle.search_list.specs.Steps.{from-top, Links, Nodes, PathsOK, Stored, Relisted, Marked, Visited, FirstUnseen}
 use Rattle.search_list.specs.State.{seen-of, node-bits, trail, trails-of, node-at, place-at, seen-at, count-at}
@@ -23,7 +23,7 @@ use Rattle.search_list.proofs.Upward.{links-cons, links-end, length-upw
 
 -- ---- a node more
 
-pub node-added : (w y : List ℕ) (c m a v l : ℕ) → 524288 ≤ length w → Nodes w m → m < 1024 → node-at w c ≤ m → place-at w c < 2 * ENTRIES
+pub node-added : (w y : List ℕ) (c m a v l : ℕ) → WORK ≤ length w → Nodes w m → m < 1024 → node-at w c ≤ m → place-at w c < 2 * ENTRIES
     → a ≡ node-at w c → v ≡ place-at w c → l ≡ at w (LENS + a)
     → Marked (set (set (set w (PREVS + (m + 1)) a) (NODES + (m + 1)) v) (LENS + (m + 1)) (l + 1)) y (v / 2) → Visited w y c m
 node-added w y c m a v l long ok h hn hp ea ev el mk =

@@ -9,7 +9,7 @@ use native.Mathlib.Omega.{arith}
 use lib.ListN.{length, getD, set, drop, length-append, List·getD-append, length-set, length-drop}
 use Rattle.spec_search.specs.Search.{Trail, upward, sideward, distance}
 use Rattle.spec_search.specs.Flat.{swap-remove}
-use Rattle.words.specs.Words.{at}
+use Rattle.words.specs.Words.{at, WORK}
 use Rattle.work_layout.specs.Layout.{PARENTS, COUNTS, STACK, SEEN, PATHS, DEPTH, ENTRIES, TOPS}
 use Rattle.search_list.specs.State.{seen-of, node-bits, trail, trail-of, trails-of, count-at}
 use Rattle.search_list.specs.Steps.{Links, Nodes, PathsOK, Stored, Relisted}
@@ -137,7 +137,7 @@ module _ (w x y : List ℕ) (c n m e d n₂ : ℕ) (links : Links w) (tops : Top
     pub off-one : n₂ - 1 + 1 ≡ n₂
     off-one = omega (arith, off-count .0)
 
-    pub off-asks : (524288 ≤ length x) × Nodes x m × PathsOK x m (n₂ - 1 + 1) × (c < n₂ - 1 + 1) × (n₂ - 1 < 3333)
+    pub off-asks : (WORK ≤ length x) × Nodes x m × PathsOK x m (n₂ - 1 + 1) × (c < n₂ - 1 + 1) × (n₂ - 1 < 3333)
     off-asks = let a = off-count in
         (omega (arith, links .long), re-nodes w x m (r .low) lx nodes, rw off-one (r .paths), omega arith, omega arith)
 

@@ -8,7 +8,7 @@ use native.Mathlib.Omega.{arith}
 use borrow.Rule.Slice.PartMut.{putMid}
 use lib.ListN.{length, getD, set, replicate, getD-replicate}
 use lib.Seq.{getD-set-same, getD-set-other}
-use Rattle.words.specs.Words.{at, part}
+use Rattle.words.specs.Words.{at, part, WORK}
 use Rattle.words.proofs.Words.{part-length, part-at, put-length, put-part, put-at, put-other}
 use Rattle.path.specs.Bytes.{odd}
 use Rattle.bitset.specs.BitSet.{bits-of}
@@ -17,19 +17,19 @@ use Rattle.work_layout.specs.Layout.{SEEN, ENTRIES}
 use Rattle.search_list.specs.State.{seen-at}
 use Rattle.search_list.specs.Steps.{Marked, Cleared}
 
-pub seen-length : (w : List ℕ) → 524288 ≤ length w → length (part w SEEN 96) ≡ 96
+pub seen-length : (w : List ℕ) → WORK ≤ length w → length (part w SEEN 96) ≡ 96
 seen-length w long = part-length w SEEN 96 (omega arith)
 
-pub seen-is : (w : List ℕ) → 524288 ≤ length w → (e : ℕ) → e < ENTRIES → getD (bits-of (part w SEEN 96)) e false ≡ seen-at w e
+pub seen-is : (w : List ℕ) → WORK ≤ length w → (e : ℕ) → e < ENTRIES → getD (bits-of (part w SEEN 96)) e false ≡ seen-at w e
 seen-is w long e h =
     bits-of-at (part w SEEN 96) e (omega (arith, seen-length w long)) ∙ ap (λ (x : ℕ). odd (x / 2 ^ (e % 32))) (part-at w SEEN 96 (e / 32) (omega arith))
 
 -- The words came back as r.
-module _ (w r : List ℕ) (long : 524288 ≤ length w) (len : length r ≡ 96) where
+module _ (w r : List ℕ) (long : WORK ≤ length w) (len : length r ≡ 96) where
   back : List ℕ
   back = putMid SEEN 96 w r
 
-  long-back : 524288 ≤ length back
+  long-back : WORK ≤ length back
   unfolding back
   long-back = omega (arith, put-length SEEN 96 w r (omega arith) len)
 

@@ -10,14 +10,14 @@ use lib.ListN.{length, getD, set}
 use Rattle.spec_search.specs.Search.{Trail}
 use Rattle.spec_search.specs.Lists.{size}
 use Rattle.spec_search.specs.Flat.{swap-remove, last, init, last-seam, init-seam}
-use Rattle.words.specs.Words.{at, tabulate}
+use Rattle.words.specs.Words.{at, tabulate, WORK}
 use Rattle.work_layout.specs.Layout.{PATHS, DEPTH, ENTRIES, LENS}
 use Rattle.search_list.specs.State.{node-bits, trail, trues, trail-of, trails-of, path-at, Readable, node-at, place-at, extra-at}
 use Rattle.search_list.specs.Steps.{Nodes, PathOK, PathsOK, Stored, Relisted}
 use Rattle.words.proofs.Words.{Store, miss, hits, length-tabulate, getD-tabulate, tabulate-set, tabulate-more}
 use Rattle.search_list.proofs.Nodes.{low-bits}
 
-pub stored : (w : List ℕ) (i a v x : ℕ) → 524288 ≤ length w → i < 3333
+pub stored : (w : List ℕ) (i a v x : ℕ) → WORK ≤ length w → i < 3333
     → Stored w (set (set (set w (PATHS + 3 * i) a) (PATHS + 3 * i + 1) v) (PATHS + 3 * i + 2) x) i a v x
 stored w i a v x long h =
     let ss : List Store =

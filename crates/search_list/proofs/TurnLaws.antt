@@ -9,7 +9,7 @@ use native.Mathlib.Omega.{arith}
 use lib.ListN.{length, getD, set, drop, length-append, length-set, length-drop}
 use lib.Dec.{ltb}
 use borrow.Author.Tests.{lt-ltb, le-ltb}
-use Rattle.spec_search.specs.Search.{Trail, bitsOf, Parents, result, stays, dropped, capped, most-visits, member, upward, sideward, moves, visit, distance, step}
+use Rattle.spec_search.specs.Search.{Trail, trail-bits, Parents, result, stays, dropped, capped, most-visits, member, upward, sideward, moves, visit, distance, step}
 use Rattle.words.specs.Choice.{cond-true, cond-false}
 use Rattle.spec_search.specs.Lists.{size}
 use Rattle.spec_search.specs.Flat.{swap-remove, init, last}
@@ -73,9 +73,9 @@ module _ (w : List ℕ) (d c n m : ℕ) (ok : Working w d n m) (hc : c < n) wher
       go zero h = omega arith
       go (suc x) h = omega (arith, h (omega arith))
 
-  pub turned-result : step (parents-of-all w) (stack-of w d) (seen-of w m) (trail-of w c) ≡ result (bitsOf (trail-of w c)) → Steps w w d c n m (Result c)
+  pub turned-result : step (parents-of-all w) (stack-of w d) (seen-of w m) (trail-of w c) ≡ result (trail-bits (trail-of w c)) → Steps w w d c n m (Result c)
   turned-result s L mid l = record {
-    same = is-result (parents-of-all w) (stack-of w d) L (trails-of w n) c (seen-of w m) (trail-of w c) in-list here mid (bitsOf (trail-of w c)) l s;
+    same = is-result (parents-of-all w) (stack-of w d) L (trails-of w n) c (seen-of w m) (trail-of w c) in-list here mid (trail-bits (trail-of w c)) l s;
     fine = readable;
     kept = kept-none w;
   }
@@ -155,7 +155,7 @@ module _ (w y : List ℕ) (d n n′ m : ℕ) (list : List Trail) (ok : Working w
 -- ---- on the stack
 
 module _ (P : Parents) (S seen : List ℕ) (B : List Bool) where
-  at-top : (x v : ℕ) → 0 < x → v ≡ 0 → step P S seen (trail x B v) ≡ result (bitsOf (trail x B v))
+  at-top : (x v : ℕ) → 0 < x → v ≡ 0 → step P S seen (trail x B v) ≡ result (trail-bits (trail x B v))
   at-top zero v h z = absurd (omega arith)
   at-top (suc x) zero h z = refl
   at-top (suc x) (suc v) h z = absurd (omega arith)

@@ -10,9 +10,9 @@ use lib.ListN.{length, getD, drop, length-map, drop-of-length-le}
 use lib.Seq.{drop-cons}
 use lib.Dec.{ltb}
 use borrow.Author.Tests.{lt-ltb, ltb-true}
-use Rattle.spec_search.specs.Search.{Trail, atEntry, member, upward}
+use Rattle.spec_search.specs.Search.{Trail, at-entry, member, upward}
 use Rattle.words.specs.Choice.{cond-true, cond-false, by-cond}
-use Rattle.words.specs.Words.{at, part}
+use Rattle.words.specs.Words.{at, part, WORK}
 use Rattle.work_layout.specs.Layout.{PARENTS, COUNTS, SEEN, ENTRIES}
 use Rattle.work_layout.specs.Rows.{parent-of, parents-of}
 use Rattle.search_list.specs.State.{parents-of-all, count-at}
@@ -54,7 +54,7 @@ module _ (w : List ℕ) (e : ℕ) (ok : Links w) (h : e < ENTRIES) where
     up-seen i l t = ap (upward seen bits) (links-cons i l) ∙ cond-true _ _ _ t
 
     pub up-new : (i : ℕ) → i < count-at w e → member (at w (PARENTS + e * 100 + i) / 2) seen ≡ false
-        → upward seen bits (drop i (parents-of w e)) ≡ atEntry bits (at w (PARENTS + e * 100 + i) / 2) (odd (at w (PARENTS + e * 100 + i))) ∷ upward seen bits
+        → upward seen bits (drop i (parents-of w e)) ≡ at-entry bits (at w (PARENTS + e * 100 + i) / 2) (odd (at w (PARENTS + e * 100 + i))) ∷ upward seen bits
         (drop (i + 1) (parents-of w e))
     up-new i l t = ap (upward seen bits) (links-cons i l) ∙ cond-false _ _ _ t
 
@@ -71,7 +71,7 @@ module _ (w : List ℕ) (e : ℕ) (ok : Links w) (h : e < ENTRIES) where
 pub length-upward : (seen : List ℕ) (bits : List Bool) (qs : List (ℕ × Bool)) → length (upward seen bits qs) ≤ length qs
 length-upward seen bits [] = omega arith
 length-upward seen bits (q ∷ qs) =
-    by-cond (λ (x : List Trail). length x ≤ suc (length qs)) (member (q .0) seen) (upward seen bits qs) (atEntry bits (q .0) (q .1) ∷ upward seen bits qs)
+    by-cond (λ (x : List Trail). length x ≤ suc (length qs)) (member (q .0) seen) (upward seen bits qs) (at-entry bits (q .0) (q .1) ∷ upward seen bits qs)
     (λ c. omega (arith, length-upward seen bits qs)) (λ c. omega (arith, length-upward seen bits qs))
 
 -- The words below the search's own are the same.
@@ -80,7 +80,7 @@ module _ (w w′ : List ℕ) (ok : Links w) (low : (k : ℕ) → k < SEEN → at
   unfolding parents-of
   low-links-of e h =
       let b : at w (COUNTS + e) ≤ 100 = ok .counts e h in
-      let l : 524288 ≤ length w = ok .long in
+      let l : WORK ≤ length w = ok .long in
       ap (λ (k : ℕ). map parent-of (part w′ (PARENTS + e * 100) k)) (low (COUNTS + e) (omega arith))
       ∙ ap (map parent-of) (part-same w w′ (PARENTS + e * 100) (at w (COUNTS + e)) (omega arith) len (λ i k. low (PARENTS + e * 100 + i) (omega arith)))
 
@@ -93,7 +93,7 @@ module _ (w w′ : List ℕ) (ok : Links w) (low : (k : ℕ) → k < SEEN → at
       go e false q = cond-false _ _ _ q ∙ sym (cond-false _ _ _ q)
 
   pub low-links : Links w′
-  low-links = let l : 524288 ≤ length w = ok .long in record {
+  low-links = let l : WORK ≤ length w = ok .long in record {
     long = omega arith;
     counts = λ x h. rw (low (COUNTS + x) (omega arith)) (ok .counts x h);
     links = λ x i h q.

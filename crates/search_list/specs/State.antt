@@ -8,7 +8,7 @@ use lib.Dec.{ltb}
 use lib.ListN.{length}
 use Rattle.words.specs.Words.{at, tabulate}
 use Rattle.path.specs.Bytes.{odd}
-use Rattle.spec_search.specs.Search.{Trail, atEntry, onStack, bitsOf, Parents}
+use Rattle.spec_search.specs.Search.{Trail, at-entry, at-stack, trail-bits, Parents}
 use Rattle.work_layout.specs.Layout.{SEEN, PREVS, NODES, LENS, PATHS, COUNTS, ENTRIES, DEPTH}
 use Rattle.work_layout.specs.Rows.{parents-of}
 
@@ -64,15 +64,15 @@ trues (suc x) bs = true ∷ trues x bs
 
 -- A path: at an entry where x is 0; else on the stack, with a 0 and then x - 1 times 1 after the node's bits.
 abbrev pub trail : (x : ℕ) → (bits : List Bool) → (v : ℕ) → Trail
-trail zero bits v = atEntry bits (v / 2) (odd v)
-trail (suc x) bits v = onStack (trues x (false ∷ bits)) v
+trail zero bits v = at-entry bits (v / 2) (odd v)
+trail (suc x) bits v = at-stack (trues x (false ∷ bits)) v
 
 unfoldable pub trail-of : List ℕ → ℕ → Trail
 trail-of w i = trail (extra-at w i) (node-bits w (node-at w i)) (place-at w i)
 
 -- The bits of path i.
 abbrev pub path-at : List ℕ → ℕ → List Bool
-path-at w i = bitsOf (trail-of w i)
+path-at w i = trail-bits (trail-of w i)
 
 -- The working list: the first n paths.
 unfoldable pub trails-of : List ℕ → ℕ → List Trail

@@ -6,7 +6,7 @@ use mathlib.Core.List.{List, _∷_}
 use mathlib.Core.Option.{Option, none, some}
 use Prim.Native.Nat.{ℕ, zero, suc, _+_, _*_, _/_, _-_, _≤_, _<_}
 use lib.ListN.{length, drop}
-use Rattle.words.specs.Words.{at}
+use Rattle.words.specs.Words.{at, WORK}
 use Rattle.path.specs.Bytes.{odd}
 use Rattle.spec_search.specs.Search.{Trail, member, distance, upward, sideward, Passed, found, gone}
 use Rattle.spec_search.specs.Lists.{size}
@@ -21,7 +21,7 @@ use Rattle.search_list.specs.Cursor.{goes, Mid, ahead}
 
 -- The parents of the entries are entries, at most 100 of each. Follows from the cache's soundness.
 pub record Links (w : List ℕ) : Type 0 where
-  pub long : 524288 ≤ length w
+  pub long : WORK ≤ length w
   pub counts : (x : ℕ) → x < ENTRIES → at w (COUNTS + x) ≤ 100
   pub links : (x i : ℕ) → x < ENTRIES → i < at w (COUNTS + x) → at w (PARENTS + x * 100 + i) < 2 * ENTRIES
 

@@ -9,7 +9,7 @@ use work_layout::SEEN;
 ghost use mathlib.Core.Path.{_≡_};
 ghost use Prim.Native.Nat.{_+_, _*_, _≤_, _<_};
 ghost use lib.ListN.{length};
-ghost use Rattle.words.specs.Words.{at};
+ghost use Rattle.words.specs.Words.{at, WORK};
 ghost use Rattle.work_layout.specs.Layout.{ENTRIES, COUNTS, TOPS, PARENTS, LENS};
 ghost use Rattle.search_list.specs.State.{node-at, place-at, extra-at, seen-at};
 ghost use Rattle.search_list.specs.Steps.{Stored, Marked};
@@ -23,7 +23,7 @@ pub enum Turned {
 
 // How many parents entry e has.
 pub fn count_of(work: &[u32], e: usize) -> usize
-    requires { ⌜ (524288 ≤ length (now work)) × (e < ENTRIES) ⌝ }
+    requires { ⌜ (WORK ≤ length (now work)) × (e < ENTRIES) ⌝ }
     ensures { λ r. ⌜ r ≡ at (now (work .entry)) (COUNTS + e) ⌝ }
 {
     wide(work[work_layout::COUNTS + e])
@@ -31,7 +31,7 @@ pub fn count_of(work: &[u32], e: usize) -> usize
 
 // Parent i of entry e, doubled, and its position.
 pub fn parent_at(work: &[u32], e: usize, i: usize) -> u32
-    requires { ⌜ (524288 ≤ length (now work)) × (e < ENTRIES) × (i < 100) ⌝ }
+    requires { ⌜ (WORK ≤ length (now work)) × (e < ENTRIES) × (i < 100) ⌝ }
     ensures { λ r. ⌜ r ≡ at (now (work .entry)) (PARENTS + e * 100 + i) ⌝ }
 {
     work[work_layout::PARENTS + e * 100 + i]
@@ -39,7 +39,7 @@ pub fn parent_at(work: &[u32], e: usize, i: usize) -> u32
 
 // One more than the highest place of entry e on the stack, or 0.
 pub fn top_of(work: &[u32], e: usize) -> usize
-    requires { ⌜ (524288 ≤ length (now work)) × (e < ENTRIES) ⌝ }
+    requires { ⌜ (WORK ≤ length (now work)) × (e < ENTRIES) ⌝ }
     ensures { λ r. ⌜ r ≡ at (now (work .entry)) (TOPS + e) ⌝ }
 {
     wide(work[work_layout::TOPS + e])
@@ -47,7 +47,7 @@ pub fn top_of(work: &[u32], e: usize) -> usize
 
 // The node whose bits path i has.
 pub fn node_of(work: &[u32], i: usize) -> u32
-    requires { ⌜ (524288 ≤ length (now work)) × (i < 3333) ⌝ }
+    requires { ⌜ (WORK ≤ length (now work)) × (i < 3333) ⌝ }
     ensures { λ r. ⌜ r ≡ node-at (now (work .entry)) i ⌝ }
 {
     work[work_layout::PATHS + 3 * i]
@@ -55,7 +55,7 @@ pub fn node_of(work: &[u32], i: usize) -> u32
 
 // Where path i is: at an entry, doubled, and the position bit that it takes there; on the stack, the distance from the top.
 pub fn place_of(work: &[u32], i: usize) -> u32
-    requires { ⌜ (524288 ≤ length (now work)) × (i < 3333) ⌝ }
+    requires { ⌜ (WORK ≤ length (now work)) × (i < 3333) ⌝ }
     ensures { λ r. ⌜ r ≡ place-at (now (work .entry)) i ⌝ }
 {
     work[work_layout::PATHS + 3 * i + 1]
@@ -63,7 +63,7 @@ pub fn place_of(work: &[u32], i: usize) -> u32
 
 // 0 where path i is at an entry; on the stack, how many bits it has after its node's: a 0, and then each a 1.
 pub fn extra_of(work: &[u32], i: usize) -> u32
-    requires { ⌜ (524288 ≤ length (now work)) × (i < 3333) ⌝ }
+    requires { ⌜ (WORK ≤ length (now work)) × (i < 3333) ⌝ }
     ensures { λ r. ⌜ r ≡ extra-at (now (work .entry)) i ⌝ }
 {
     work[work_layout::PATHS + 3 * i + 2]
@@ -71,7 +71,7 @@ pub fn extra_of(work: &[u32], i: usize) -> u32
 
 // How many bits node k has.
 pub fn len_of(work: &[u32], k: usize) -> usize
-    requires { ⌜ (524288 ≤ length (now work)) × (k ≤ 1024) ⌝ }
+    requires { ⌜ (WORK ≤ length (now work)) × (k ≤ 1024) ⌝ }
     ensures { λ r. ⌜ r ≡ at (now (work .entry)) (LENS + k) ⌝ }
 {
     wide(work[work_layout::LENS + k])
@@ -79,7 +79,7 @@ pub fn len_of(work: &[u32], k: usize) -> usize
 
 // How many bits path i has.
 pub fn size_of(work: &[u32], i: usize) -> usize
-    requires { ⌜ (524288 ≤ length (now work)) × (i < 3333) × (node-at (now work) i ≤ 1024) ⌝ }
+    requires { ⌜ (WORK ≤ length (now work)) × (i < 3333) × (node-at (now work) i ≤ 1024) ⌝ }
     ensures { λ r. ⌜ r ≡ at (now (work .entry)) (LENS + node-at (now (work .entry)) i) + extra-at (now (work .entry)) i ⌝ }
 {
     let a = wide(node_of(work, i));
@@ -90,7 +90,7 @@ pub fn size_of(work: &[u32], i: usize) -> usize
 
 // Whether entry e is seen.
 pub fn is_seen(work: &[u32], e: usize) -> bool
-    requires { ⌜ (524288 ≤ length (now work)) × (e < ENTRIES) ⌝ }
+    requires { ⌜ (WORK ≤ length (now work)) × (e < ENTRIES) ⌝ }
     ensures { λ b. ⌜ b ≡ seen-at (now (work .entry)) e ⌝ }
 {
     // A local: with a literal there the proof takes seconds.
@@ -100,7 +100,7 @@ pub fn is_seen(work: &[u32], e: usize) -> bool
 
 // Entry e is seen.
 pub fn mark(work: &mut [u32], e: usize)
-    requires { ⌜ (524288 ≤ length (now work)) × (e < ENTRIES) ⌝ }
+    requires { ⌜ (WORK ≤ length (now work)) × (e < ENTRIES) ⌝ }
     ensures { λ _. ⌜ Marked (now (work .entry)) (now (work .exit)) e ⌝ }
 {
     bitset::visit(&mut work[SEEN..PREVS], e);
@@ -108,7 +108,7 @@ pub fn mark(work: &mut [u32], e: usize)
 
 // Path i has the bits of node a, is at place v, and has x bits after the node's.
 pub fn put_path(work: &mut [u32], i: usize, a: u32, v: u32, x: u32)
-    requires { ⌜ (524288 ≤ length (now work)) × (i < 3333) ⌝ }
+    requires { ⌜ (WORK ≤ length (now work)) × (i < 3333) ⌝ }
     ensures { λ _. ⌜ Stored (now (work .entry)) (now (work .exit)) i a v x ⌝ }
 {
     work[work_layout::PATHS + 3 * i] = a;

@@ -3,7 +3,7 @@
 ghost use mathlib.Core.List.{_++_, _∷_, []};
 ghost use Prim.Native.Nat.{_+_, _-_, _*_, _≤_, _<_};
 ghost use lib.ListN.{length};
-ghost use Rattle.words.specs.Words.{at};
+ghost use Rattle.words.specs.Words.{at, WORK};
 ghost use Rattle.work_layout.specs.Layout.{ENTRIES, PARENTS};
 ghost use Rattle.work_layout.specs.Rows.{parent-of, Tops};
 ghost use Rattle.spec_search.specs.Search.{upward};
@@ -12,7 +12,7 @@ ghost use Rattle.search_list.specs.State.{seen-of, node-bits, trails-of,
 
 // A visit: node m + 1 has path c's bits and its position bit, and its entry is seen.
 pub fn add_node(work: &mut [u32], c: usize, m: usize)
-    requires { ⌜ (524288 ≤ length (now work)) × (Nodes (now work) m) × (m < 1024) × (c < 3333) ⌝ }
+    requires { ⌜ (WORK ≤ length (now work)) × (Nodes (now work) m) × (m < 1024) × (c < 3333) ⌝ }
     requires { ⌜ (node-at (now work) c ≤ m) × (place-at (now work) c < 2 * ENTRIES) ⌝ }
     ensures { λ _. ⌜ Visited (now (work .entry)) (now (work .exit)) c m ⌝ }
 {

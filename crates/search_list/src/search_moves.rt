@@ -4,7 +4,7 @@ use crate::search_copies;
 ghost use mathlib.Core.List.{_++_};
 ghost use Prim.Native.Nat.{_+_, _-_, _*_, _≤_, _<_};
 ghost use lib.ListN.{length, set};
-ghost use Rattle.words.specs.Words.{at};
+ghost use Rattle.words.specs.Words.{at, WORK};
 ghost use Rattle.work_layout.specs.Layout.{ENTRIES, PARENTS};
 ghost use Rattle.work_layout.specs.Rows.{Tops};
 ghost use Rattle.spec_search.specs.Flat.{swap-remove};
@@ -29,7 +29,7 @@ pub fn first_unseen(work: &[u32], e: usize) -> usize
 
 // The last path, n, takes slot c.
 pub fn drop_path(work: &mut [u32], c: usize, n: usize, m: usize)
-    requires { ⌜ (524288 ≤ length (now work)) × (Nodes (now work) m) × (PathsOK (now work) m (n + 1)) × (c < n + 1) × (n < 3333) ⌝ }
+    requires { ⌜ (WORK ≤ length (now work)) × (Nodes (now work) m) × (PathsOK (now work) m (n + 1)) × (c < n + 1) × (n < 3333) ⌝ }
     ensures { λ _. ⌜ Relisted (now (work .entry)) (now (work .exit)) m n (swap-remove (trails-of (now (work .entry)) (n + 1)) c (trail-of (now (work .entry)) c)) ⌝ }
 {
     let a = crate::node_of(work, n);

@@ -12,11 +12,11 @@ use native.Mathlib.Numerals.{add-one}
 use native.Mathlib.Decide.{decLe}
 use lib.ListN.{length, set}
 use lib.Seq.{getD-set-same, getD-set-other}
-use Rattle.spec_search.specs.Search.{Trail, atEntry, Parents, Passed, then, passes, search}
+use Rattle.spec_search.specs.Search.{Trail, at-entry, Parents, Passed, then, passes, search}
 use Rattle.words.specs.Lists.{All}
 use Rattle.spec_search.specs.Lists.{AtLeast}
 use Rattle.spec_search.specs.Enough.{passes-step, search-enough}
-use Rattle.words.specs.Words.{at, tabulate}
+use Rattle.words.specs.Words.{at, tabulate, WORK}
 use Rattle.search_list.specs.Cursor.{goes, Mid}
 use Rattle.search_list.proofs.CursorLaws.{at-end, all-longer}
 use Rattle.search_list.specs.declared.Turned.the-variants.{On, Result, Capped}
@@ -84,7 +84,7 @@ module _ (w₀ w : List ℕ) (d L n₀ m₀ c n m : ℕ) (k : Walking w₀ w d L
 
 -- ---- the start
 
-pub started : (w x y : List ℕ) (e : ℕ) → 524288 ≤ length x → e < ENTRIES → Cleared w x → Stored (set x LENS 0) y 0 0 (e * 2 + 1) 0 → Started w y e
+pub started : (w x y : List ℕ) (e : ℕ) → WORK ≤ length x → e < ENTRIES → Cleared w x → Stored (set x LENS 0) y 0 0 (e * 2 + 1) 0 → Started w y e
 unfolding node-bits chain trails-of tabulate trail-of seen-of
 started w x y e long h k s =
     let bits : (z : ℕ) → z < ENTRIES → seen-at y z ≡ false =
@@ -104,7 +104,7 @@ started w x y e long h k s =
           (record { node = omega (arith, s .node); entry = λ q. omega (arith, s .place); stack = λ q. absurd (omega (arith, s .extra)) });
       trails =
           rw (s .node, s .place, s .extra)
-          (ap₂ {C = List Trail} (λ a b. atEntry [] a b ∷ []) (omega arith) (eq-eqb ((e * 2 + 1) % 2) 1 (omega arith)));
+          (ap₂ {C = List Trail} (λ a b. at-entry [] a b ∷ []) (omega arith) (eq-eqb ((e * 2 + 1) % 2) 1 (omega arith)));
       kept = record {
         low = λ j l. s .below j (omega arith) ∙ getD-set-other x LENS j 0 0 (omega arith) ∙ k .low j l;
         high = λ j l. s .above j (omega arith) ∙ getD-set-other x LENS j 0 0 (omega arith) ∙ k .high j (omega arith);
@@ -123,13 +123,13 @@ length-stack w (suc d) = ap suc (length-stack w d)
 
 -- The limit that stops gives the same.
 pub limited : (w : List ℕ) (d len e limit : ℕ) → Tops w d → Limit len limit
-    → search (parents-of-all w) (stack-of w d) len e ≡ passes (parents-of-all w) (stack-of w d) (suc limit) 0 (atEntry [] e true ∷ []) []
+    → search (parents-of-all w) (stack-of w d) len e ≡ passes (parents-of-all w) (stack-of w d) (suc limit) 0 (at-entry [] e true ∷ []) []
 unfolding search
 limited w d len e limit t h = go (decLe (8 * (len - 1)) 8192)
   where
     go : Dec (8 * (len - 1) ≤ 8192)
-        → search (parents-of-all w) (stack-of w d) len e ≡ passes (parents-of-all w) (stack-of w d) (suc limit) 0 (atEntry [] e true ∷ []) []
-    go (yes q) = ap (λ (k : ℕ). passes (parents-of-all w) (stack-of w d) (suc k) 0 (atEntry [] e true ∷ []) []) (sym (h .exact q))
+        → search (parents-of-all w) (stack-of w d) len e ≡ passes (parents-of-all w) (stack-of w d) (suc limit) 0 (at-entry [] e true ∷ []) []
+    go (yes q) = ap (λ (k : ℕ). passes (parents-of-all w) (stack-of w d) (suc k) 0 (at-entry [] e true ∷ []) []) (sym (h .exact q))
     go (no q) =
         let b : length (stack-of w d) ≤ 4097 = omega (arith, length-stack w d, t .deep) in
         let l : limit ≡ 8192 = h .beyond (omega arith) in
@@ -139,7 +139,7 @@ pub record Searching (w₀ w : List ℕ) (d e limit l n m : ℕ) : Type 0 where
   pub sound : Working w d n m
   pub mid : Mid l (trails-of w n) 0
   pub within : l ≤ limit + 1
-  pub same : passes (parents-of-all w₀) (stack-of w₀ d) (suc limit) 0 (atEntry [] e true ∷ []) [] ≡ passes (parents-of-all w₀) (stack-of w₀ d) (suc limit - l) l (trails-of w n) (seen-of w m)
+  pub same : passes (parents-of-all w₀) (stack-of w₀ d) (suc limit) 0 (at-entry [] e true ∷ []) [] ≡ passes (parents-of-all w₀) (stack-of w₀ d) (suc limit - l) l (trails-of w n) (seen-of w m)
   pub kept : Kept w₀ w
   pub len : length w ≡ length w₀
 
@@ -178,7 +178,7 @@ no-paths P S (suc k) L seen = refl
 
 module _ (w₀ w : List ℕ) (d e limit l n m : ℕ) (links : Links w₀) (tops : Tops w₀ d) (k : Searching w₀ w d e limit l n m) where
   start : Option (List Bool)
-  start = passes (parents-of-all w₀) (stack-of w₀ d) (suc limit) 0 (atEntry [] e true ∷ []) []
+  start = passes (parents-of-all w₀) (stack-of w₀ d) (suc limit) 0 (at-entry [] e true ∷ []) []
 
   module _ (len : ℕ) (lim : Limit len limit) where
     first : search (parents-of-all w₀) (stack-of w₀ d) len e ≡ start

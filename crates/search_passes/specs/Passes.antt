@@ -4,7 +4,7 @@ use mathlib.Core.Path.{_≡_}
 use mathlib.Core.Bool.{true}
 use mathlib.Core.List.{List, [], _∷_}
 use Prim.Native.Nat.{ℕ, _+_}
-use Rattle.spec_search.specs.Search.{atEntry, Passed, found, gone, left}
+use Rattle.spec_search.specs.Search.{at-entry, Passed, found, gone, left}
 use Rattle.work_layout.specs.Rows.{stack-of}
 use Rattle.search_list.specs.State.{parents-of-all, seen-of, path-at, trails-of, Readable}
 use Rattle.search_list.specs.Cursor.{goes, Mid}
@@ -37,5 +37,5 @@ pub record Passes (w w′ : List ℕ) (d L n m : ℕ) (r : Passing) : Type 0 whe
 pub record Started (w w′ : List ℕ) (e : ℕ) : Type 0 where
   pub nodes : Nodes w′ 0
   pub paths : PathsOK w′ 0 1
-  pub trails : trails-of w′ 1 ≡ atEntry [] e true ∷ []
+  pub trails : trails-of w′ 1 ≡ at-entry [] e true ∷ []
   pub kept : Kept w w′

@@ -11,6 +11,7 @@ use work_layout::SEEN;
 ghost use mathlib.Core.List.{[]};
 ghost use Prim.Native.Nat.{_≤_, _<_};
 ghost use lib.ListN.{length};
+ghost use Rattle.words.specs.Words.{WORK};
 ghost use Rattle.work_layout.specs.Layout.{ENTRIES};
 ghost use Rattle.work_layout.specs.Rows.{Tops, Sound, all-counts};
 ghost use Rattle.search_list.specs.Cursor.{Mid};
@@ -54,7 +55,7 @@ fn pass(work: &mut [u32], l: usize, count: usize, nodes: usize, d: usize) -> Pas
 
 // No entry is seen.
 fn clear_seen(work: &mut [u32])
-    requires { ⌜ 524288 ≤ length (now work) ⌝ }
+    requires { ⌜ WORK ≤ length (now work) ⌝ }
     ensures { λ _. ⌜ Cleared (now (work .entry)) (now (work .exit)) ⌝ }
 {
     slices::clear(&mut work[SEEN..PREVS]);
@@ -62,7 +63,7 @@ fn clear_seen(work: &mut [u32])
 
 // One path, with no bits, at entry e, position 1.
 fn start(work: &mut [u32], e: u32)
-    requires { ⌜ (524288 ≤ length (now work)) × (e < ENTRIES) ⌝ }
+    requires { ⌜ (WORK ≤ length (now work)) × (e < ENTRIES) ⌝ }
     ensures { λ _. ⌜ Started (now (work .entry)) (now (work .exit)) e ⌝ }
 {
     clear_seen(work);

@@ -4,13 +4,14 @@ use crate::search_visit;
 use search_list::Turned;
 ghost use Prim.Native.Nat.{ℕ, _≤_, _<_};
 ghost use lib.ListN.{length};
+ghost use Rattle.words.specs.Words.{WORK};
 ghost use Rattle.search_list.specs.Cursor.{Mid};
 ghost use Rattle.search_list.specs.Steps.{Working, Steps, Turns};
 ghost use Rattle.search_list.specs.State.{trails-of, extra-at};
 
 // The step of path c, which is on the stack.
 fn step_stack(work: &mut [u32], c: usize, n: usize, m: usize) -> Turned
-    requires { ⌜ (524288 ≤ length (now work)) × (c < 3073) × (0 < extra-at (now work) c) × (extra-at (now work) c ≤ 4097) ⌝ }
+    requires { ⌜ (WORK ≤ length (now work)) × (c < 3073) × (0 < extra-at (now work) c) × (extra-at (now work) c ≤ 4097) ⌝ }
     ensures { λ r. ⌜ ((d : ℕ) → Working (now (work .entry)) d n m → c < n → Steps (now (work .entry)) (now (work .exit)) d c n m r) ⌝ }
 {
     let v = search_list::place_of(work, c);

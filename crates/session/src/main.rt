@@ -21,7 +21,7 @@ fn run(file: &[u8], work: &mut [u32], words: &mut [u32], output: &mut [u8]) -> S
 fn report_with(
     file: &[u8],
     by_items: bool,
-    work: &mut [u32; 524288],
+    work: &mut [u32; words::WORK],
     words: &mut [u32; 1024],
     output: &mut [u8; 65535],
 ) {
@@ -33,7 +33,7 @@ fn report_with(
 
 // The same, with arrays of its own.
 fn report(file: &[u8], by_items: bool) {
-    let mut work = [0u32; 524288];
+    let mut work = [0u32; words::WORK];
     let mut words = [0u32; 1024];
     let mut output = [0u8; 65535];
     report_with(file, by_items, &mut work, &mut words, &mut output);

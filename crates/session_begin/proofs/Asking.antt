@@ -8,6 +8,7 @@ use native.Mathlib.Omega.{arith}
 use lib.Dec.{leb}
 use lib.ListN.{length}
 use borrow.Author.Tests.{leb-true}
+use Rattle.words.specs.Words.{WORK}
 use Rattle.spec_session.specs.File.{Got, File, refused, version-1, file}
 use Rattle.file_parts.specs.Checked.{Passed, Checks}
 use Rattle.file_parts.specs.CheckedLaws.{Accepted, accepted, rejected}
@@ -23,15 +24,15 @@ use Rattle.session_begin.proofs.Starting.{starts}
 
 -- What question 1 was answered by.
 pub record Long (w ws cs : ℕ) : Type 0 where
-  pub work : 524288 ≤ w
+  pub work : WORK ≤ w
   pub words : 1024 ≤ ws
   pub records : 16 ≤ cs
 
 pub lengths : (w ws cs : ℕ) → are-long w ws cs ≡ true → Long w ws cs
-lengths w ws cs e = go (leb 524288 w) refl (leb 1024 ws) refl e
+lengths w ws cs e = go (leb WORK w) refl (leb 1024 ws) refl e
   where
-    go : (a : Bool) → leb 524288 w ≡ a → (b : Bool) → leb 1024 ws ≡ b → a && (b && leb 16 cs) ≡ true → Long w ws cs
-    go true p true q r = record { work = leb-true 524288 w p; words = leb-true 1024 ws q; records = leb-true 16 cs r }
+    go : (a : Bool) → leb WORK w ≡ a → (b : Bool) → leb 1024 ws ≡ b → a && (b && leb 16 cs) ≡ true → Long w ws cs
+    go true p true q r = record { work = leb-true WORK w p; words = leb-true 1024 ws q; records = leb-true 16 cs r }
     go true p false q r = absurd (let z : _≡_ {A = ℕ} 0 1 = cc in omega arith)
     go false p b q r = absurd (let z : _≡_ {A = ℕ} 0 1 = cc in omega arith)
 
@@ -76,7 +77,7 @@ module _ (input w : List ℕ) (ws cs : ℕ) where
       passed : Passed input (the-file input) c
       passed = subst (λ (f : File). Passed input f c) (sym is-file) (accepted-file .passed)
 
-      pub open-asks : Passed input (the-file input) c × (524288 ≤ n)
+      pub open-asks : Passed input (the-file input) c × (WORK ≤ n)
       open-asks = (passed, lengths n ws cs is-long .work)
 
       -- The tables are loaded, and the run can start.

@@ -8,7 +8,7 @@ use mathlib.Core.Option.{Option}
 use native.Mathlib.Omega.{arith}
 use native.Mathlib.Nat.{zero-div}
 use lib.ListN.{length}
-use Rattle.words.specs.Words.{at}
+use Rattle.words.specs.Words.{at, WORK}
 use Rattle.path.specs.Bytes.{odd}
 use Rattle.spec_session.specs.File.{File}
 use Rattle.spec_session.specs.Places.{PairNamed, SentinelNamed}
@@ -48,7 +48,7 @@ no-mark : (k : ℕ) → odd (0 / 2 ^ k) ≡ false
 no-mark k = ap odd (zero-div (2 ^ k))
 
 module _ (input : List ℕ) (f : File) (c : Checked) (p : Passed input f c) (w words : List ℕ) (rows : List Checkpoint) (out : List ℕ) (o : Opened input f w)
-    (long : 524288 ≤ length w) (many-words : 1024 ≤ length words) (many-rows : 16 ≤ length rows) (short : length out ≤ 65535) where
+    (long : WORK ≤ length w) (many-words : 1024 ≤ length words) (many-rows : 16 ≤ length rows) (short : length out ≤ 65535) where
   handles : Handles w
   handles = tables-handles f w (sorted f (p .contents)) (o .tables)
 

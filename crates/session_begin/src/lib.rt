@@ -7,6 +7,7 @@ use words::slices;
 ghost use mathlib.Core.Path.{_≡_};
 ghost use Prim.Native.Nat.{_≤_};
 ghost use lib.ListN.{length};
+ghost use Rattle.words.specs.Words.{WORK};
 ghost use Rattle.words.specs.Lists.{Bytes};
 ghost use Rattle.file_parts.specs.Checked.{Passed};
 ghost use Rattle.session_state.specs.State.{the-file};
@@ -21,7 +22,7 @@ pub struct Begun {
 
 // The words before the rows of parents become zero. No word from there on is read before it is written.
 fn clear_tables(work: &mut [u32])
-    requires { ⌜ 524288 ≤ length (now work) ⌝ }
+    requires { ⌜ WORK ≤ length (now work) ⌝ }
     ensures { λ _. ⌜ TablesClear (now (work .exit)) ⌝ }
 {
     slices::clear(&mut work[..work_layout::PARENTS]);
@@ -29,7 +30,7 @@ fn clear_tables(work: &mut [u32])
 
 // The places of the atoms and the handles of the pairs go to work; the words after them are zero, up to the rows of parents.
 fn load_places(file: &[u8], tables: &mut [u32], checked: Checked)
-    requires { ⌜ (Passed (now file) (the-file (now file)) checked) × (524288 ≤ length (now tables)) ⌝ }
+    requires { ⌜ (Passed (now file) (the-file (now file)) checked) × (WORK ≤ length (now tables)) ⌝ }
     ensures { λ _. ⌜ Placed (now (file .entry)) (the-file (now (file .entry))) (now (tables .exit)) ⌝ }
 {
     clear_tables(tables);
@@ -48,7 +49,7 @@ fn load_places(file: &[u8], tables: &mut [u32], checked: Checked)
 
 // The tables of the file go to work; the words after them are zero, up to the rows of parents.
 fn open(file: &[u8], work: &mut [u32], checked: Checked)
-    requires { ⌜ (Passed (now file) (the-file (now file)) checked) × (524288 ≤ length (now work)) ⌝ }
+    requires { ⌜ (Passed (now file) (the-file (now file)) checked) × (WORK ≤ length (now work)) ⌝ }
     ensures { λ _. ⌜ Opened (now (file .entry)) (the-file (now (file .entry))) (now (work .exit)) ⌝ }
 {
     load_places(file, work, checked);

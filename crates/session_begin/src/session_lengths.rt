@@ -6,7 +6,7 @@ ghost use Rattle.session_begin.specs.Lengths.{are-long};
 pub fn long_enough(work: usize, words: usize, records: usize) -> bool
     ensures { λ r. ⌜ r ≡ are-long work words records ⌝ }
 {
-    if work < 524288 {
+    if work < words::WORK {
         return false;
     }
     if words < 1024 {

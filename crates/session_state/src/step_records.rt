@@ -6,6 +6,7 @@ ghost use mathlib.Core.Bool.{cond};
 ghost use Prim.Native.Nat.{_+_, _*_, _^_, _≤_, _<_, min};
 ghost use lib.Dec.{ltb};
 ghost use lib.ListN.{length, set};
+ghost use Rattle.words.specs.Words.{WORK};
 ghost use Rattle.session_state.specs.Moves.{noted-at};
 ghost use Rattle.session_state.specs.Stored.{bit, record-of, with-entry};
 ghost use Rattle.session_state.specs.Questions.{question-of};
@@ -28,7 +29,7 @@ pub fn within(n: usize) -> usize
 
 // The checkpoint record of the present state.
 pub fn record_of(work: &[u32], p: Progress) -> Checkpoint
-    requires { ⌜ (524288 ≤ length (now work)) × (p .opens < 2 ^ 32) × (p .depth < 2 ^ 32) × (p .size < 2 ^ 32) ⌝ }
+    requires { ⌜ (WORK ≤ length (now work)) × (p .opens < 2 ^ 32) × (p .depth < 2 ^ 32) × (p .size < 2 ^ 32) ⌝ }
     ensures { λ r. ⌜ r ≡ record-of (now (work .entry)) p ⌝ }
 {
     Checkpoint {
@@ -73,7 +74,7 @@ pub fn note(words: &mut [u32], p: Progress, next: usize) -> Progress
 
 // The sentinel's entry of a checkpoint record. One that was not there stays as it is.
 pub fn bring_entry(work: &mut [u32], entry: u32)
-    requires { ⌜ 524288 ≤ length (now work) ⌝ }
+    requires { ⌜ WORK ≤ length (now work) ⌝ }
     ensures { λ _. ⌜ now (work .exit) ≡ with-entry (now (work .entry)) entry ⌝ }
 {
     if entry != 0 {

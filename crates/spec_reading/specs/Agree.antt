@@ -13,7 +13,7 @@ use Rattle.allocator.specs.Handle.{Node, small-atom, node-of, handle-of, nil}
 use Rattle.allocator.specs.HandleLaws.{node-of-pair, node-of-listed-atom, node-of-small-atom, handle-of-node-of}
 use Rattle.allocator.specs.SmallAtom.{fits-in-small-atom}
 use Rattle.allocator.specs.SmallAtomLaws.{fits-some}
-use Rattle.spec_reading.specs.Tree.{Tree, atom, cons, follow, asList}
+use Rattle.spec_reading.specs.Tree.{Tree, atom, cons, follow, as-list}
 use Rattle.spec_reading.specs.Format.{ParseOp, SExp, Cons, Read, accepted, turned-down}
 use Rattle.spec_reading.specs.Plain.{Plain, no-trees, found, join-trees, plain-values, read-plain}
 use Rattle.spec_reading.specs.Store.{Store, Value, Stored, Led, Listed, pair-count, atom-count, nothing-stored, new-pair, new-listed, small-or-listed, push-made, add-ghost, remove-ghost, join-values, walk, node-handle, add-to-list, list-of, lead, push-led, store-values, read-stored}
@@ -33,7 +33,7 @@ abbrev pub NamesAll : Store → List Value → List Tree → Type 0
 NamesAll s [] [] = Unit {0}
 NamesAll s [] (t ∷ ts) = ⊥
 NamesAll s (v ∷ vs) [] = ⊥
-NamesAll s (v ∷ vs) (t ∷ ts) = NamesHandle s (v .node) t × NamesOption s (v .list) (asList (t ∷ ts)) × NamesAll s vs ts
+NamesAll s (v ∷ vs) (t ∷ ts) = NamesHandle s (v .node) t × NamesOption s (v .list) (as-list (t ∷ ts)) × NamesAll s vs ts
 
 option-more : (s s′ : Store) (o : Option ℕ) (t : Tree) → Extends s s′ → NamesOption s o t → NamesOption s′ o t
 option-more s s′ none t e n = tt
@@ -44,7 +44,7 @@ all-more s s′ [] [] e n = tt
 all-more s s′ [] (t ∷ ts) e n = n
 all-more s s′ (v ∷ vs) [] e n = n
 all-more s s′ (v ∷ vs) (t ∷ ts) e n =
-    (names-more s s′ (node-of (v .node)) t e (n .0), option-more s s′ (v .list) (asList (t ∷ ts)) e (n .1), all-more s s′ vs ts e (n .2))
+    (names-more s s′ (node-of (v .node)) t e (n .0), option-more s s′ (v .list) (as-list (t ∷ ts)) e (n .1), all-more s s′ vs ts e (n .2))
 
 -- ---- what is made names what it is made of
 
@@ -139,15 +139,15 @@ walk-follows s (true ∷ bs) n t e (paired {i} {l} {r} h x y) =
 record ListNames (s : Store) (ts : List Tree) (l : Listed) : Type 0 where
   extends : Extends s (l .store)
   all-named : NamesAll (l .store) (l .values) ts
-  list-named : NamesHandle (l .store) (l .node) (asList ts)
+  list-named : NamesHandle (l .store) (l .node) (as-list ts)
 
 list-names-one : (o : Option ℕ) (n : ℕ) (vs : List Value) (s : Store) (l : Listed) (t : Tree) (ts : List Tree) → pair-count s + s .ghosts < 2 ^ 26
-    → Relist vs s l → NamesHandle s n t → NamesOption s o (asList (t ∷ ts)) → ListNames s ts l → ListNames s (t ∷ ts) (add-to-list o n l)
+    → Relist vs s l → NamesHandle s n t → NamesOption s o (as-list (t ∷ ts)) → ListNames s ts l → ListNames s (t ∷ ts) (add-to-list o n l)
 list-names-one (some q) n vs s l t ts low k nt cached h =
     record { extends = h .extends; all-named = (names-more s (l .store) (node-of n) t (h .extends) nt, list, h .all-named); list-named = list }
   where
-    list : NamesHandle (l .store) q (asList (t ∷ ts))
-    list = names-more s (l .store) (node-of q) (asList (t ∷ ts)) (h .extends) cached
+    list : NamesHandle (l .store) q (as-list (t ∷ ts))
+    list = names-more s (l .store) (node-of q) (as-list (t ∷ ts)) (h .extends) cached
 list-names-one none n vs s l t ts low k nt cached h =
     record { extends = extended; all-named = (names-more s u (node-of n) t extended nt, list, all-more (l .store) u (l .values) ts further (h .all-named)); list-named = list }
   where
@@ -166,11 +166,11 @@ list-names-one none n vs s l t ts low k nt cached h =
     extended : Extends s u
     extended = extends-trans s (l .store) u (h .extends) further
 
-    list : NamesHandle u (new-pair n (l .node) s′ .node) (asList (t ∷ ts))
+    list : NamesHandle u (new-pair n (l .node) s′ .node) (as-list (t ∷ ts))
     list =
-        pair-names s′ n (l .node) t (asList ts) (k .relisted .holds .pairs-even) (omega (arith, k .relisted .total))
+        pair-names s′ n (l .node) t (as-list ts) (k .relisted .holds .pairs-even) (omega (arith, k .relisted .total))
         (names-more s s′ (node-of n) t (extends-trans s (l .store) s′ (h .extends) less) nt)
-        (names-more (l .store) s′ (node-of (l .node)) (asList ts) less (h .list-named))
+        (names-more (l .store) s′ (node-of (l .node)) (as-list ts) less (h .list-named))
 
 list-names : (vs : List Value) (s : Store) (ts : List Tree) → Holds vs s → pair-count s + s .ghosts < 2 ^ 26 → NamesAll s vs ts → ListNames s ts (list-of vs s)
 unfolding list-of
@@ -188,7 +188,7 @@ record LeadNames (s : Store) (ts : List Tree) (l : Led) (o : Option Tree) : Type
   leads : BothOrNone (NamesHandle (l .stored .store)) (l .node) o
 
 lead-names : (bs : List Bool) (vs : List Value) (s : Store) (ts : List Tree) → Holds vs s → pair-count s + s .ghosts < 2 ^ 26 → NamesAll s vs ts
-    → LeadNames s ts (lead bs vs s) (follow bs (asList ts))
+    → LeadNames s ts (lead bs vs s) (follow bs (as-list ts))
 unfolding lead
 lead-names bs [] s [] h low n =
     record { extends = extends-refl s; all-named = tt; leads = walk-follows s bs nil (atom []) (node-of-small-atom 0 (omega arith)) (names-nil s) }
@@ -203,7 +203,7 @@ lead-names (true ∷ bs) (v ∷ vs) s (t ∷ ts) h low n =
     let s′ = lead bs vs s .stored .store in
     record {
       extends = r .extends;
-      all-named = (names-more s s′ (node-of (v .node)) t (r .extends) (n .0), option-more s s′ (v .list) (asList (t ∷ ts)) (r .extends) (n .1), r .all-named);
+      all-named = (names-more s s′ (node-of (v .node)) t (r .extends) (n .0), option-more s s′ (v .list) (as-list (t ∷ ts)) (r .extends) (n .1), r .all-named);
       leads = r .leads;
     }
 lead-names (false ∷ bs) (v ∷ vs) s [] h low n = absurd n
@@ -285,7 +285,7 @@ module _ (used n : ℕ) (ops : List ParseOp) (s : Stored) (p : Plain) (one : 1 �
       let low : pair-count (s .store) + s .store .ghosts < 2 ^ 26 = omega (arith, h .sound .pairs-bound) in
       let l = lead-names bits (s .values) (s .store) (p .trees) (h .sound .holds) low (h .named) in
       let k = lead-known bits (s .values) (s .store) (h .sound .holds) low in
-      push-agrees (lead bits (s .values) (s .store) .node) (lead bits (s .values) (s .store) .stored) (follow bits (asList (p .trees)))
+      push-agrees (lead bits (s .values) (s .store) .node) (lead bits (s .values) (s .store) .stored) (follow bits (as-list (p .trees)))
       (sound-path used n ops s one limit (h .sound) (some bits)) (l .all-named) (k .relisted .total ∙ h .counted) (l .leads)
 
 agree-alike : (total : ℕ) → total ≤ 65535 → Alike store-values plain-values Agrees total

@@ -23,6 +23,6 @@ follow (b ∷ bs) (atom a) = none
 follow (b ∷ bs) (cons l r) = follow bs (pick b l r)
 
 -- A stack of trees, the top first, as the list that a path is read from: (t0 . (t1 . (.. . nil))).
-abbrev pub asList : List Tree → Tree
-asList [] = atom []
-asList (t ∷ ts) = cons t (asList ts)
+abbrev pub as-list : List Tree → Tree
+as-list [] = atom []
+as-list (t ∷ ts) = cons t (as-list ts)

@@ -1,2 +1,1 @@
-// Trees: definitions alone.
-// Reading a serialized tree with references: definitions and laws alone. The crate de_br has the code.
+// Trees, and reading a serialized tree with references: definitions and laws alone. `read_call` has the call.

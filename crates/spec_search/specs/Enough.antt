@@ -8,7 +8,7 @@ use mathlib.Core.Option.{Option, none}
 use native.Mathlib.Omega.{arith}
 use lib.ListN.{length}
 use lib.Seq.{append-snoc}
-use Rattle.spec_search.specs.Search.{Trail, atEntry, onStack, Parents, Stepped, result, stays, dropped, capped, most-visits, Passed, found, gone, left, step, last-first, goes-on, walk, then, passes, search}
+use Rattle.spec_search.specs.Search.{Trail, at-entry, at-stack, Parents, Stepped, result, stays, dropped, capped, most-visits, Passed, found, gone, left, step, last-first, goes-on, walk, then, passes, search}
 use Rattle.words.specs.Choice.{by-lt}
 use Rattle.words.specs.Lists.{All, all-append, all-map}
 use Rattle.spec_search.specs.Lists.{all-last-first, size, AtLeast, Longer, shorts, shorts-short, shorts-long, shorts-append, shorts-last-first, shorts-all-long, shorts-le-length}
@@ -67,8 +67,8 @@ module _ (parents : Parents) (stack : List ℕ) where
 
   small-size : (seen : List ℕ) (p : Trail) → Small parents stack seen p → size p ≤ most-bits
   unfolding Small
-  small-size seen (atEntry bits x pos) h = omega arith
-  small-size seen (onStack bits d) h = omega arith
+  small-size seen (at-entry bits x pos) h = omega arith
+  small-size seen (at-stack bits d) h = omega arith
 
   passes-over : (n L : ℕ) (list : List Trail) (seen : List ℕ) → All (Small parents stack seen) list → All (AtLeast L) list → most-bits < L → passes parents stack n L list seen ≡ none
   unfolding passes
@@ -97,9 +97,9 @@ module _ (parents : Parents) (stack : List ℕ) where
 
   -- A limit that is lowered, but not below the most bits that a path can have, gives the same.
   pub search-enough : (len e limit : ℕ) → most-bits ≤ limit → most-bits ≤ 8 * (len - 1)
-      → search parents stack len e ≡ passes parents stack (suc limit) 0 (atEntry [] e true ∷ []) []
+      → search parents stack len e ≡ passes parents stack (suc limit) 0 (at-entry [] e true ∷ []) []
   unfolding search Small
-  search-enough len e limit h k = passes-enough (suc (8 * (len - 1))) (suc limit) 0 (atEntry [] e true ∷ []) [] (omega arith, tt) (omega arith, tt) (omega arith) (omega arith)
+  search-enough len e limit h k = passes-enough (suc (8 * (len - 1))) (suc limit) 0 (at-entry [] e true ∷ []) [] (omega arith, tt) (omega arith, tt) (omega arith) (omega arith)
 
 -- ---- pass L as equations, with no count
 

@@ -10,7 +10,7 @@ use native.Mathlib.Omega.{arith}
 use lib.ListN.{length}
 use lib.Dec.{ltb}
 use borrow.Author.Tests.{lt-ltb, le-ltb}
-use Rattle.spec_search.specs.Search.{Trail, atEntry, onStack, Parents, Stepped, result, stays, dropped, capped, member, distance, most-visits, upward, sideward, moves, visit, Passed, found, gone, left, step, last-first, goes-on, walk, then, passes, search}
+use Rattle.spec_search.specs.Search.{Trail, at-entry, at-stack, Parents, Stepped, result, stays, dropped, capped, member, distance, most-visits, upward, sideward, moves, visit, Passed, found, gone, left, step, last-first, goes-on, walk, then, passes, search}
 use Rattle.words.specs.Choice.{by-cond, by-lt}
 use Rattle.words.specs.Lists.{All, all-append, all-map}
 use Rattle.spec_search.specs.Lists.{all-last-first, size, AtLeast, Longer, shorts, shorts-short, shorts-long, shorts-append, shorts-last-first, shorts-all-long, shorts-le-length, long-of-no-shorts}
@@ -48,7 +48,7 @@ module _ (L : ℕ) where
   grown-upward : (seen : List ℕ) (bits : List Bool) → L < length bits → (qs : List (ℕ × Bool)) → All (Longer L) (upward seen bits qs)
   grown-upward seen bits h [] = tt
   grown-upward seen bits h (q ∷ qs) =
-      by-cond (All (Longer L)) (member (q .0) seen) (upward seen bits qs) (atEntry bits (q .0) (q .1) ∷ upward seen bits qs)
+      by-cond (All (Longer L)) (member (q .0) seen) (upward seen bits qs) (at-entry bits (q .0) (q .1) ∷ upward seen bits qs)
       (λ c. grown-upward seen bits h qs) (λ c. (h, grown-upward seen bits h qs))
 
   grown-sideward : (bits : List Bool) → L < length bits → (o : Option ℕ) → All (Longer L) (sideward bits o)
@@ -61,9 +61,9 @@ module _ (L : ℕ) where
 
   module _ (parents : Parents) (stack : List ℕ) where
     pub step-grown : (seen : List ℕ) (p : Trail) → AtLeast L p → Grown (step parents stack seen p)
-    step-grown seen (onStack bits zero) h = tt
-    step-grown seen (onStack bits (suc d)) h = (omega arith, tt)
-    step-grown seen (atEntry bits x pos) h =
+    step-grown seen (at-stack bits zero) h = tt
+    step-grown seen (at-stack bits (suc d)) h = (omega arith, tt)
+    step-grown seen (at-entry bits x pos) h =
         by-cond Grown (member x seen) (dropped [] seen) (cond (ltb (length seen) most-visits) (visit parents stack seen bits x pos) capped)
         (λ c. tt)
         (λ c. by-cond Grown (ltb (length seen) most-visits) (visit parents stack seen bits x pos) capped
@@ -180,8 +180,8 @@ module _ (I : List ℕ → Trail → Type 0) (R : List Bool → Type 0) where
 -- What holds of the first path and is kept by every step holds of the result.
 pub search-ok : (I : List ℕ → Trail → Type 0) (R : List Bool → Type 0) (parents : Parents) (stack : List ℕ) (len e : ℕ) (bits : List Bool)
     → ((L : ℕ) → L ≤ 8 * (len - 1) → (seen : List ℕ) (p : Trail) → size p ≡ L → I seen p → StepOK I R seen (step parents stack seen p))
-    → I [] (atEntry [] e true) → search parents stack len e ≡ some bits → R bits
+    → I [] (at-entry [] e true) → search parents stack len e ≡ some bits → R bits
 unfolding search
 search-ok I R parents stack len e bits steps h q =
     subst (AnswerOK I R) q
-    (passes-ok I R parents stack (8 * (len - 1)) steps (suc (8 * (len - 1))) 0 (omega arith) (atEntry [] e true ∷ []) [] (h, tt) (omega arith, tt))
+    (passes-ok I R parents stack (8 * (len - 1)) steps (suc (8 * (len - 1))) 0 (omega arith) (at-entry [] e true ∷ []) [] (h, tt) (omega arith, tt))

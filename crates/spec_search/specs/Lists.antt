@@ -9,7 +9,7 @@ use lib.ListN.{length}
 use borrow.Author.Tests.{lt-ltb, le-ltb}
 use Rattle.words.specs.Choice.{by-lt, cond-true, cond-false}
 use Rattle.words.specs.Lists.{All}
-use Rattle.spec_search.specs.Search.{Trail, bitsOf, in-front, last-first, long}
+use Rattle.spec_search.specs.Search.{Trail, trail-bits, in-front, last-first, long}
 
 module _ (P : Trail → Type 0) where
   all-in-front : (p : Trail) (ps : List Trail) → P p → All P ps → All P (in-front p ps)
@@ -23,7 +23,7 @@ module _ (P : Trail → Type 0) where
 -- ---- lengths
 
 abbrev pub size : Trail → ℕ
-size p = length (bitsOf p)
+size p = length (trail-bits p)
 
 abbrev pub AtLeast : ℕ → Trail → Type 0
 AtLeast L p = L ≤ size p

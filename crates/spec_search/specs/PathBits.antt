@@ -13,7 +13,7 @@ use Rattle.words.specs.Choice.{by-cond}
 use Rattle.words.specs.Lists.{All, all-append}
 use Rattle.path.specs.Bytes.{path-bytes}
 use Rattle.path.specs.BytesLaws.{path-bytes-first}
-use Rattle.spec_search.specs.Search.{Trail, atEntry, onStack, Parents, Stepped, dropped, capped, member, distance, upward, sideward, moves, visit, step, search, most-visits}
+use Rattle.spec_search.specs.Search.{Trail, at-entry, at-stack, Parents, Stepped, dropped, capped, member, distance, upward, sideward, moves, visit, step, search, most-visits}
 use Rattle.spec_search.specs.Induction.{StepOK, search-ok}
 use Rattle.spec_search.specs.Sound.{few}
 
@@ -28,8 +28,8 @@ ends-more b bits h = record { steps = b ∷ h .steps; ends = ap (λ (x : List Bo
 
 -- A path at an entry ends so with its position bit, and a path on the stack as it is.
 abbrev TrailEnds : List ℕ → Trail → Type 0
-TrailEnds seen (atEntry bits x pos) = Ends (pos ∷ bits)
-TrailEnds seen (onStack bits d) = Ends bits
+TrailEnds seen (at-entry bits x pos) = Ends (pos ∷ bits)
+TrailEnds seen (at-stack bits d) = Ends bits
 
 abbrev StepEnds : List ℕ → Stepped → Type 0
 StepEnds = StepOK TrailEnds Ends
@@ -37,7 +37,7 @@ StepEnds = StepOK TrailEnds Ends
 ends-upward : (seen seen′ : List ℕ) (bits : List Bool) → Ends bits → (qs : List (ℕ × Bool)) → All (TrailEnds seen′) (upward seen bits qs)
 ends-upward seen seen′ bits h [] = tt
 ends-upward seen seen′ bits h (q ∷ qs) =
-    by-cond (All (TrailEnds seen′)) (member (q .0) seen) (upward seen bits qs) (atEntry bits (q .0) (q .1) ∷ upward seen bits qs)
+    by-cond (All (TrailEnds seen′)) (member (q .0) seen) (upward seen bits qs) (at-entry bits (q .0) (q .1) ∷ upward seen bits qs)
     (λ c. ends-upward seen seen′ bits h qs) (λ c. (ends-more (q .1) bits h, ends-upward seen seen′ bits h qs))
 
 ends-sideward : (seen : List ℕ) (bits : List Bool) → Ends bits → (o : Option ℕ) → All (TrailEnds seen) (sideward bits o)
@@ -45,8 +45,8 @@ ends-sideward seen bits h none = tt
 ends-sideward seen bits h (some d) = (ends-more false bits h, tt)
 
 trail-later : (seen seen′ : List ℕ) (q : Trail) → TrailEnds seen q → TrailEnds seen′ q
-trail-later seen seen′ (atEntry bits x pos) h = h
-trail-later seen seen′ (onStack bits d) h = h
+trail-later seen seen′ (at-entry bits x pos) h = h
+trail-later seen seen′ (at-stack bits d) h = h
 
 ends-moves : (seen seen′ : List ℕ) (ps qs : List Trail) → All (TrailEnds seen′) ps → All (TrailEnds seen′) qs → StepEnds seen (moves ps qs seen′)
 ends-moves seen seen′ [] qs h k = (k, trail-later seen seen′)
@@ -54,9 +54,9 @@ ends-moves seen seen′ (p ∷ ps) qs h k = (h .0, all-append (TrailEnds seen′
 
 module _ (parents : Parents) (stack : List ℕ) where
   ends-step : (seen : List ℕ) (p : Trail) → TrailEnds seen p → StepEnds seen (step parents stack seen p)
-  ends-step seen (onStack bits zero) h = h
-  ends-step seen (onStack bits (suc d)) h = (ends-more true bits h, tt, trail-later seen seen)
-  ends-step seen (atEntry bits x pos) h =
+  ends-step seen (at-stack bits zero) h = h
+  ends-step seen (at-stack bits (suc d)) h = (ends-more true bits h, tt, trail-later seen seen)
+  ends-step seen (at-entry bits x pos) h =
       by-cond (StepEnds seen) (member x seen) (dropped [] seen) (cond (ltb (length seen) most-visits) (visit parents stack seen bits x pos) capped)
       (λ c. (tt, trail-later seen seen))
       (λ c. by-cond (StepEnds seen) (ltb (length seen) most-visits) (visit parents stack seen bits x pos) capped

@@ -5,7 +5,7 @@ use mathlib.Core.Path.{_≡_}
 use mathlib.Core.Bool.{Bool}
 use mathlib.Core.List.{List, [], map}
 use mathlib.Core.Option.{Option, none, some}
-use Rattle.spec_reading.specs.Tree.{Tree, atom, follow, asList}
+use Rattle.spec_reading.specs.Tree.{Tree, atom, follow, as-list}
 use Rattle.spec_search.specs.Search.{Parents, search}
 use Rattle.path.specs.Bytes.{path-bytes, read-path}
 use Rattle.path.specs.BytesLaws.{round-trip}
@@ -18,9 +18,9 @@ lead (some steps) t = follow steps t
 
 -- The tree that a reader with this stack, the top first, puts in the place of a reference with these path bytes; none where the path steps into an atom.
 unfoldable pub referred : List ℕ → List Tree → Option Tree
-referred path trees = lead (read-path path) (asList trees)
+referred path trees = lead (read-path path) (as-list trees)
 
-leads-referred : (bits : List Bool) (trees : List Tree) (u : Tree) → Leads bits (asList trees) u → referred (path-bytes bits) trees ≡ some u
+leads-referred : (bits : List Bool) (trees : List Tree) (u : Tree) → Leads bits (as-list trees) u → referred (path-bytes bits) trees ≡ some u
 unfolding referred
 leads-referred bits trees u h = rw (h .ends, round-trip (h .steps)) (h .arrives)
 

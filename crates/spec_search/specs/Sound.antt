@@ -10,8 +10,8 @@ use lib.ListN.{length, drop, getD}
 use lib.Seq.{drop-cons}
 use lib.Dec.{eqb, ltb}
 use borrow.Author.Tests.{eqb-true, ltb-true}
-use Rattle.spec_reading.specs.Tree.{Tree, cons, pick, follow, asList}
-use Rattle.spec_search.specs.Search.{Trail, atEntry, onStack, Parents, Stepped, dropped, capped, member, distance, upward, sideward, moves, visit, step, search, most-visits}
+use Rattle.spec_reading.specs.Tree.{Tree, cons, pick, follow, as-list}
+use Rattle.spec_search.specs.Search.{Trail, at-entry, at-stack, Parents, Stepped, dropped, capped, member, distance, upward, sideward, moves, visit, step, search, most-visits}
 use Rattle.words.specs.Choice.{by-cond}
 use Rattle.words.specs.Lists.{All, all-append}
 use Rattle.spec_search.specs.Lists.{size}
@@ -36,7 +36,7 @@ pub record Leads (bits : List Bool) (t u : Tree) : Type 0 where
 
 -- The reader's stack, from a distance on, as a list.
 abbrev pub from : (ℕ → Tree) → List ℕ → ℕ → Tree
-from T stack d = asList (map T (drop d stack))
+from T stack d = as-list (map T (drop d stack))
 
 -- One step more in front.
 leads-step : (b : Bool) (bits : List Bool) (l r u : Tree) → Leads bits (pick b l r) u → Leads (b ∷ bits) (cons l r) u
@@ -73,11 +73,11 @@ module _ (x : ℕ) where
 module _ (T : ℕ → Tree) (parents : Parents) (stack : List ℕ) (e : ℕ) where
   -- A path at an entry leads, with its position bit, from the entry's tree to e's; a path on the stack leads there from the part of the list at its distance.
   unfoldable pub Good : Trail → Type 0
-  Good (atEntry bits x pos) = Leads (pos ∷ bits) (T x) (T e)
-  Good (onStack bits d) = Leads bits (from T stack d) (T e) × (d < length stack)
+  Good (at-entry bits x pos) = Leads (pos ∷ bits) (T x) (T e)
+  Good (at-stack bits d) = Leads bits (from T stack d) (T e) × (d < length stack)
 
   abbrev pub Reaches : List Bool → Type 0
-  Reaches bits = Leads bits (asList (map T stack)) (T e)
+  Reaches bits = Leads bits (as-list (map T stack)) (T e)
 
   abbrev pub GoodStep : List ℕ → Stepped → Type 0
   GoodStep = StepOK (λ seen. Good) Reaches
@@ -88,7 +88,7 @@ module _ (T : ℕ → Tree) (parents : Parents) (stack : List ℕ) (e : ℕ) whe
   good-upward seen bits x h [] k = tt
   good-upward seen bits x h (q ∷ qs) k =
       let r : All Good (upward seen bits qs) = good-upward seen bits x h qs (k .1) in
-      by-cond (All Good) (member (q .0) seen) (upward seen bits qs) (atEntry bits (q .0) (q .1) ∷ upward seen bits qs)
+      by-cond (All Good) (member (q .0) seen) (upward seen bits qs) (at-entry bits (q .0) (q .1) ∷ upward seen bits qs)
       (λ c. r) (λ c. (leads-up T x (q .0) (q .1) bits (T e) (k .0) h, r))
 
   good-sideward : (bits : List Bool) (x : ℕ) → Leads bits (T x) (T e) → (o : Option ℕ) → Found x stack o → All Good (sideward bits o)
@@ -109,10 +109,10 @@ module _ (T : ℕ → Tree) (parents : Parents) (stack : List ℕ) (e : ℕ) whe
 
     good-step : (seen : List ℕ) (p : Trail) → Good p → GoodStep seen (step parents stack seen p)
     unfolding Good
-    good-step seen (onStack bits zero) h = h .0
-    good-step seen (onStack bits (suc d)) h =
+    good-step seen (at-stack bits zero) h = h .0
+    good-step seen (at-stack bits (suc d)) h =
         ((rw (drop-cons stack d 0 (omega arith)) (leads-step true bits (T (getD stack d 0)) (from T stack (suc d)) (T e) (h .0)), omega arith), tt, λ q k. k)
-    good-step seen (atEntry bits x pos) h =
+    good-step seen (at-entry bits x pos) h =
         by-cond (GoodStep seen) (member x seen) (dropped [] seen) (cond (ltb (length seen) most-visits) (visit parents stack seen bits x pos) capped)
         (λ c. (tt, λ q k. k))
         (λ c. by-cond (GoodStep seen) (ltb (length seen) most-visits) (visit parents stack seen bits x pos) capped (λ c′. good-visit seen bits x pos h) (λ c′. tt))
@@ -127,8 +127,8 @@ module _ (T : ℕ → Tree) (parents : Parents) (stack : List ℕ) (e : ℕ) whe
 module _ (parents : Parents) (stack : List ℕ) where
   -- The bits of a path at an entry were taken at as many visits. On the stack it takes one more, and one for each entry above.
   unfoldable pub Small : List ℕ → Trail → Type 0
-  Small seen (atEntry bits x pos) = (length bits ≤ length seen) × (length seen ≤ most-visits)
-  Small seen (onStack bits d) = (length bits + d ≤ length seen + length stack) × (length seen ≤ most-visits)
+  Small seen (at-entry bits x pos) = (length bits ≤ length seen) × (length seen ≤ most-visits)
+  Small seen (at-stack bits d) = (length bits + d ≤ length seen + length stack) × (length seen ≤ most-visits)
 
   abbrev pub Few : List Bool → Type 0
   Few bits = length bits ≤ most-visits + length stack
@@ -138,14 +138,14 @@ module _ (parents : Parents) (stack : List ℕ) where
 
   small-later : (seen : List ℕ) (x : ℕ) → length seen < most-visits → (q : Trail) → Small seen q → Small (x ∷ seen) q
   unfolding Small
-  small-later seen x h (atEntry bits y pos) k = omega arith
-  small-later seen x h (onStack bits d) k = omega arith
+  small-later seen x h (at-entry bits y pos) k = omega arith
+  small-later seen x h (at-stack bits d) k = omega arith
 
   small-upward : (seen seen′ : List ℕ) (bits : List Bool) → length bits ≤ length seen′ → length seen′ ≤ most-visits → (qs : List (ℕ × Bool)) → All (Small seen′) (upward seen bits qs)
   unfolding Small
   small-upward seen seen′ bits h l [] = tt
   small-upward seen seen′ bits h l (q ∷ qs) =
-      by-cond (All (Small seen′)) (member (q .0) seen) (upward seen bits qs) (atEntry bits (q .0) (q .1) ∷ upward seen bits qs)
+      by-cond (All (Small seen′)) (member (q .0) seen) (upward seen bits qs) (at-entry bits (q .0) (q .1) ∷ upward seen bits qs)
       (λ c. small-upward seen seen′ bits h l qs) (λ c. ((h, l), small-upward seen seen′ bits h l qs))
 
   small-sideward : (seen : List ℕ) (bits : List Bool) (x : ℕ) → length bits ≤ length seen → length seen ≤ most-visits → (o : Option ℕ) → Found x stack o → All (Small seen) (sideward bits o)
@@ -159,9 +159,9 @@ module _ (parents : Parents) (stack : List ℕ) where
 
   pub small-step : (seen : List ℕ) (p : Trail) → Small seen p → SmallStep seen (step parents stack seen p)
   unfolding Small
-  small-step seen (onStack bits zero) h = omega arith
-  small-step seen (onStack bits (suc d)) h = (omega arith, tt, λ q k. k)
-  small-step seen (atEntry bits x pos) h =
+  small-step seen (at-stack bits zero) h = omega arith
+  small-step seen (at-stack bits (suc d)) h = (omega arith, tt, λ q k. k)
+  small-step seen (at-entry bits x pos) h =
       by-cond (SmallStep seen) (member x seen) (dropped [] seen) (cond (ltb (length seen) most-visits) (visit parents stack seen bits x pos) capped)
       (λ c. (tt, λ q k. k))
       (λ c. by-cond (SmallStep seen) (ltb (length seen) most-visits) (visit parents stack seen bits x pos) capped
@@ -193,9 +193,9 @@ module _ (parents : Parents) (stack : List ℕ) where
     within-moves seen seen′ (p ∷ ps) qs = (tt, all-any seen′ (ps ++ qs), λ q k. tt)
 
     within-step : (seen : List ℕ) (p : Trail) → size p ≤ top → StepOK Any Within seen (step parents stack seen p)
-    within-step seen (onStack bits zero) h = h
-    within-step seen (onStack bits (suc d)) h = (tt, tt, λ q k. tt)
-    within-step seen (atEntry bits x pos) h =
+    within-step seen (at-stack bits zero) h = h
+    within-step seen (at-stack bits (suc d)) h = (tt, tt, λ q k. tt)
+    within-step seen (at-entry bits x pos) h =
         by-cond (StepOK Any Within seen) (member x seen) (dropped [] seen) (cond (ltb (length seen) most-visits) (visit parents stack seen bits x pos) capped)
         (λ c. (tt, λ q k. tt))
         (λ c. by-cond (StepOK Any Within seen) (ltb (length seen) most-visits) (visit parents stack seen bits x pos) capped
@@ -208,7 +208,7 @@ module _ (parents : Parents) (stack : List ℕ) where
 -- What the result of a search is.
 pub record Sound (T : ℕ → Tree) (stack : List ℕ) (len e : ℕ) (bits : List Bool) : Type 0 where
   -- the bits, the latest first, are the steps from the reader's stack, as a list, to the entry's tree, and last the terminator
-  pub leads-there : Leads bits (asList (map T stack)) (T e)
+  pub leads-there : Leads bits (as-list (map T stack)) (T e)
   pub at-most : length bits ≤ 1024 + length stack
   pub in-limit : length bits ≤ 8 * (len - 1)
 

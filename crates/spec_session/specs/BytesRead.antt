@@ -15,7 +15,7 @@ use Rattle.atom.specs.Prefix.{encode}
 use Rattle.atom.specs.Parse.{Parse, blob, refused, ones, size-of, parse}
 use Rattle.atom.specs.ParseLaws.{parse-nil}
 use Rattle.atom.specs.RoundTrip.{read-back}
-use Rattle.spec_reading.specs.Tree.{Tree, atom, cons, follow, asList}
+use Rattle.spec_reading.specs.Tree.{Tree, atom, cons, follow, as-list}
 use Rattle.path.specs.Bytes.{path-bytes, read-path}
 use Rattle.path.specs.BytesLaws.{round-trip}
 use Rattle.spec_reading.specs.Format.{ParseOp, SExp, Cons, Step, go, stop, accepted, at-end, settle, step, then, run, read, next-item, pushed, path-item, atom-item as read-atom}
@@ -154,7 +154,7 @@ module _ (b : List ℕ) (is : List Item) (k : List Op) (vs : List Tree) (m : ℕ
       next-atom (b ++ output is) (r .start) (length b) (r .parsed-is) (ops-of k) (kept vs m)
       ∙ ap₂ (λ (l x : List ℕ). settle plain-values l (ops-of k) (kept (atom x ∷ vs) (m + 1))) (drop-at b (output is) (length b) refl) (r .blob-is)
 
-  path-step : (path : List Bool) (v : Tree) → encode (path-bytes (path ++ true ∷ [])) ≡ some b → follow path (asList vs) ≡ some v
+  path-step : (path : List Bool) (v : Tree) → encode (path-bytes (path ++ true ∷ [])) ≡ some b → follow path (as-list vs) ≡ some v
       → next-item plain-values (0xfe ∷ (b ++ output is)) (ops-of k) (kept vs m) ≡ settle plain-values (output is) (ops-of k) (kept (v ∷ vs) (m + 1))
   path-step path v e q =
       let r = read-back (path-bytes (path ++ true ∷ [])) b (output is) e in
@@ -178,7 +178,7 @@ module _ (is : List Item) (ih : Goes is) (k : List Op) (vs : List Tree) (m : ℕ
   atom-case a b q (suc n) e l =
       stepped (b ++ output is) is ih k (atom a) vs m n t f (atom-step b is k vs m a q) e (omega (arith, nonempty a b q, length-append b (output is)))
 
-  path-case : (path : List Bool) (b : List ℕ) → encode (path-bytes (path ++ true ∷ [])) ≡ some b → (o : Option Tree) → follow path (asList vs) ≡ o
+  path-case : (path : List Bool) (b : List ℕ) → encode (path-bytes (path ++ true ∷ [])) ≡ some b → (o : Option Tree) → follow path (as-list vs) ≡ o
       → bind (bind (bind o (λ v. some (collapse k (v ∷ vs)))) (feed is)) (λ r. whole (r .0) (r .1)) ≡ some t
       → (n : ℕ) → length (0xfe ∷ (b ++ output is)) ≤ n → Reaches (0xfe ∷ (b ++ output is)) k vs m n t
   unfolding bind
@@ -199,7 +199,7 @@ goes (atom-item a ∷ is) k vs m n t f e h =
 goes (reference-item path ∷ is) k vs m n t f e h =
     let q = f .0 .1 in
     subst (λ (o : Option (List ℕ)). Reaches (0xfe ∷ (bytes-or-none o ++ output is)) k vs m n t) (sym q)
-    (path-case is (goes is) k vs m t (f .1) path (f .0 .0) q (follow path (asList vs)) refl e n
+    (path-case is (goes is) k vs m t (f .1) path (f .0 .0) q (follow path (as-list vs)) refl e n
     (subst (λ (o : Option (List ℕ)). length (0xfe ∷ (bytes-or-none o ++ output is)) ≤ n) q h))
 
 -- THE BYTES READ AS THE ITEMS: where the items read as the tree t, the plain reader accepts their bytes, all of them, with t.

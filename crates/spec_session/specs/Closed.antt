@@ -5,7 +5,7 @@ use mathlib.Core.Option.{Option, none, some, bind}
 use mathlib.Core.Bool.{Bool, true, false}
 use Prim.Native.Nat.{ℕ, _+_}
 use native.Mathlib.Omega.{arith}
-use Rattle.spec_reading.specs.Tree.{Tree, place, atom, cons, pick, follow, asList}
+use Rattle.spec_reading.specs.Tree.{Tree, place, atom, cons, pick, follow, as-list}
 use Rattle.spec_session.specs.Premises.{opens}
 use Rattle.spec_session.specs.Items.{cons-item, atom-item, reference-item, Item, Op, want, make, Reading, collapse, step-read, feed, whole, read-items}
 use Rattle.spec_session.specs.ReadBack.{sum-opens}
@@ -20,7 +20,7 @@ follow-closed (b ∷ path) place v z e = let q : _≡_ {A = ℕ} 0 1 = cc in abs
 follow-closed (b ∷ path) (atom bs) v z e = let q : _≡_ {A = ℕ} 0 1 = cc in absurd (omega arith)
 follow-closed (b ∷ path) (cons l r) v z e = follow-closed path (pick b l r) v (pick-closed b l r z) e
 
-list-opens : (vs : List Tree) → opens (asList vs) ≡ sum-opens vs
+list-opens : (vs : List Tree) → opens (as-list vs) ≡ sum-opens vs
 list-opens [] = refl
 list-opens (v ∷ vs) = ap (λ n. opens v + n) (list-opens vs)
 
@@ -42,11 +42,11 @@ step-closed i [] vs z = tt
 step-closed i (make ∷ k) vs z = tt
 step-closed cons-item (want ∷ k) vs z = z
 step-closed (atom-item bs) (want ∷ k) vs z = collapse-closed k (atom bs ∷ vs) (omega arith)
-step-closed (reference-item path) (want ∷ k) vs z = go (follow path (asList vs)) refl
+step-closed (reference-item path) (want ∷ k) vs z = go (follow path (as-list vs)) refl
   where
-    go : (o : Option Tree) → follow path (asList vs) ≡ o → Clear (bind o (λ v. some (collapse k (v ∷ vs))))
+    go : (o : Option Tree) → follow path (as-list vs) ≡ o → Clear (bind o (λ v. some (collapse k (v ∷ vs))))
     go none e = tt
-    go (some v) e = collapse-closed k (v ∷ vs) (omega (arith, follow-closed path (asList vs) v (list-opens vs ∙ z) e))
+    go (some v) e = collapse-closed k (v ∷ vs) (omega (arith, follow-closed path (as-list vs) v (list-opens vs ∙ z) e))
 
 feed-closed : (is : List Item) (r : Reading) → sum-opens (r .1) ≡ 0 → Clear (feed is r)
 unfolding bind

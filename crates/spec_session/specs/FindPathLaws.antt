@@ -11,7 +11,7 @@ use lib.Dec.{eqb, ltb}
 use lib.ListN.{length}
 use Rattle.words.specs.Lists.{All}
 use Rattle.allocator.specs.Handle.{nil, handle-of}
-use Rattle.spec_reading.specs.Tree.{Tree, follow, asList}
+use Rattle.spec_reading.specs.Tree.{Tree, follow, as-list}
 use Rattle.atom.specs.Write.{serialized-length}
 use Rattle.path.specs.Bytes.{path-bytes}
 use Rattle.spec_search.specs.Search.{member, search, used}
@@ -83,7 +83,7 @@ module _ (measure : List Bool → ℕ) where
     module _ (tr : ℕ → Tree) (linked : Linked (c .entries) tr) where
       record Path : Type 0 where
         ends : found .bits ≡ path ++ true ∷ []
-        leads : follow path (asList (map tr stack)) ≡ some (tr e)
+        leads : follow path (as-list (map tr stack)) ≡ some (tr e)
 
       the-path : Path
       the-path =
@@ -92,7 +92,7 @@ module _ (measure : List Bool → ℕ) where
           (λ x. all-nth (λ p. Holds tr x (p .0) (p .1)) (parents-at x (c .entries)) (λ i p n. let k = linked x i p n in record { first = k .0; rest = k .1; pair = k .2; child = k .3 }))
           (found .given) .leads-there in
           let same : s .steps ≡ path = sym (without (s .steps)) ∙ ap without-terminator (sym (s .ends)) ∙ found .steps in
-          record { ends = s .ends ∙ ap (λ (x : List Bool). x ++ true ∷ []) same; leads = subst (λ x. follow x (asList (map tr stack)) ≡ some (tr e)) same (s .arrives) }
+          record { ends = s .ends ∙ ap (λ (x : List Bool). x ++ true ∷ []) same; leads = subst (λ x. follow x (as-list (map tr stack)) ≡ some (tr e)) same (s .arrives) }
 
   pub find-sound : Sound (find-in measure)
   find-sound c marked stack h e path tr linked q = the-path c marked stack h e path q tr linked .leads

@@ -7,7 +7,7 @@ use Prim.Native.Nat.{ℕ, _+_, _≤_}
 use Rattle.atom.specs.Prefix.{encode}
 use Rattle.atom.specs.Write.{serialized-length}
 use Rattle.path.specs.Bytes.{path-bytes}
-use Rattle.spec_reading.specs.Tree.{Tree, place, atom, cons, follow, asList}
+use Rattle.spec_reading.specs.Tree.{Tree, place, atom, cons, follow, as-list}
 
 pub data Item : Type 0 where
   cons-item : Item
@@ -69,7 +69,7 @@ step-read i [] vs = none
 step-read i (make ∷ k) vs = none
 step-read cons-item (want ∷ k) vs = some (want ∷ want ∷ make ∷ k, vs)
 step-read (atom-item bs) (want ∷ k) vs = some (collapse k (atom bs ∷ vs))
-step-read (reference-item path) (want ∷ k) vs = bind (follow path (asList vs)) (λ v. some (collapse k (v ∷ vs)))
+step-read (reference-item path) (want ∷ k) vs = bind (follow path (as-list vs)) (λ v. some (collapse k (v ∷ vs)))
 
 abbrev pub feed : List Item → Reading → Option Reading
 feed [] r = some r
@@ -89,7 +89,7 @@ read-items is = bind (feed is (want ∷ [], [])) (λ r. whole (r .0) (r .1))
 abbrev pub ItemNoLonger : Item → List Tree → Type 0
 ItemNoLonger cons-item vs = Unit {0}
 ItemNoLonger (atom-item bs) vs = Unit {0}
-ItemNoLonger (reference-item path) vs = (v : Tree) → follow path (asList vs) ≡ some v → item-size (reference-item path) ≤ full-size v
+ItemNoLonger (reference-item path) vs = (v : Tree) → follow path (as-list vs) ≡ some v → item-size (reference-item path) ≤ full-size v
 
 abbrev pub NoLongerFrom : List Item → Option Reading → Type 0
 NoLongerFrom [] r = Unit {0}

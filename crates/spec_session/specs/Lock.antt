@@ -5,7 +5,7 @@ use mathlib.Core.Option.{Option, none, some, bind}
 use mathlib.Core.Bool.{Bool}
 use Prim.Native.Nat.{ℕ, zero, suc, _≤_}
 use native.Mathlib.Omega.{arith}
-use Rattle.spec_reading.specs.Tree.{Tree, place, atom, cons, pick, follow, asList}
+use Rattle.spec_reading.specs.Tree.{Tree, place, atom, cons, pick, follow, as-list}
 use Rattle.spec_session.specs.Unfold.{Unfolded, hole, leaf, node, tree-of}
 use Rattle.spec_session.specs.Cache.{Parent, Entry, Cache, parents-at, length-at}
 use Rattle.spec_session.specs.Items.{cons-item, atom-item, reference-item, Item, Op, want, make, Reading, collapse, step-read, feed, item-size, ItemNoLonger, NoLongerFrom, NoLonger}
@@ -24,7 +24,7 @@ Linked es tr = (x i : ℕ) (p : Parent) → nth (parents-at x es) i ≡ some p �
 abbrev pub Sound : (Cache → List ℕ → List ℕ → ℕ → ℕ → Option (List Bool)) → Type 0
 Sound find =
     (c : Cache) (marked stack : List ℕ) (h e : ℕ) (path : List Bool) (tr : ℕ → Tree) → Linked (c .entries) tr
-    → find c marked stack h e ≡ some path → follow path (asList (map tr stack)) ≡ some (tr e)
+    → find c marked stack h e ≡ some path → follow path (as-list (map tr stack)) ≡ some (tr e)
 
 -- A path that is found takes, as an item, at most the entry's length.
 abbrev pub Short : (Cache → List ℕ → List ℕ → ℕ → ℕ → Option (List Bool)) → Type 0
@@ -158,9 +158,9 @@ module _ (find : Cache → List ℕ → List ℕ → ℕ → ℕ → Option (Lis
 
   -- A reference leads to the tree that is meant.
   leads-to : (u : Unfolded) (k : List Todo) (w : Written) (h e : ℕ) (path : List Bool) (L : Lock c T goal (parse u ∷ k) w) → nth T e ≡ some (tree-of u)
-      → find c (w .marked) (w .stack) h e ≡ some path → follow path (asList (L .vals)) ≡ some (tree-of u)
+      → find c (w .marked) (w .stack) h e ≡ some path → follow path (as-list (L .vals)) ≡ some (tree-of u)
   leads-to u k w h e path L s f =
-      let leads : follow path (asList (map (value-of T) (w .stack))) ≡ some (value-of T e) =
+      let leads : follow path (as-list (map (value-of T) (w .stack))) ≡ some (value-of T e) =
       sound c (w .marked) (w .stack) h e path (value-of T) (good-linked T (c .entries) good) f in
       rw (stands-map T (w .stack) (L .vals) (L .stands), s) at leads
 
@@ -173,7 +173,7 @@ module _ (find : Cache → List ℕ → List ℕ → ℕ → ℕ → Option (Lis
   refers-short : (u : Unfolded) (k : List Todo) (w : Written) (h e : ℕ) (path : List Bool) (L : Lock c T goal (parse u ∷ k) w) → nth T e ≡ some (tree-of u)
       → find c (w .marked) (w .stack) h e ≡ some path → ItemNoLonger (reference-item path) (L .vals)
   refers-short u k w h e path L s f v q =
-      let leads : follow path (asList (L .vals)) ≡ some (tree-of u) = leads-to u k w h e path L s f in
+      let leads : follow path (as-list (L .vals)) ≡ some (tree-of u) = leads-to u k w h e path L s f in
       let alike : v ≡ tree-of u = cc in
       rw alike (omega (arith, short c (w .marked) (w .stack) h e path (value-of T) (good-linked T (c .entries) good) f, good-len T e (c .entries) T (tree-of u) good s))
 

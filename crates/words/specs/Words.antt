@@ -14,3 +14,7 @@ part w off n = take n (drop off w)
 unfoldable pub tabulate {ℓ} : {A : Type ℓ} → ℕ → (ℕ → A) → List A
 tabulate zero f = []
 tabulate (suc n) f = f 0 ∷ tabulate n (λ k. f (suc k))
+
+-- The least length of work, in words, of both calls (01: question 1).
+abbrev pub WORK : ℕ
+WORK = 524288

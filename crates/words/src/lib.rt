@@ -8,6 +8,9 @@ ghost use Rattle.words.specs.BigEndian.{«number-after»};
 ghost use Rattle.words.specs.Lists.{same};
 ghost use Rattle.words.specs.Words.{part};
 
+// The least length of work, in words, of both calls: question 1.
+pub const WORK: usize = 524288;
+
 // A word as a place.
 pub fn wide(x: u32) -> usize
     ensures { λ r. ⌜ r ≡ x ⌝ }

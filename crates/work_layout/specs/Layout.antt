@@ -3,6 +3,7 @@
 use Prim.Native.Nat.{ℕ, _+_, _≤_}
 use mathlib.Core.List.{List, [], _∷_}
 use native.Mathlib.Omega.{arith}
+use Rattle.words.specs.Words.{WORK}
 
 -- Two words for each listed atom of the file: where its bytes start and end.
 abbrev pub ATOMS : ℕ
@@ -194,5 +195,5 @@ Apart from most [] = from ≤ most
 Apart from most (r ∷ rs) = (from ≤ r .offset) × Apart (r .offset + r .size) most rs
 
 -- The regions are apart, and work of 524,288 words holds them all.
-pub regions-apart : Apart 0 524288 regions
+pub regions-apart : Apart 0 WORK regions
 regions-apart = omega arith

@@ -5,7 +5,7 @@ use mathlib.Core.Bool.{Bool, cond}
 use mathlib.Core.List.{List, [], _∷_, map}
 use lib.Dec.{eqb}
 use lib.ListN.{length}
-use Rattle.words.specs.Words.{at, part, tabulate}
+use Rattle.words.specs.Words.{at, part, tabulate, WORK}
 use Rattle.work_layout.specs.Layout.{TOPS, STACK, USED, COUNTS, LEFT, RIGHT, LOW, HIGH, NEXT, HEADS, PARENTS, ENTRIES, SLOTS, DEPTH}
 
 -- ---- entries
@@ -73,7 +73,7 @@ pub record Distinct (w : List ℕ) : Type 0 where
 -- ---- when the entries are sound
 
 pub record Sound (w : List ℕ) : Type 0 where
-  pub long : 524288 ≤ length w
+  pub long : WORK ≤ length w
   pub used : at w USED ≤ ENTRIES
   pub counts : (e : ℕ) → e < ENTRIES → at w (COUNTS + e) ≤ 100
   pub unused : (e : ℕ) → at w USED ≤ e → e < ENTRIES → at w (COUNTS + e) ≡ 0

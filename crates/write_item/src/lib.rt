@@ -20,9 +20,6 @@ pub enum Put {
     Full,
 }
 
-// The byte of a pair.
-const CONS_BOX_MARKER: u8 = 0xff;
-
 // Whether `count` bytes from `size` on lie within `room`.
 pub fn fits(room: usize, size: usize, count: usize) -> bool
     ensures { λ r. ⌜ r ≡ leb (size + count) room ⌝ }
@@ -40,7 +37,7 @@ pub fn write_cons(output: &mut [u8], size: usize) -> Put
     if !fits(output.len(), size, 1) {
         return Put::Full;
     }
-    output[size] = CONS_BOX_MARKER;
+    output[size] = atom::CONS_BOX_MARKER;
     Put::Next(size + 1)
 }
 

@@ -9,6 +9,7 @@ ghost use mathlib.Core.Option.{some};
 ghost use Prim.Native.Nat.{_+_, _/_, _≤_};
 ghost use lib.ListN.{length, set};
 ghost use lib.Seq.{paste};
+ghost use Rattle.words.specs.Words.{WORK};
 ghost use Rattle.atom.specs.Prefix.{prefix, «prefix-width»};
 ghost use Rattle.atom.specs.Write.{put};
 ghost use Rattle.path.specs.Bytes.{«path-bytes»};
@@ -17,12 +18,9 @@ ghost use Rattle.search_list.specs.State.{Readable, «path-at»};
 ghost use Rattle.spec_session.specs.Items.{«reference-item», «item-bytes»};
 ghost use Rattle.write_item.specs.Answers.{written};
 
-// The byte in front of a path.
-const BACK_REFERENCE: u8 = 0xfe;
-
 // How many bits the path at a slot has.
 fn path_bits(work: &[u32], slot: usize) -> usize
-    requires { ⌜ (524288 ≤ length (now work)) × (Readable (now work) slot) ⌝ }
+    requires { ⌜ (WORK ≤ length (now work)) × (Readable (now work) slot) ⌝ }
     ensures { λ r. ⌜ (r ≡ length («path-at» (now (work .entry)) slot)) × (r ≤ 8192) ⌝ }
 {
     search_list::size_of(work, slot)
@@ -41,7 +39,7 @@ fn path_width(bits: usize) -> usize
 
 // The bytes of the path at a slot, from `start` on.
 fn put_path(work: &[u32], slot: usize, output: &mut [u8], start: usize, count: usize)
-    requires { ⌜ (524288 ≤ length (now work)) × (Readable (now work) slot) × (count ≡ (length («path-at» (now work) slot) + 7) / 8) × (start + count ≤ length (now output)) ⌝ }
+    requires { ⌜ (WORK ≤ length (now work)) × (Readable (now work) slot) × (count ≡ (length («path-at» (now work) slot) + 7) / 8) × (start + count ≤ length (now output)) ⌝ }
     ensures { λ _. ⌜ now (output .exit) ≡ paste (now (output .entry)) start («path-bytes» («path-at» (now (work .entry)) slot)) count ⌝ }
 {
     let end = start + count;
@@ -57,18 +55,18 @@ fn put_reference(
     width: usize,
     count: usize,
 )
-    requires { ⌜ (524288 ≤ length (now work)) × (Readable (now work) slot) × (count ≡ (length («path-at» (now work) slot) + 7) / 8) × (count ≤ 1024) ⌝ }
+    requires { ⌜ (WORK ≤ length (now work)) × (Readable (now work) slot) × (count ≡ (length («path-at» (now work) slot) + 7) / 8) × (count ≤ 1024) ⌝ }
     requires { ⌜ (width ≤ 5) × (size + (1 + (width + count)) ≤ length (now output)) ⌝ }
     ensures { λ _. ⌜ now (output .exit) ≡ paste (paste (set (now (output .entry)) size 0xfe) (size + 1) (prefix width count) width) (size + 1 + width) («path-bytes» («path-at» (now (work .entry)) slot)) count ⌝ }
 {
-    output[size] = BACK_REFERENCE;
+    output[size] = atom::BACK_REFERENCE;
     write_prefix::write_prefix(output, size + 1, width, count as u64);
     put_path(work, slot, output, size + 1 + width, count);
 }
 
 // A reference to the path at a slot, whose first bit is set.
 pub fn write_reference(work: &[u32], slot: usize, output: &mut [u8], size: usize) -> Put
-    requires { ⌜ (524288 ≤ length (now work)) × (Readable (now work) slot) × (Ends («path-at» (now work) slot)) ⌝ }
+    requires { ⌜ (WORK ≤ length (now work)) × (Readable (now work) slot) × (Ends («path-at» (now work) slot)) ⌝ }
     ensures { λ r. ⌜ ((path : List Bool) → «path-at» (now (work .entry)) slot ≡ path ++ true ∷ [] → written r (now (output .exit)) ≡ put (now (output .entry)) size (some («item-bytes» («reference-item» path)))) ⌝ }
 {
     let bits = path_bits(work, slot);

@@ -8,7 +8,7 @@ ghost use mathlib.Core.Path.{_≡_};
 ghost use mathlib.Core.List.{List};
 ghost use Prim.Native.Nat.{ℕ, _+_, _-_, _≤_, _<_};
 ghost use lib.ListN.{length};
-ghost use Rattle.words.specs.Words.{at};
+ghost use Rattle.words.specs.Words.{at, WORK};
 ghost use Rattle.work_layout.specs.Layout.{OPEN, PAIR-COUNT};
 ghost use Rattle.cache_stack.specs.Contracts.{Stacked};
 ghost use Rattle.cache_nodes.specs.Meaning.{Whole};
@@ -29,7 +29,7 @@ fn close_pair(work: &mut [u32], depth: usize, i: usize)
 
 // The word of the innermost of `opens` open pairs.
 fn innermost(work: &[u32], opens: usize) -> u32
-    requires { ⌜ (524288 ≤ length (now work)) × (0 < opens) × (opens ≤ 4096) ⌝ }
+    requires { ⌜ (WORK ≤ length (now work)) × (0 < opens) × (opens ≤ 4096) ⌝ }
     ensures { λ r. ⌜ r ≡ at (now (work .entry)) (OPEN + (opens - 1)) ⌝ }
 {
     work[work_layout::OPEN + (opens - 1)]

@@ -1,6 +1,6 @@
 -- `atom_decode::parse_atom` meets its contract.
 -- Assumes nothing.
-use Rattle.atom_decode.specs.decode_size.Answers.{sizeOf}
+use Rattle.atom_decode.specs.decode_size.Answers.{decoded-size}
 use Rattle.atom_decode.proofs.Parsing.{parsed-refused, parsed-there, parsed-sized}
 use mathlib.Core.Path.{sym, ap, _∙_}
 use native.Mathlib.Omega.{arith}
@@ -34,14 +34,14 @@ add-whole-atom c =
     omega (
       arith,
       parsed-there (a .input .now) (a .position) (omega arith) (c .before .before .before .before .if2 .left) (c .before .offset .given .0 .0) (c .before .offset .given .0 .1 .0)
-          (sym (c .before .before .before .decode-size-with-offset .ensures) ∙ ap sizeOf (c .before .offset .given .1)),
+          (sym (c .before .before .before .decode-size-with-offset .ensures) ∙ ap decoded-size (c .before .offset .given .1)),
     )
 
 whole-atom-requires : tie.Need-whole-atom-requires
 whole-atom-requires c κs =
     let a = c .before .before .before .before .before .before .before .before .args in
     parsed-there (a .input .now) (a .position) (omega arith) (c .before .before .before .before .if2 .left) (c .before .offset .given .0 .0) (c .before .offset .given .0 .1 .0)
-    (sym (c .before .before .before .decode-size-with-offset .ensures) ∙ ap sizeOf (c .before .offset .given .1))
+    (sym (c .before .before .before .decode-size-with-offset .ensures) ∙ ap decoded-size (c .before .offset .given .1))
 
 enum-told : tie.Need-enum-told
 enum-told c = search needs
@@ -54,17 +54,17 @@ returns-3 c =
     let a = c .before .before .before .before .before .before .before .before .before .args in
     c .whole-atom .ensures
     ∙ parsed-sized (a .input .now) (a .position) (omega arith) (c .before .before .before .before .before .if2 .left) (c .before .before .offset .given .0 .0) (c .before .before .offset .given .0 .1 .0)
-    (sym (c .before .before .before .before .decode-size-with-offset .ensures) ∙ ap sizeOf (c .before .before .offset .given .1))
+    (sym (c .before .before .before .before .decode-size-with-offset .ensures) ∙ ap decoded-size (c .before .before .offset .given .1))
 
 returns-4 : tie.Need-returns-4
 returns-4 c =
     let a = c .before .before .before .before .before .before .before .args in
-    parsed-refused (a .input .now) (a .position) (omega arith) (c .before .before .before .if2 .left) 14 (sym (c .before .before .decode-size-with-offset .ensures) ∙ ap sizeOf (c .enum-told .given .1))
+    parsed-refused (a .input .now) (a .position) (omega arith) (c .before .before .before .if2 .left) 14 (sym (c .before .before .decode-size-with-offset .ensures) ∙ ap decoded-size (c .enum-told .given .1))
 
 returns-5 : tie.Need-returns-5
 returns-5 c =
     let a = c .before .before .before .before .before .before .before .args in
-    parsed-refused (a .input .now) (a .position) (omega arith) (c .before .before .before .if2 .left) 15 (sym (c .before .before .decode-size-with-offset .ensures) ∙ ap sizeOf (c .enum-told2 .given .1))
+    parsed-refused (a .input .now) (a .position) (omega arith) (c .before .before .before .if2 .left) 15 (sym (c .before .before .decode-size-with-offset .ensures) ∙ ap decoded-size (c .enum-told2 .given .1))
 
 pub parse-atom-spec : {M : Type 1} → statement M
 parse-atom-spec =

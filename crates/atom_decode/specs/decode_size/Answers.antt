@@ -3,7 +3,7 @@ use Rattle.atom.specs.Parse.{Size, sized, bad-size}
 use Rattle.atom_decode.specs.declared.decode_size.DecodeSize.{DecodeSize}
 use Rattle.atom_decode.specs.declared.decode_size.DecodeSize.the-variants as decode-size
 
-abbrev pub sizeOf : DecodeSize → Size
-sizeOf (decode-size.Size w n) = sized w n
-sizeOf decode-size.SerializationError = bad-size 14
-sizeOf decode-size.NonCanonicalSerialization = bad-size 15
+abbrev pub decoded-size : DecodeSize → Size
+decoded-size (decode-size.Size w n) = sized w n
+decoded-size decode-size.SerializationError = bad-size 14
+decoded-size decode-size.NonCanonicalSerialization = bad-size 15

@@ -7,7 +7,7 @@ use native.Mathlib.Omega.{arith}
 use native.Mathlib.Decide.{decLt}
 use lib.ListN.{length, getD, set, drop, length-set, length-append, length-drop, length-map, List·getD-append}
 use lib.Seq.{paste, getD-set-same, getD-set-other, ext-getD, getD-drop, getD-append-add}
-use Rattle.words.specs.Words.{at, part}
+use Rattle.words.specs.Words.{at, part, WORK}
 use Rattle.words.proofs.Words.{part-length, part-at, map-append}
 use Rattle.words.proofs.Copies.{Copied, copied, copied-away}
 use Rattle.spec_session.specs.Cache.{move-parents, no-parents}
@@ -102,7 +102,7 @@ module _ (w w₁ w₂ : List ℕ) (e n m d : ℕ) (s : Sound w) (h : e < at w US
   row-end : PARENTS + e * 100 + 100 ≤ SEEN
   row-end = omega (arith, s .used)
 
-  long : 524288 ≤ length w
+  long : WORK ≤ length w
   long = s .long
 
   len₃ : length w₃ ≡ length w

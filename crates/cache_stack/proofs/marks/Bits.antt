@@ -11,7 +11,7 @@ use lib.ListN.{length, getD, set}
 use lib.Seq.{getD-set-same, getD-set-other}
 use borrow.Author.Tests.{eq-eqb, ne-eqb}
 use borrow.Rule.Slice.PartMut.{putMid}
-use Rattle.words.specs.Words.{at, part}
+use Rattle.words.specs.Words.{at, part, WORK}
 use Rattle.words.proofs.Words.{part-length, part-at, put-length, put-part, put-other}
 use Rattle.path.specs.Bytes.{odd}
 use Rattle.bitset.specs.BitSet.{bits-of}
@@ -25,14 +25,14 @@ unfolding marked-at
 marked-same w w′ x l h = ap (λ (y : ℕ). odd (y / 2 ^ (x % 32))) (h (x / 32) (omega arith))
 
 -- The mark is the bit of the lent part.
-pub marked-part : (w : List ℕ) (x : ℕ) → 524288 ≤ length w → x < ENTRIES → getD (bits-of (part w WRITTEN 96)) x false ≡ marked-at w x
+pub marked-part : (w : List ℕ) (x : ℕ) → WORK ≤ length w → x < ENTRIES → getD (bits-of (part w WRITTEN 96)) x false ≡ marked-at w x
 unfolding marked-at
 marked-part w x long l =
     bits-of-at (part w WRITTEN 96) x (omega (arith, part-length w WRITTEN 96 (omega arith)))
     ∙ ap (λ (y : ℕ). odd (y / 2 ^ (x % 32))) (part-at w WRITTEN 96 (x / 32) (omega arith))
 
 -- The part comes back with bit e set.
-module _ (w r : List ℕ) (e : ℕ) (long : 524288 ≤ length w) (small : e < ENTRIES) (len : length r ≡ 96)
+module _ (w r : List ℕ) (e : ℕ) (long : WORK ≤ length w) (small : e < ENTRIES) (len : length r ≡ 96)
     (bit : bits-of r ≡ set (bits-of (part w WRITTEN 96)) e true) where
   after-mark : List ℕ
   after-mark = putMid WRITTEN 96 w r

@@ -7,14 +7,14 @@ use native.Mathlib.Omega.{arith}
 use native.Mathlib.Decide.{ℕ-discrete}
 use lib.ListN.{length, set}
 use lib.Seq.{getD-set-same, getD-set-other}
-use Rattle.words.specs.Words.{at}
+use Rattle.words.specs.Words.{at, WORK}
 use Rattle.work_layout.specs.Layout.{STACK, BELOW, TOPS, ENTRIES}
 use Rattle.work_layout.specs.Rows.{prev, stack-of}
 use Rattle.work_layout.specs.Prev.{prev-same, prev-past}
 use Rattle.cache_stack.specs.Contracts.{Stacked, Popped, PoppedTwo}
 use Rattle.cache_stack.proofs.Stacks.{stack-same, stack-more, only-both}
 
-module _ (w : List ℕ) (d x : ℕ) (long : 524288 ≤ length w) (s : Stacked w d) (some-left : 0 < d) (is-top : x ≡ at w (STACK + (d - 1))) where
+module _ (w : List ℕ) (d x : ℕ) (long : WORK ≤ length w) (s : Stacked w d) (some-left : 0 < d) (is-top : x ≡ at w (STACK + (d - 1))) where
   pop-small : x < ENTRIES
   pop-small = rw is-top (s .entries (d - 1) (omega arith))
 

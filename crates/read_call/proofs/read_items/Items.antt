@@ -8,8 +8,8 @@ use lib.ListN.{length}
 use Rattle.spec_reading.specs.Format.{At, Step, step, then, run, read}
 use Rattle.spec_reading.specs.Store.{Stored, store-values, read-stored}
 use Rattle.spec_reading.specs.Sound.{sound-start}
-use Rattle.read_store.specs.Layout.{opsOf, valuesOf}
-use Rattle.read_item.specs.Whole.{atOf, Lent, Stands, itemOf}
+use Rattle.read_store.specs.Layout.{ops-of, values-of}
+use Rattle.read_item.specs.Whole.{reader-at, Lent, Stands, item-of}
 use Rattle.read_item.specs.Step.{Stepped}
 use Rattle.read_item.specs.declared.settle.Reader.{Reader}
 use Rattle.read_item.specs.declared.settle.Item.{Item}
@@ -27,23 +27,23 @@ run-more (suc n) a h =
 -- The reader stands before an item, and at most `left` items from there give what the whole input gives.
 pub record Reads (input w p a b : List ℕ) (r : Reader) (left : ℕ) : Type 0 where
   pub stands : Stands input w p a b r
-  pub same : read-stored input ≡ run store-values left (atOf input w p a b r)
+  pub same : read-stored input ≡ run store-values left (reader-at input w p a b r)
 
 pub reads-start : (input w p a b : List ℕ) → Lent input w p a b start → Reads input w p a b start (length input)
-unfolding read opsOf valuesOf
+unfolding read ops-of values-of
 reads-start input w p a b l = record { stands = record { lent = l; sound = sound-start; lists = record { all = refl; few = omega arith } }; same = refl }
 
 module _ (input w p a b : List ℕ) (r : Reader) (left : ℕ) (h : Reads input w p a b r left) where
   -- No item is left.
   pub reads-none : left ≡ 0 → ReadAll input w p a b (read-stored input) (outcome.Refused 14)
   unfolding run
-  reads-none e = record { same = h .same ∙ ap (λ (m : ℕ). run store-values m (atOf input w p a b r)) e; ends = tt }
+  reads-none e = record { same = h .same ∙ ap (λ (m : ℕ). run store-values m (reader-at input w p a b r)) e; ends = tt }
 
   module _ (some-left : 0 < left) (w′ p′ a′ b′ : List ℕ) where
     stepped : (i : Item) → Stepped input w p a b r w′ p′ a′ b′ i
-        → read-stored input ≡ then store-values (itemOf input w′ p′ a′ b′ i) (λ c. run store-values (left - 1) c)
+        → read-stored input ≡ then store-values (item-of input w′ p′ a′ b′ i) (λ c. run store-values (left - 1) c)
     stepped i s =
-        h .same ∙ run-more left (atOf input w p a b r) some-left
+        h .same ∙ run-more left (reader-at input w p a b r) some-left
         ∙ ap (λ (x : Step Stored). then store-values x (λ c. run store-values (left - 1) c)) (s .same)
 
     pub reads-go : (i : Item) (r′ : Reader) → i ≡ item.Go r′ → Stepped input w p a b r w′ p′ a′ b′ i → Reads input w′ p′ a′ b′ r′ (left - 1)

@@ -4,7 +4,7 @@ use mathlib.Core.Path.{_≡_}
 use mathlib.Core.List.{List}
 use Rattle.spec_reading.specs.Format.{Read, accepted, turned-down}
 use Rattle.spec_reading.specs.Store.{Stored}
-use Rattle.read_item.specs.Whole.{storedOf, Ends}
+use Rattle.read_item.specs.Whole.{stored-of, Ends}
 use Rattle.read_item.specs.declared.settle.Reader.{Reader}
 use Rattle.read_call.specs.declared.read_items.Outcome.{Outcome}
 use Rattle.read_call.specs.declared.read_items.Outcome.the-variants as outcome
@@ -13,9 +13,9 @@ use Rattle.read_call.specs.declared.read_items.Outcome.the-variants as o
 abbrev pub start : Reader
 start = record { position = 0; ops = 0; values = 0; listed = 0; pairs = 0; atoms = 0; bytes = 0; ghosts = 0 }
 
-abbrev pub outcomeOf : (w p a b : List ℕ) → Outcome → Read Stored
-outcomeOf w p a b (outcome.Accepted r) = accepted (storedOf w p a b r)
-outcomeOf w p a b (outcome.Refused n) = turned-down n
+abbrev pub outcome-of : (w p a b : List ℕ) → Outcome → Read Stored
+outcome-of w p a b (outcome.Accepted r) = accepted (stored-of w p a b r)
+outcome-of w p a b (outcome.Refused n) = turned-down n
 
 abbrev pub EndsOutcome : (input w p a b : List ℕ) → Outcome → Type 0
 EndsOutcome input w p a b (outcome.Accepted r) = Ends input w p a b r
@@ -23,5 +23,5 @@ EndsOutcome input w p a b (outcome.Refused n) = Unit {0}
 
 -- Everything was read as the definition says.
 pub record ReadAll (input w p a b : List ℕ) (definition : Read Stored) (o : Outcome) : Type 0 where
-  pub same : definition ≡ outcomeOf w p a b o
+  pub same : definition ≡ outcome-of w p a b o
   pub ends : EndsOutcome input w p a b o

@@ -41,7 +41,7 @@ use denote.Triple.Table.{entered, cited}
 use denote.Triple.Walked.{says, Stays, stay-none, stay-none-slice, walkOf, goes-none, goes-none-slice, Walks, ends-at, walked, walk-meets}
 use denote.Exit.{yes}
 use denote.Triple.Clauses.{ensured, lasts}
-use Rattle.read_cursor.specs.Heads.{There, byte-at, prefix-of, parsed, head-at, headOf}
+use Rattle.read_cursor.specs.Heads.{There, byte-at, prefix-of, parsed, head-at, there-of}
 use Rattle.read_cursor.specs.declared.Cursor.{Cursor}
 use Rattle.read_cursor.specs.declared.First.{First}
 use Rattle.read_cursor.specs.declared.Head.{Head}
@@ -180,11 +180,11 @@ module _ {M : Type 1} (𝓤 : URA M) (H : Heap 𝓤) (A : Atoms 𝓤) (W : Given
       qed W (‵ (B (κ, tt) .own r (u ∷ [])) ∷ (‵ (flft κ q) ⊛ ‵ ftrue) ∷ []) ∵
       nothing ! $ owned ! F.the-row (Is F.the-row) (EL.makes F.the-type F′.the-plain 𝓤 H A) f _ is $ fjoin ! $ move ! (1 ∷ 0 ∷ []) $ fjoin ! $ move ! (1 ∷ 0 ∷ []) $ join ! $ frame ! $ done !
 
-  parse-said : (r : Cursor) (f : First) (h : Head) → ent 𝓤 (ensured 𝓤 H A parse′.ended (parse′.clauses 𝓤 H A mem run) (κ, tt) (r, (f, tt)) tt h) (fact 𝓤 (headOf h ≡ parsed f (now (r .input)) (r .position)))
-  parse-said r f h = exE 𝓤 _ (λ ws. snd∗ 𝓤 (sem 𝓤 H A (lasts parse′.ended (κ, tt) (r, (f, tt)) ws)) (fact 𝓤 (headOf h ≡ parsed f (now (r .input)) (r .position))))
+  parse-said : (r : Cursor) (f : First) (h : Head) → ent 𝓤 (ensured 𝓤 H A parse′.ended (parse′.clauses 𝓤 H A mem run) (κ, tt) (r, (f, tt)) tt h) (fact 𝓤 (there-of h ≡ parsed f (now (r .input)) (r .position)))
+  parse-said r f h = exE 𝓤 _ (λ ws. snd∗ 𝓤 (sem 𝓤 H A (lasts parse′.ended (κ, tt) (r, (f, tt)) ws)) (fact 𝓤 (there-of h ≡ parsed f (now (r .input)) (r .position))))
 
   -- the four answers together
-  together : (f : First) (n : ℕ) (r : Cursor) (h : Head) → f ≡ here → n ≡ prefix-of f → (r .input ≡ s) × (r .position ≡ p + n) → headOf h ≡ parsed f (now (r .input)) (r .position) → headOf h ≡ found
+  together : (f : First) (n : ℕ) (r : Cursor) (h : Head) → f ≡ here → n ≡ prefix-of f → (r .input ≡ s) × (r .position ≡ p + n) → there-of h ≡ parsed f (now (r .input)) (r .position) → there-of h ≡ found
   together f n r h ef en er eh =
       eh ∙ ap (λ (x : RefT (List ℕ)). parsed f (now x) (r .position)) (er .0) ∙ ap (parsed f (now s)) (er .1) ∙ ap (λ (m : ℕ). parsed f (now s) (p + m)) en
       ∙ ap (λ (x : First). parsed x (now s) (p + prefix-of x)) ef ∙ head-is (now s) p
@@ -192,7 +192,7 @@ module _ {M : Type 1} (𝓤 : URA M) (H : Heap 𝓤) (A : Atoms 𝓤) (W : Given
   may-advance : (f : First) (n : ℕ) → length (now s) < 2 ^ 64 → f ≡ here → n ≡ prefix-of f → p + n < 2 ^ 64
   may-advance f n long ef en = subst (λ (m : ℕ). p + m < 2 ^ 64) (sym (en ∙ ap prefix-of ef)) (advance-fits (now s) p long ok)
 
-  exits : (h : Head) (u : Val) → headOf h ≡ found → ent 𝓤 (⋆ 𝓤 H A (‵ (S.the-row .own h (u ∷ [])) ∷ (‵ (flft κ q) ⊛ ‵ ftrue) ∷ ‵ Own ∷ [])) (Post u)
+  exits : (h : Head) (u : Val) → there-of h ≡ found → ent 𝓤 (⋆ 𝓤 H A (‵ (S.the-row .own h (u ∷ [])) ∷ (‵ (flft κ q) ⊛ ‵ ftrue) ∷ ‵ Own ∷ [])) (Post u)
   exits h u e =
       qed W (‵ (S.the-row .own h (u ∷ [])) ∷ (‵ (flft κ q) ⊛ ‵ ftrue) ∷ ‵ Own ∷ []) ∵
       suffices ! _ (ends-at 𝓤 H A head.ended stayed (head.clauses 𝓤 H A mem run) W (((κ, tt), (q, tt), tt, (s, (p, tt)), at), tt) u h (tt, (tt, tt)) (tt, (tt, tt))) $ says ! e $
@@ -234,7 +234,7 @@ module _ {M : Type 1} (𝓤 : URA M) (H : Heap 𝓤) (A : Atoms 𝓤) (W : Given
         use2 W (raw (Parse 𝓤 H A mem run .pre (to-parse r u₃ f u₁))) (goes-parse r u₃ f u₁ f-is) $
         calls-at ! fm (Parse 𝓤 H A mem run) known-parse (to-parse r u₃ f u₁) (and-then ! (load ! (from ! (stop !)) (look ! 2 refl)) (and-then ! (load ! (from ! (stop !)) (look ! 12 refl)) (no-more !))) (λ u₄.
         use1 W (later (some (λ (h : Head). ((‵ (flft κ q) ⊛ ‵ ftrue) ⊛ ‵ (S.the-row .own h (u₄ ∷ []))) ⊛ raw (ensured 𝓤 H A parse′.ended (parse′.clauses 𝓤 H A mem run) (κ, tt) (r, (f, tt)) tt h)))) (id⊢ 𝓤 _) $ await ! tt $ pick ! (λ h.
-        split ! $ move ! (1 ∷ []) $ use1 W (raw (fact 𝓤 (headOf h ≡ parsed f (now (r .input)) (r .position)))) (parse-said r f h) $ heard ! (headOf h ≡ parsed f (now (r .input)) (r .position)) (λ eh. split ! $ move ! (1 ∷ []) $
+        split ! $ move ! (1 ∷ []) $ use1 W (raw (fact 𝓤 (there-of h ≡ parsed f (now (r .input)) (r .position)))) (parse-said r f h) $ heard ! (there-of h ≡ parsed f (now (r .input)) (r .position)) (λ eh. split ! $ move ! (1 ∷ []) $
         -- [the result; the token; what the input owns; _9; …]
         peeks ! S.the-row (Is S.the-row) (shows 𝓤 H A S.the-row) h (u₄ ∷ []) (λ h-is.
         land ! (from ! (stop !)) (init ! 21 refl (EL.lawful S.the-type S′.the-laws 𝓤 H A W tt .typed h _ h-is .0)) $

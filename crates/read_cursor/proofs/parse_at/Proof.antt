@@ -1,7 +1,7 @@
 -- `read_cursor::parse_at` meets its contract.
 -- Assumes nothing.
 use borrow.Author.Needs.{needs}
-use Rattle.atom_decode.specs.Answers.{parseOf}
+use Rattle.atom_decode.specs.Answers.{parse-of}
 use Rattle.read_cursor.proofs.Steps as steps
 use Rattle.read_cursor.proofs.parse_at.Statement.{statement}
 use Rattle.read_cursor.proofs.parse_at.Tie as tie
@@ -19,7 +19,7 @@ returns-2 : tie.Need-returns-2
 returns-2 c =
     let g = c .before .before .before .before .first .given in
     let s = c .before .before .before .before .before .before .before in
-    steps.parsed-path (s .args .first) (g .0 .0) (g .1) (s .args .input .now) (s .args .position) (parseOf (c .before .parse-atom .result)) (c .before .parse-atom .ensures) (c .before .before .if1 .left) (c .if2 .taken)
+    steps.parsed-path (s .args .first) (g .0 .0) (g .1) (s .args .input .now) (s .args .position) (parse-of (c .before .parse-atom .result)) (c .before .parse-atom .ensures) (c .before .before .if1 .left) (c .if2 .taken)
 
 enum-told : tie.Need-enum-told
 enum-told c = search needs
@@ -28,7 +28,7 @@ returns-3 : tie.Need-returns-3
 returns-3 c =
     let g = c .before .before .before .before .first .given in
     let s = c .before .before .before .before .before .before .before in
-    steps.parsed-atom (s .args .first) (g .0 .0) (g .1) (s .args .input .now) (s .args .position) (parseOf (c .before .parse-atom .result)) (c .before .parse-atom .ensures) (c .before .before .if1 .left) (c .if2 .left)
+    steps.parsed-atom (s .args .first) (g .0 .0) (g .1) (s .args .input .now) (s .args .position) (parse-of (c .before .parse-atom .result)) (c .before .parse-atom .ensures) (c .before .before .if1 .left) (c .if2 .left)
 
 returns-4 : tie.Need-returns-4
 returns-4 c = search needs

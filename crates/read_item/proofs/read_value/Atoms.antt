@@ -14,11 +14,11 @@ use Rattle.spec_reading.specs.Format.{ParseOp, SExp, stop, settle, atom-item}
 use Rattle.spec_reading.specs.Store.{Store, Stored, small-or-listed, new-atom, push-made, store-values}
 use Rattle.spec_reading.specs.Sound.{Sound, unlisted, sound-atom}
 use Rattle.spec_reading.specs.Blobs.{Within, blob-within, length-blob}
-use Rattle.read_store.specs.Layout.{opsOf, valuesOf}
+use Rattle.read_store.specs.Layout.{ops-of, values-of}
 use Rattle.read_item.specs.declared.settle.Reader.{Reader}
 use Rattle.read_item.specs.declared.settle.Item.{Item}
 use Rattle.read_item.specs.State.{Ready, Next}
-use Rattle.read_item.specs.Whole.{storedOf, Lent, Stands}
+use Rattle.read_item.specs.Whole.{stored-of, Lent, Stands}
 use Rattle.read_item.specs.Values.{AtomRoom, AtomPushed, SteppedAtom}
 use Rattle.read_item.proofs.settle.Joins.{length-ops, stored-is}
 use Rattle.read_item.proofs.read_value.Lending.{Counts, counts, lent-after, item-same, item-stands}
@@ -82,13 +82,13 @@ same-ghosts (some v) b s = refl
 
 module _ (w p a b : List ℕ) (r : Reader) (bytes : List ℕ) (end : ℕ) (w′ a′ b′ : List ℕ) (r′ : Reader) (h : AtomPushed w a b r bytes end w′ a′ b′ r′) where
   st : Store
-  st = storedOf w p a b r .store
+  st = stored-of w p a b r .store
 
-  pub pushed-is : store-values .push-atom bytes (storedOf w p a b r) ≡ storedOf w′ p a′ b′ r′
+  pub pushed-is : store-values .push-atom bytes (stored-of w p a b r) ≡ stored-of w′ p a′ b′ r′
   unfolding st
   pushed-is =
-      stored-is (push-made (new-atom bytes st) (valuesOf w (r .values))) (valuesOf w′ (r′ .values)) (take (2 * r′ .pairs) p) (take (2 * r′ .atoms) a′) (take (r′ .bytes) b′) (r′ .ghosts)
-      (ap (λ (n : ℕ). record { node = n; list = none } ∷ valuesOf w (r .values)) (sym (h .stored .node-is st refl)) ∙ sym (h .pushed .values) ∙ ap (valuesOf w′) (sym (h .values)))
+      stored-is (push-made (new-atom bytes st) (values-of w (r .values))) (values-of w′ (r′ .values)) (take (2 * r′ .pairs) p) (take (2 * r′ .atoms) a′) (take (r′ .bytes) b′) (r′ .ghosts)
+      (ap (λ (n : ℕ). record { node = n; list = none } ∷ values-of w (r .values)) (sym (h .stored .node-is st refl)) ∙ sym (h .pushed .values) ∙ ap (values-of w′) (sym (h .values)))
       (same-pairs (fits-in-small-atom bytes) bytes st ∙ ap (λ (n : ℕ). take (2 * n) p) (sym (h .pairs)))
       (sym (h .stored .atoms-are st refl refl)) (sym (h .stored .bytes-are st refl))
       (ap (λ (n : ℕ). n + 1) (same-ghosts (fits-in-small-atom bytes) bytes st) ∙ sym (h .ghosts))
@@ -100,7 +100,7 @@ module _ (input w p a b : List ℕ) (r : Reader) (h : Stands input w p a b r) (s
   atom-bytes = blob-of input (blob start end)
 
   limits : Counts r (r .position)
-  limits = counts input w p a b r (SExp ∷ opsOf w (r .ops)) (r .position) (h .lent) (omega (arith, length-ops w (r .ops))) (h .sound)
+  limits = counts input w p a b r (SExp ∷ ops-of w (r .ops)) (r .position) (h .lent) (omega (arith, length-ops w (r .ops))) (h .sound)
 
   short-blob : length atom-bytes ≤ f .size
   short-blob = rw (f .bytes-are) (length-blob (drop (r .position) input) (f .from) (f .size) (f .within))
@@ -121,8 +121,8 @@ module _ (input w p a b : List ℕ) (r : Reader) (h : Stands input w p a b r) (s
       }
 
   module _ (w′ a′ b′ : List ℕ) (r′ : Reader) (k : AtomPushed w a b r atom-bytes end w′ a′ b′ r′) (lw : length w′ ≡ length w) (la : length a′ ≡ length a) (lb : length b′ ≡ length b) where
-    ops-are : opsOf w′ (r′ .ops) ≡ opsOf w (r .ops)
-    ops-are = ap (opsOf w′) (k .ops) ∙ k .pushed .ops (r .ops) (omega (arith, limits .ops, h .lent .inside, h .lent .short, inside-end, f .end-is, f .within .some-byte))
+    ops-are : ops-of w′ (r′ .ops) ≡ ops-of w (r .ops)
+    ops-are = ap (ops-of w′) (k .ops) ∙ k .pushed .ops (r .ops) (omega (arith, limits .ops, h .lent .inside, h .lent .short, inside-end, f .end-is, f .within .some-byte))
 
     pub lent-pushed : Lent input w′ p a′ b′ r′
     lent-pushed =
@@ -131,12 +131,12 @@ module _ (input w p a b : List ℕ) (r : Reader) (h : Stands input w p a b r) (s
         (omega (arith, k .stored .atoms-grow .1, atom-room .atoms-room)) (k .stored .atoms-grow .0) (k .stored .atoms-rest)
         (omega (arith, k .stored .bytes-grow .1, atom-room .bytes-room)) (k .stored .bytes-grow .0) (k .stored .bytes-rest)
 
-    pub sound-pushed : Sound (r′ .position) (opsOf w′ (r′ .ops)) (storedOf w′ p a′ b′ r′)
+    pub sound-pushed : Sound (r′ .position) (ops-of w′ (r′ .ops)) (stored-of w′ p a′ b′ r′)
     sound-pushed =
-        subst (λ (n : ℕ). Sound n (opsOf w′ (r′ .ops)) (storedOf w′ p a′ b′ r′)) (sym (k .position ∙ f .end-is))
-        (subst (λ (o : List ParseOp). Sound (r .position + f .size) o (storedOf w′ p a′ b′ r′)) (sym ops-are)
-        (subst (Sound (r .position + f .size) (opsOf w (r .ops))) (pushed-is w p a b r atom-bytes end w′ a′ b′ r′ k)
-        (sound-atom (r .position) (f .size) (opsOf w (r .ops)) atom-bytes (storedOf w p a b r) (f .within .some-byte) short-blob (omega (arith, inside-end, f .end-is, h .lent .short)) (h .sound))))
+        subst (λ (n : ℕ). Sound n (ops-of w′ (r′ .ops)) (stored-of w′ p a′ b′ r′)) (sym (k .position ∙ f .end-is))
+        (subst (λ (o : List ParseOp). Sound (r .position + f .size) o (stored-of w′ p a′ b′ r′)) (sym ops-are)
+        (subst (Sound (r .position + f .size) (ops-of w (r .ops))) (pushed-is w p a b r atom-bytes end w′ a′ b′ r′ k)
+        (sound-atom (r .position) (f .size) (ops-of w (r .ops)) atom-bytes (stored-of w p a b r) (f .within .some-byte) short-blob (omega (arith, inside-end, f .end-is, h .lent .short)) (h .sound))))
 
     pub ready-pushed : Ready w′ p r′
     ready-pushed =
@@ -150,7 +150,7 @@ module _ (input w p a b : List ℕ) (r : Reader) (h : Stands input w p a b r) (s
           sound = sound-pushed;
           lists =
               record {
-                all = ap (λ (n : ℕ). unlisted (valuesOf w′ n)) (k .listed) ∙ ap unlisted (k .pushed .below (r .listed) (h .lists .few)) ∙ h .lists .all;
+                all = ap (λ (n : ℕ). unlisted (values-of w′ n)) (k .listed) ∙ ap unlisted (k .pushed .below (r .listed) (h .lists .few)) ∙ h .lists .all;
                 few = omega (arith, k .listed, k .values, h .lists .few);
               };
         }
@@ -162,11 +162,11 @@ module _ (input w p a b : List ℕ) (r : Reader) (h : Stands input w p a b r) (s
     atom-stepped w″ p″ i lw′ lp n =
         record {
           same =
-              ap (λ (z : Parse). atom-item store-values z (drop (r .position) input) (opsOf w (r .ops)) (storedOf w p a b r)) (f .parsed)
-              ∙ ap (λ (l : List ℕ). settle store-values (drop (f .size) (drop (r .position) input)) (opsOf w (r .ops)) (store-values .push-atom l (storedOf w p a b r))) (sym (f .bytes-are))
-              ∙ ap (λ (x : Stored). settle store-values (drop (f .size) (drop (r .position) input)) (opsOf w (r .ops)) x) (pushed-is w p a b r atom-bytes end w′ a′ b′ r′ k)
-              ∙ ap (λ (l : List ℕ). settle store-values l (opsOf w (r .ops)) (storedOf w′ p a′ b′ r′)) rest-is
-              ∙ ap (λ (o : List ParseOp). settle store-values (drop (r′ .position) input) o (storedOf w′ p a′ b′ r′)) (sym ops-are)
+              ap (λ (z : Parse). atom-item store-values z (drop (r .position) input) (ops-of w (r .ops)) (stored-of w p a b r)) (f .parsed)
+              ∙ ap (λ (l : List ℕ). settle store-values (drop (f .size) (drop (r .position) input)) (ops-of w (r .ops)) (store-values .push-atom l (stored-of w p a b r))) (sym (f .bytes-are))
+              ∙ ap (λ (x : Stored). settle store-values (drop (f .size) (drop (r .position) input)) (ops-of w (r .ops)) x) (pushed-is w p a b r atom-bytes end w′ a′ b′ r′ k)
+              ∙ ap (λ (l : List ℕ). settle store-values l (ops-of w (r .ops)) (stored-of w′ p a′ b′ r′)) rest-is
+              ∙ ap (λ (o : List ParseOp). settle store-values (drop (r′ .position) input) o (stored-of w′ p a′ b′ r′)) (sym ops-are)
               ∙ n .same (take (2 * r′ .atoms) a′) (take (r′ .bytes) b′) ∙ item-same input w′ p r′ a′ b′ w″ p″ lent-pushed lw′ lp sound-pushed i (n .follows);
           stands = item-stands input w′ p r′ a′ b′ w″ p″ lent-pushed lw′ lp sound-pushed i (n .follows);
         }
@@ -176,6 +176,6 @@ module _ (input w p a b : List ℕ) (r : Reader) (h : Stands input w p a b r) (s
 
 -- The parser's refusal is the definition's.
 pub atom-refused : (input w p a b : List ℕ) (r : Reader) (n : ℕ) → refused n ≡ parse-at input (r .position)
-    → atom-item store-values (parse (drop (r .position) input)) (drop (r .position) input) (opsOf w (r .ops)) (storedOf w p a b r) ≡ stop n
+    → atom-item store-values (parse (drop (r .position) input)) (drop (r .position) input) (ops-of w (r .ops)) (stored-of w p a b r) ≡ stop n
 atom-refused input w p a b r n e =
-    ap (λ (z : Parse). atom-item store-values z (drop (r .position) input) (opsOf w (r .ops)) (storedOf w p a b r)) (refused-at input (r .position) n e)
+    ap (λ (z : Parse). atom-item store-values z (drop (r .position) input) (ops-of w (r .ops)) (stored-of w p a b r)) (refused-at input (r .position) n e)

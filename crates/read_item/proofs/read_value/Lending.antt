@@ -9,14 +9,14 @@ use lib.Seq.{drop-drop, length-take-le}
 use Rattle.spec_reading.specs.Format.{ParseOp, SExp, Step, go, whole}
 use Rattle.spec_reading.specs.Store.{Stored}
 use Rattle.spec_reading.specs.Sound.{Sound}
-use Rattle.read_store.specs.Layout.{opsOf}
+use Rattle.read_store.specs.Layout.{ops-of}
 use Rattle.read_store.proofs.reader_stacks.Stacks.{length-values}
 use Rattle.read_store.proofs.Stored.{half}
 use Rattle.read_item.specs.declared.settle.Reader.{Reader}
 use Rattle.read_item.specs.declared.settle.Item.{Item}
 use Rattle.read_item.specs.declared.settle.Item.the-variants as item
-use Rattle.read_item.specs.State.{storedWith, Follows, itemWith, FollowsItem}
-use Rattle.read_item.specs.Whole.{storedOf, zeros-from, itemOf, Lent, StandsItem}
+use Rattle.read_item.specs.State.{stored-with, Follows, item-with, FollowsItem}
+use Rattle.read_item.specs.Whole.{stored-of, zeros-from, item-of, Lent, StandsItem}
 
 drop-zeros : (m k : ℕ) → drop {A = ℕ} m (replicate k 0) ≡ replicate (k - m) 0
 drop-zeros zero zero = refl
@@ -52,7 +52,7 @@ pub record Counts (r : Reader) (used : ℕ) : Type 0 where
   pub bytes : r .bytes ≤ used
   pub ops : r .ops ≤ 2 * used + 1
 
-pub counts : (input w p a b : List ℕ) (r : Reader) (ops : List ParseOp) (used : ℕ) → Lent input w p a b r → r .ops ≤ length ops → Sound used ops (storedOf w p a b r) → Counts r used
+pub counts : (input w p a b : List ℕ) (r : Reader) (ops : List ParseOp) (used : ℕ) → Lent input w p a b r → r .ops ≤ length ops → Sound used ops (stored-of w p a b r) → Counts r used
 counts input w p a b r ops used h few s =
     let n : length (take (2 * r .pairs) p) / 2 ≡ r .pairs = half p (take (2 * r .pairs) p) (r .pairs) (h .pairs-in) refl in
     let m : length (take (2 * r .atoms) a) / 2 ≡ r .atoms = half a (take (2 * r .atoms) a) (r .atoms) (h .atoms-in) refl in
@@ -90,18 +90,18 @@ lent-after input w p a b r w′ p′ a′ b′ r′ h lw lp la lb inside pi pm p
 
 -- From the joins' view, with the atoms and bytes of a reader, to the whole reader.
 module _ (input w p : List ℕ) (r : Reader) (a b : List ℕ) (w′ p′ : List ℕ) (lent : Lent input w p a b r) (lw : length w′ ≡ length w) (lp : length p′ ≡ length p)
-    (sound : Sound (r .position) (opsOf w (r .ops)) (storedOf w p a b r)) where
-  stored-same : (s : Reader) → Follows p r p′ s → storedWith w′ p′ (take (2 * r .atoms) a) (take (r .bytes) b) s ≡ storedOf w′ p′ a b s
+    (sound : Sound (r .position) (ops-of w (r .ops)) (stored-of w p a b r)) where
+  stored-same : (s : Reader) → Follows p r p′ s → stored-with w′ p′ (take (2 * r .atoms) a) (take (r .bytes) b) s ≡ stored-of w′ p′ a b s
   stored-same s f =
-      ap (λ (n : ℕ). storedWith w′ p′ (take (2 * n) a) (take (r .bytes) b) s) (sym (f .atoms)) ∙ ap (λ (n : ℕ). storedWith w′ p′ (take (2 * s .atoms) a) (take n b) s) (sym (f .bytes))
+      ap (λ (n : ℕ). stored-with w′ p′ (take (2 * n) a) (take (r .bytes) b) s) (sym (f .atoms)) ∙ ap (λ (n : ℕ). stored-with w′ p′ (take (2 * s .atoms) a) (take n b) s) (sym (f .bytes))
 
   lent-same : (s : Reader) → Follows p r p′ s → Lent input w′ p′ a b s
   lent-same s f =
       lent-after input w p a b r w′ p′ a b s lent lw lp refl refl (omega (arith, f .position, lent .inside)) (f .pairs-in) (f .more) (f .pairs-rest)
       (omega (arith, f .atoms, lent .atoms-in)) (omega (arith, f .atoms)) refl (omega (arith, f .bytes, lent .bytes-in)) (omega (arith, f .bytes)) refl
 
-  pub item-same : (i : Item) → FollowsItem w p r w′ p′ i → itemWith input w′ p′ (take (2 * r .atoms) a) (take (r .bytes) b) i ≡ itemOf input w′ p′ a b i
-  item-same (item.Go s) f = ap (λ (x : Stored). go (record { rest = drop (s .position) input; ops = opsOf w′ (s .ops); values = x })) (stored-same s (f .0))
+  pub item-same : (i : Item) → FollowsItem w p r w′ p′ i → item-with input w′ p′ (take (2 * r .atoms) a) (take (r .bytes) b) i ≡ item-of input w′ p′ a b i
+  item-same (item.Go s) f = ap (λ (x : Stored). go (record { rest = drop (s .position) input; ops = ops-of w′ (s .ops); values = x })) (stored-same s (f .0))
   item-same (item.Whole s) f = ap {B = Step Stored} whole (stored-same s (f .0))
   item-same (item.Refused n) f = refl
 
@@ -109,14 +109,14 @@ module _ (input w p : List ℕ) (r : Reader) (a b : List ℕ) (w′ p′ : List 
   item-stands (item.Go s) f =
       record {
         lent = lent-same s (f .0);
-        sound = subst (λ (n : ℕ). Sound n (SExp ∷ opsOf w′ (s .ops)) (storedOf w′ p′ a b s)) (sym (f .0 .position))
-            (subst (Sound (r .position) (SExp ∷ opsOf w′ (s .ops))) (stored-same s (f .0)) (f .1 (take (2 * r .atoms) a) (take (r .bytes) b) sound));
+        sound = subst (λ (n : ℕ). Sound n (SExp ∷ ops-of w′ (s .ops)) (stored-of w′ p′ a b s)) (sym (f .0 .position))
+            (subst (Sound (r .position) (SExp ∷ ops-of w′ (s .ops))) (stored-same s (f .0)) (f .1 (take (2 * r .atoms) a) (take (r .bytes) b) sound));
         lists = f .2;
       }
   item-stands (item.Whole s) f =
       record {
         lent = lent-same s (f .0);
-        sound = subst (λ (n : ℕ). Sound n [] (storedOf w′ p′ a b s)) (sym (f .0 .position))
+        sound = subst (λ (n : ℕ). Sound n [] (stored-of w′ p′ a b s)) (sym (f .0 .position))
             (subst (Sound (r .position) []) (stored-same s (f .0)) (f .1 (take (2 * r .atoms) a) (take (r .bytes) b) sound));
       }
   item-stands (item.Refused n) f = tt

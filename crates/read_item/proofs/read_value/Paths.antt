@@ -19,7 +19,7 @@ use Rattle.spec_reading.specs.Store.{Store, Value, Stored, Listed, Led, add-to-
 use Rattle.spec_reading.specs.Sound.{Sound, Known, KnownHandle, KnownValue, sound-path-some}
 use Rattle.spec_reading.specs.Sound as sound-law
 use Rattle.spec_reading.specs.Blobs.{Within, length-blob}
-use Rattle.read_store.specs.Layout.{VALUES, opsOf, valuesOf, PushedValue}
+use Rattle.read_store.specs.Layout.{VALUES, ops-of, values-of, PushedValue}
 use Rattle.read_store.proofs.reader_stacks.Stacks.{ops-same}
 use Rattle.read_store.proofs.Stored.{half}
 use Rattle.read_path.specs.Answers as walk-law
@@ -27,7 +27,7 @@ use Rattle.read_path.specs.Lists.{HaveLists}
 use Rattle.read_path.specs.Leads as leads
 use Rattle.read_path.specs.declared.stack_list.Built.{Built}
 use Rattle.read_item.specs.declared.settle.Reader.{Reader}
-use Rattle.read_item.specs.State.{storedWith, Ready}
+use Rattle.read_item.specs.State.{stored-with, Ready}
 use Rattle.read_item.specs.Values.{node-pushed, BeforePath, PathFound, path-there, PathPushed}
 use Rattle.read_item.proofs.settle.Joins.{length-ops, stored-is, Room, room}
 use Rattle.read_item.proofs.read_value.Atoms.{Found, found-at, refused-at}
@@ -66,8 +66,8 @@ known-within p a (listed-atom i) k = tt
 known-within p a (small-atom v) k = tt
 known-within p a (unknown j i) k = tt
 
-values-known : (p a : ℕ) (w : List ℕ) (n : ℕ) → All (KnownValue p a) (valuesOf w n) → (k : ℕ) → k < n → KnownHandle p a (at w (VALUES + 2 * k))
-unfolding valuesOf
+values-known : (p a : ℕ) (w : List ℕ) (n : ℕ) → All (KnownValue p a) (values-of w n) → (k : ℕ) → k < n → KnownHandle p a (at w (VALUES + 2 * k))
+unfolding values-of
 values-known p a w zero h k l = absurd (omega arith)
 values-known p a w (suc n) h k l = by-eq (ℕ-discrete k n) (λ m. values-known p a w n (h .1) k m)
   where
@@ -79,8 +79,8 @@ module _ (input w p : List ℕ) (r : Reader) (h : BeforePath input w p r) where
   count : length (take (2 * r .pairs) p) / 2 ≡ r .pairs
   count = half p (take (2 * r .pairs) p) (r .pairs) (h .pairs-in) refl
 
-  has : Room w p r (sound-law.conses (SExp ∷ opsOf w (r .ops)))
-  has = room w p (h .atoms) (h .bytes) r (SExp ∷ opsOf w (r .ops)) (omega (arith, h .inside, h .short)) (h .pairs-in) (omega (arith, length-ops w (r .ops))) (h .sound)
+  has : Room w p r (sound-law.conses (SExp ∷ ops-of w (r .ops)))
+  has = room w p (h .atoms) (h .bytes) r (SExp ∷ ops-of w (r .ops)) (omega (arith, h .inside, h .short)) (h .pairs-in) (omega (arith, length-ops w (r .ops))) (h .sound)
 
   pub walkable : leads.Walkable w p (r .values) (r .listed) (r .pairs) (r .ghosts)
   walkable =
@@ -137,57 +137,57 @@ module _ (input w p : List ℕ) (r : Reader) (h : BeforePath input w p r) where
     bits = read-path path-bytes
 
     -- what the definition does with it
-    there-is : (a b : List ℕ) → path-there input w p a b r ≡ pushed store-values (store-values .push-path bits (storedWith w p a b r)) (drop end input) (opsOf w (r .ops))
+    there-is : (a b : List ℕ) → path-there input w p a b r ≡ pushed store-values (store-values .push-path bits (stored-with w p a b r)) (drop end input) (ops-of w (r .ops))
     there-is a b =
-        ap (λ (y : Parse). path-item store-values y (drop (r .position + 1) input) (opsOf w (r .ops)) (storedWith w p a b r)) (at-path .parsed)
-        ∙ ap (λ (l : List ℕ). pushed store-values (store-values .push-path (read-path l) (storedWith w p a b r)) (drop (at-path .size) (drop (r .position + 1) input)) (opsOf w (r .ops))) (sym bytes-there)
-        ∙ ap (λ (l : List ℕ). pushed store-values (store-values .push-path bits (storedWith w p a b r)) l (opsOf w (r .ops))) (drop-drop (at-path .size) (r .position + 1) input ∙ ap (λ (n : ℕ). drop n input) (sym (at-path .end-is)))
+        ap (λ (y : Parse). path-item store-values y (drop (r .position + 1) input) (ops-of w (r .ops)) (stored-with w p a b r)) (at-path .parsed)
+        ∙ ap (λ (l : List ℕ). pushed store-values (store-values .push-path (read-path l) (stored-with w p a b r)) (drop (at-path .size) (drop (r .position + 1) input)) (ops-of w (r .ops))) (sym bytes-there)
+        ∙ ap (λ (l : List ℕ). pushed store-values (store-values .push-path bits (stored-with w p a b r)) l (ops-of w (r .ops))) (drop-drop (at-path .size) (r .position + 1) input ∙ ap (λ (n : ℕ). drop n input) (sym (at-path .end-is)))
 
     abbrev led-with : (a b : List ℕ) → Led
-    led-with a b = leads.led bits (valuesOf w (r .values)) (storedWith w p a b r .store)
+    led-with a b = leads.led bits (values-of w (r .values)) (stored-with w p a b r .store)
 
-    pub path-into-atom : ((s : Store) → s .pairs ≡ take (2 * r .pairs) p → s .ghosts ≡ r .ghosts → leads.led bits (valuesOf w (r .values)) s .node ≡ none) → (a b : List ℕ) → path-there input w p a b r ≡ stop 16
+    pub path-into-atom : ((s : Store) → s .pairs ≡ take (2 * r .pairs) p → s .ghosts ≡ r .ghosts → leads.led bits (values-of w (r .values)) s .node ≡ none) → (a b : List ℕ) → path-there input w p a b r ≡ stop 16
     path-into-atom no-node a b =
         there-is a b
-        ∙ ap (λ (o : Option Stored). pushed store-values o (drop end input) (opsOf w (r .ops))) (push-path-is bits (storedWith w p a b r) ∙ ap (λ (o : Option ℕ). push-led o (led-with a b .stored)) (no-node (storedWith w p a b r .store) refl refl))
+        ∙ ap (λ (o : Option Stored). pushed store-values o (drop end input) (ops-of w (r .ops))) (push-path-is bits (stored-with w p a b r) ∙ ap (λ (o : Option ℕ). push-led o (led-with a b .stored)) (no-node (stored-with w p a b r .store) refl refl))
 
     module _ (w₁ p₁ : List ℕ) (b₁ : Built) (lw : length w₁ ≡ length w) (lp : length p₁ ≡ length p)
-        (l : (s : Store) → s .pairs ≡ take (2 * r .pairs) p → s .ghosts ≡ r .ghosts → leads.Leads w p (r .values) (r .pairs) (leads.led bits (valuesOf w (r .values)) s) w₁ p₁ b₁)
+        (l : (s : Store) → s .pairs ≡ take (2 * r .pairs) p → s .ghosts ≡ r .ghosts → leads.Leads w p (r .values) (r .pairs) (leads.led bits (values-of w (r .values)) s) w₁ p₁ b₁)
         (more : r .pairs ≤ b₁ .pairs) (total : b₁ .pairs + b₁ .ghosts ≡ r .pairs + r .ghosts)
         (w₂ : List ℕ) (lw₂ : length w₂ ≡ length w₁) (push : PushedValue w₁ w₂ (r .values) (b₁ .node .0)) where
-      ops-are : opsOf w₂ (r .ops) ≡ opsOf w (r .ops)
+      ops-are : ops-of w₂ (r .ops) ≡ ops-of w (r .ops)
       ops-are =
           push .ops (r .ops) (omega (arith, has .ops))
-          ∙ ops-same w w₁ (r .ops) (λ k q. l (storedWith w p [] [] r .store) refl refl .low k (omega (arith, has .ops)))
+          ∙ ops-same w w₁ (r .ops) (λ k q. l (stored-with w p [] [] r .store) refl refl .low k (omega (arith, has .ops)))
 
-      pushed-is : (a b : List ℕ) → store-values .push-path bits (storedWith w p a b r) ≡ some (storedWith w₂ p₁ a b (node-pushed r b₁ end))
+      pushed-is : (a b : List ℕ) → store-values .push-path bits (stored-with w p a b r) ≡ some (stored-with w₂ p₁ a b (node-pushed r b₁ end))
       pushed-is a b =
-          push-path-is bits (storedWith w p a b r) ∙ ap (λ (o : Option ℕ). push-led o (led-with a b .stored)) (k .node-is)
-          ∙ ap {B = Option Stored} some (stored-is _ (valuesOf w₂ (r .values + 1)) (take (2 * b₁ .pairs) p₁) a b (b₁ .ghosts + 1)
+          push-path-is bits (stored-with w p a b r) ∙ ap (λ (o : Option ℕ). push-led o (led-with a b .stored)) (k .node-is)
+          ∙ ap {B = Option Stored} some (stored-is _ (values-of w₂ (r .values + 1)) (take (2 * b₁ .pairs) p₁) a b (b₁ .ghosts + 1)
           (ap (λ (vs : List Value). record { node = b₁ .node .0; list = none } ∷ vs) (sym (k .values-are)) ∙ sym (push .values)) (sym (k .pairs-are))
-          (led-atoms bits (valuesOf w (r .values)) (storedWith w p a b r .store) .0) (led-atoms bits (valuesOf w (r .values)) (storedWith w p a b r .store) .1)
+          (led-atoms bits (values-of w (r .values)) (stored-with w p a b r .store) .0) (led-atoms bits (values-of w (r .values)) (stored-with w p a b r .store) .1)
           (ap (λ (n : ℕ). n + 1) (sym (k .ghosts-are))))
         where
           k : leads.Leads w p (r .values) (r .pairs) (led-with a b) w₁ p₁ b₁
-          k = l (storedWith w p a b r .store) refl refl
+          k = l (stored-with w p a b r .store) refl refl
 
       pub path-pushed : PathPushed input w p r w₂ p₁ (node-pushed r b₁ end)
       path-pushed =
           record {
             same = λ a b.
-                there-is a b ∙ ap (λ (o : Option Stored). pushed store-values o (drop end input) (opsOf w (r .ops))) (pushed-is a b)
-                ∙ ap (λ (ops : List ParseOp). settle store-values (drop end input) ops (storedWith w₂ p₁ a b (node-pushed r b₁ end))) (sym ops-are);
+                there-is a b ∙ ap (λ (o : Option Stored). pushed store-values o (drop end input) (ops-of w (r .ops))) (pushed-is a b)
+                ∙ ap (λ (ops : List ParseOp). settle store-values (drop end input) ops (stored-with w₂ p₁ a b (node-pushed r b₁ end))) (sym ops-are);
             kept = λ a b s.
-                subst (λ (n : ℕ). Sound n (opsOf w₂ (r .ops)) (storedWith w₂ p₁ a b (node-pushed r b₁ end))) place
-                (subst (λ (ops : List ParseOp). Sound (r .position + (at-path .size + 1)) ops (storedWith w₂ p₁ a b (node-pushed r b₁ end))) (sym ops-are)
-                (sound-path-some (r .position) (at-path .size + 1) (opsOf w (r .ops)) (storedWith w p a b r) (omega arith) (omega (arith, end-inside, at-path .end-is, h .short)) s bits
-                (storedWith w₂ p₁ a b (node-pushed r b₁ end)) (pushed-is a b)));
+                subst (λ (n : ℕ). Sound n (ops-of w₂ (r .ops)) (stored-with w₂ p₁ a b (node-pushed r b₁ end))) place
+                (subst (λ (ops : List ParseOp). Sound (r .position + (at-path .size + 1)) ops (stored-with w₂ p₁ a b (node-pushed r b₁ end))) (sym ops-are)
+                (sound-path-some (r .position) (at-path .size + 1) (ops-of w (r .ops)) (stored-with w p a b r) (omega arith) (omega (arith, end-inside, at-path .end-is, h .short)) s bits
+                (stored-with w₂ p₁ a b (node-pushed r b₁ end)) (pushed-is a b)));
             long-work = lw₂ ∙ lw;
             long-pairs = lp;
             inside = end-inside;
             pairs-in = omega (arith, has .pairs, h .room);
             more = more;
-            pairs-rest = l (storedWith w p [] [] r .store) refl refl .pairs-rest;
+            pairs-rest = l (stored-with w p [] [] r .store) refl refl .pairs-rest;
             atoms-same = refl;
             bytes-same = refl;
           }
@@ -196,7 +196,7 @@ module _ (input w p : List ℕ) (r : Reader) (h : BeforePath input w p r) where
           place = omega (arith, at-path .end-is)
 
       lists-led : HaveLists w₁ (b₁ .listed) (r .values)
-      lists-led = l (storedWith w p [] [] r .store) refl refl .lists
+      lists-led = l (stored-with w p [] [] r .store) refl refl .lists
 
       pub path-ready : Ready w₂ p₁ (node-pushed r b₁ end)
       path-ready =
@@ -214,4 +214,4 @@ module _ (input w p : List ℕ) (r : Reader) (h : BeforePath input w p r) where
 -- The parser's refusal is the definition's.
 pub path-turned-down : (input w p : List ℕ) (r : Reader) (n : ℕ) → refused n ≡ parse-at input (r .position + 1) → (a b : List ℕ) → path-there input w p a b r ≡ stop n
 path-turned-down input w p r n e a b =
-    ap (λ (y : Parse). path-item store-values y (drop (r .position + 1) input) (opsOf w (r .ops)) (storedWith w p a b r)) (refused-at input (r .position + 1) n e)
+    ap (λ (y : Parse). path-item store-values y (drop (r .position + 1) input) (ops-of w (r .ops)) (stored-with w p a b r)) (refused-at input (r .position + 1) n e)

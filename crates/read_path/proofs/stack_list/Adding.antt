@@ -11,7 +11,7 @@ use lib.Seq.{paste, getD-set-same, getD-set-other, drop-drop}
 use Rattle.words.specs.Words.{at}
 use Rattle.allocator.specs.Handle.{handle-of, pair, nil}
 use Rattle.spec_reading.specs.Store.{Store, Value, Listed, add-to-list, list-of}
-use Rattle.read_store.specs.Layout.{VALUES, listOf, valueAt, valuesOf}
+use Rattle.read_store.specs.Layout.{VALUES, cached-list, value-at, values-of}
 use Rattle.read_store.proofs.reader_stacks.Stacks.{values-same, values-more}
 use Rattle.read_store.proofs.Stored.{take-two, drop-two, half}
 use Rattle.read_path.specs.declared.stack_list.Built.{Built}
@@ -20,7 +20,7 @@ use Rattle.read_path.specs.Lists.{unlisted-of, Holds, Adds, Lists}
 
 -- ---- a list that the value has
 
-list-of-word : (n : ℕ) → (n ≡ 0 → ⊥) → listOf n ≡ some (n - 1)
+list-of-word : (n : ℕ) → (n ≡ 0 → ⊥) → cached-list n ≡ some (n - 1)
 list-of-word zero h = absurd (h refl)
 list-of-word (suc n) h = ap some less
   where
@@ -29,7 +29,7 @@ list-of-word (suc n) h = ap some less
 
 module _ (w p : List ℕ) (i : ℕ) (below b : Built) (listed : at w (VALUES + 2 * i + 1) ≡ 0 → ⊥) (node : b .node .0 ≡ at w (VALUES + 2 * i + 1) - 1)
     (pairs : b .pairs ≡ below .pairs) (ghosts : b .ghosts ≡ below .ghosts) (listed-is : b .listed ≡ i + 1) where
-  cached : listOf (at w (VALUES + 2 * i + 1)) ≡ some (b .node .0)
+  cached : cached-list (at w (VALUES + 2 * i + 1)) ≡ some (b .node .0)
   cached = list-of-word (at w (VALUES + 2 * i + 1)) listed ∙ ap some (sym node)
 
   pub adds-cached : Adds w p i below w p b
@@ -54,16 +54,16 @@ module _ (w p : List ℕ) (i : ℕ) (below : Built) (p′ : List ℕ) (b : Built
   kept : List ℕ
   kept = set w (VALUES + 2 * i + 1) (b .node .0 + 1)
 
-  none-yet : listOf (at w (VALUES + 2 * i + 1)) ≡ none
-  none-yet = ap listOf bare
+  none-yet : cached-list (at w (VALUES + 2 * i + 1)) ≡ none
+  none-yet = ap cached-list bare
 
   elsewhere : (k : ℕ) → (k ≡ VALUES + 2 * i + 1 → ⊥) → at kept k ≡ at w k
   unfolding kept
   elsewhere k q = getD-set-other w (VALUES + 2 * i + 1) k (b .node .0 + 1) 0 q
 
-  kept-list : listOf (at kept (VALUES + 2 * i + 1)) ≡ some (b .node .0)
+  kept-list : cached-list (at kept (VALUES + 2 * i + 1)) ≡ some (b .node .0)
   unfolding kept
-  kept-list = ap listOf (getD-set-same w (VALUES + 2 * i + 1) (b .node .0 + 1) 0 room ∙ add-one (b .node .0))
+  kept-list = ap cached-list (getD-set-same w (VALUES + 2 * i + 1) (b .node .0 + 1) 0 room ∙ add-one (b .node .0))
 
   made : (l : Listed) → Holds p below l → Holds p′ b (add-to-list none (at w (VALUES + 2 * i)) l)
   made l h =
@@ -94,10 +94,10 @@ module _ (w p : List ℕ) (i : ℕ) (below : Built) (p′ : List ℕ) (b : Built
 
 -- ---- the lowest values, one after the other
 
-unlisted-more : (w : List ℕ) (i : ℕ) → unlisted (valuesOf w (i + 1)) ≡ unlisted-of (valueAt w i .list) (unlisted (valuesOf w i))
+unlisted-more : (w : List ℕ) (i : ℕ) → unlisted (values-of w (i + 1)) ≡ unlisted-of (value-at w i .list) (unlisted (values-of w i))
 unlisted-more w i = ap unlisted (values-more w i)
 
-list-more : (w : List ℕ) (i : ℕ) (s : Store) → list-of (valuesOf w (i + 1)) s ≡ add-to-list (valueAt w i .list) (valueAt w i .node) (list-of (valuesOf w i) s)
+list-more : (w : List ℕ) (i : ℕ) (s : Store) → list-of (values-of w (i + 1)) s ≡ add-to-list (value-at w i .list) (value-at w i .node) (list-of (values-of w i) s)
 unfolding list-of
 list-more w i s = ap (λ (vs : List Value). list-of vs s) (values-more w i)
 
@@ -110,13 +110,13 @@ unlisted-least none n m k h = omega arith
 unlisted-least (some h) n m k l = omega arith
 
 -- More values have as many without a list, or more.
-pub unlisted-up : (w : List ℕ) (i k : ℕ) → unlisted (valuesOf w i) ≤ unlisted (valuesOf w (i + k))
-unlisted-up w i zero = omega (arith, ap (λ (n : ℕ). unlisted (valuesOf w n)) same)
+pub unlisted-up : (w : List ℕ) (i k : ℕ) → unlisted (values-of w i) ≤ unlisted (values-of w (i + k))
+unlisted-up w i zero = omega (arith, ap (λ (n : ℕ). unlisted (values-of w n)) same)
   where
     same : i ≡ i + 0
     same = omega arith
 unlisted-up w i (suc k) =
-    omega (arith, unlisted-up w i k, unlisted-more w (i + k), ap (λ (n : ℕ). unlisted (valuesOf w n)) next, grows (valueAt w (i + k) .list) (unlisted (valuesOf w (i + k))))
+    omega (arith, unlisted-up w i k, unlisted-more w (i + k), ap (λ (n : ℕ). unlisted (values-of w n)) next, grows (value-at w (i + k) .list) (unlisted (values-of w (i + k))))
   where
     next : i + k + 1 ≡ i + suc k
     next = omega arith
@@ -154,52 +154,52 @@ all-listed (v ∷ vs) s = one (v .list) (all-listed vs s)
     one (some h) e = omega (arith, e)
 
 -- Fewer of the lowest values have theirs too.
-pub fewer-listed : (w : List ℕ) (m n : ℕ) → m ≤ n → unlisted (valuesOf w n) ≡ 0 → unlisted (valuesOf w m) ≡ 0
-fewer-listed w m n h e = omega (arith, unlisted-up w m (n - m), ap (λ (k : ℕ). unlisted (valuesOf w k)) whole)
+pub fewer-listed : (w : List ℕ) (m n : ℕ) → m ≤ n → unlisted (values-of w n) ≡ 0 → unlisted (values-of w m) ≡ 0
+fewer-listed w m n h e = omega (arith, unlisted-up w m (n - m), ap (λ (k : ℕ). unlisted (values-of w k)) whole)
   where
     whole : m + (n - m) ≡ n
     whole = omega arith
 
 -- The topmost of such values has a list.
-pub top-listed : (w : List ℕ) (n : ℕ) → 0 < n → unlisted (valuesOf w n) ≡ 0 → at w (VALUES + 2 * (n - 1) + 1) ≡ 0 → ⊥
-top-listed w n h e z = absurd (omega (arith, unlisted-more w (n - 1), ap (λ (k : ℕ). unlisted (valuesOf w k)) less, bare))
+pub top-listed : (w : List ℕ) (n : ℕ) → 0 < n → unlisted (values-of w n) ≡ 0 → at w (VALUES + 2 * (n - 1) + 1) ≡ 0 → ⊥
+top-listed w n h e z = absurd (omega (arith, unlisted-more w (n - 1), ap (λ (k : ℕ). unlisted (values-of w k)) less, bare))
   where
     less : n - 1 + 1 ≡ n
     less = omega arith
 
-    bare : unlisted-of (valueAt w (n - 1) .list) (unlisted (valuesOf w (n - 1))) ≡ 1 + unlisted (valuesOf w (n - 1))
-    bare = ap (λ (k : ℕ). unlisted-of (listOf k) (unlisted (valuesOf w (n - 1)))) z
+    bare : unlisted-of (value-at w (n - 1) .list) (unlisted (values-of w (n - 1))) ≡ 1 + unlisted (values-of w (n - 1))
+    bare = ap (λ (k : ℕ). unlisted-of (cached-list k) (unlisted (values-of w (n - 1)))) z
 
 -- It is the list of them all.
-pub top-list : (w : List ℕ) (n : ℕ) → 0 < n → unlisted (valuesOf w n) ≡ 0 → (s : Store) → at w (VALUES + 2 * (n - 1) + 1) - 1 ≡ list-of (valuesOf w n) s .node
+pub top-list : (w : List ℕ) (n : ℕ) → 0 < n → unlisted (values-of w n) ≡ 0 → (s : Store) → at w (VALUES + 2 * (n - 1) + 1) - 1 ≡ list-of (values-of w n) s .node
 top-list w n h e s =
-    sym (ap (λ (k : ℕ). list-of (valuesOf w k) s .node) (sym less) ∙ ap (λ (l : Listed). l .node) (list-more w (n - 1) s)
-    ∙ ap (λ (o : Option ℕ). add-to-list o (valueAt w (n - 1) .node) (list-of (valuesOf w (n - 1)) s) .node)
+    sym (ap (λ (k : ℕ). list-of (values-of w k) s .node) (sym less) ∙ ap (λ (l : Listed). l .node) (list-more w (n - 1) s)
+    ∙ ap (λ (o : Option ℕ). add-to-list o (value-at w (n - 1) .node) (list-of (values-of w (n - 1)) s) .node)
     (list-of-word (at w (VALUES + 2 * (n - 1) + 1)) (top-listed w n h e)))
   where
     less : n - 1 + 1 ≡ n
     less = omega arith
 
-pub no-list : (w : List ℕ) (n : ℕ) → n ≡ 0 → (s : Store) → handle-of nil ≡ list-of (valuesOf w n) s .node
-unfolding valuesOf list-of
-no-list w n e s = ap (λ (k : ℕ). list-of (valuesOf w k) s .node) (sym e)
+pub no-list : (w : List ℕ) (n : ℕ) → n ≡ 0 → (s : Store) → handle-of nil ≡ list-of (values-of w n) s .node
+unfolding values-of list-of
+no-list w n e s = ap (λ (k : ℕ). list-of (values-of w k) s .node) (sym e)
 
 -- The lowest i of the values that have their lists.
-pub lists-start : (w p : List ℕ) (i listed used ghosts : ℕ) (b : Built) → i ≤ listed → unlisted (valuesOf w listed) ≡ 0 → ((s : Store) → b .node .0 ≡ list-of (valuesOf w i) s .node) → b .pairs ≡ used → b .ghosts ≡ ghosts → b .listed ≡ listed
+pub lists-start : (w p : List ℕ) (i listed used ghosts : ℕ) (b : Built) → i ≤ listed → unlisted (values-of w listed) ≡ 0 → ((s : Store) → b .node .0 ≡ list-of (values-of w i) s .node) → b .pairs ≡ used → b .ghosts ≡ ghosts → b .listed ≡ listed
     → Lists w p i listed used ghosts w p b
 lists-start w p i listed used ghosts b h a n u g m =
     record {
       node-is = λ s e f. n s;
-      values-are = λ s e f. sym (list-there (valuesOf w i) s (fewer-listed w i listed h a) .0);
-      pairs-are = λ s e f. ap (λ (k : ℕ). take (2 * k) p) u ∙ sym e ∙ ap (λ (t : Store). t .pairs) (sym (list-there (valuesOf w i) s (fewer-listed w i listed h a) .1));
-      ghosts-are = λ s e f. g ∙ sym f ∙ ap (λ (t : Store). t .ghosts) (sym (list-there (valuesOf w i) s (fewer-listed w i listed h a) .1));
+      values-are = λ s e f. sym (list-there (values-of w i) s (fewer-listed w i listed h a) .0);
+      pairs-are = λ s e f. ap (λ (k : ℕ). take (2 * k) p) u ∙ sym e ∙ ap (λ (t : Store). t .pairs) (sym (list-there (values-of w i) s (fewer-listed w i listed h a) .1));
+      ghosts-are = λ s e f. g ∙ sym f ∙ ap (λ (t : Store). t .ghosts) (sym (list-there (values-of w i) s (fewer-listed w i listed h a) .1));
       pairs-rest = refl;
       low = λ k l. refl;
       high = λ k l. refl;
       total = omega arith;
       more = omega arith;
       least = omega arith;
-      lists = λ k l _. record { all = ap (λ (j : ℕ). unlisted (valuesOf w j)) m ∙ a; few = omega arith };
+      lists = λ k l _. record { all = ap (λ (j : ℕ). unlisted (values-of w j)) m ∙ a; few = omega arith };
     }
 
 -- What is past n pairs is past more of them.
@@ -212,35 +212,35 @@ drop-more n m p q l e =
 
 module _ (w₀ p₀ : List ℕ) (listed used ghosts i : ℕ) (w p : List ℕ) (below : Built) (l : Lists w₀ p₀ i listed used ghosts w p below) (w′ p′ : List ℕ) (b : Built)
     (a : Adds w p i below w′ p′ b) where
-  same-value : valueAt w i ≡ valueAt w₀ i
-  same-value = λ j. record { node = l .high (VALUES + 2 * i) (omega arith) j; list = listOf (l .high (VALUES + 2 * i + 1) (omega arith) j) }
+  same-value : value-at w i ≡ value-at w₀ i
+  same-value = λ j. record { node = l .high (VALUES + 2 * i) (omega arith) j; list = cached-list (l .high (VALUES + 2 * i + 1) (omega arith) j) }
 
-  next-list : (s : Store) → add-to-list (valueAt w i .list) (valueAt w i .node) (list-of (valuesOf w₀ i) s) ≡ list-of (valuesOf w₀ (i + 1)) s
-  next-list s = ap (λ (v : Value). add-to-list (v .list) (v .node) (list-of (valuesOf w₀ i) s)) same-value ∙ sym (list-more w₀ i s)
+  next-list : (s : Store) → add-to-list (value-at w i .list) (value-at w i .node) (list-of (values-of w₀ i) s) ≡ list-of (values-of w₀ (i + 1)) s
+  next-list s = ap (λ (v : Value). add-to-list (v .list) (v .node) (list-of (values-of w₀ i) s)) same-value ∙ sym (list-more w₀ i s)
 
-  held : (s : Store) → s .pairs ≡ take (2 * used) p₀ → s .ghosts ≡ ghosts → Holds p below (list-of (valuesOf w₀ i) s)
+  held : (s : Store) → s .pairs ≡ take (2 * used) p₀ → s .ghosts ≡ ghosts → Holds p below (list-of (values-of w₀ i) s)
   held s e f = record { node-is = l .node-is s e f; pairs-are = l .pairs-are s e f; ghosts-are = l .ghosts-are s e f }
 
-  holds : (s : Store) → s .pairs ≡ take (2 * used) p₀ → s .ghosts ≡ ghosts → Holds p′ b (list-of (valuesOf w₀ (i + 1)) s)
-  holds s e f = subst (Holds p′ b) (next-list s) (a .list-is (list-of (valuesOf w₀ i) s) (held s e f))
+  holds : (s : Store) → s .pairs ≡ take (2 * used) p₀ → s .ghosts ≡ ghosts → Holds p′ b (list-of (values-of w₀ (i + 1)) s)
+  holds s e f = subst (Holds p′ b) (next-list s) (a .list-is (list-of (values-of w₀ i) s) (held s e f))
 
   grown : below .pairs ≤ b .pairs
-  grown = go (valueAt w i .list) (a .spent)
+  grown = go (value-at w i .list) (a .spent)
     where
       go : (o : Option ℕ) → unlisted-of o (b .ghosts) ≡ below .ghosts → below .pairs ≤ b .pairs
       go none e = omega (arith, a .total)
       go (some h) e = omega (arith, a .total)
 
-  values-next : (s : Store) → s .pairs ≡ take (2 * used) p₀ → s .ghosts ≡ ghosts → valuesOf w′ (i + 1) ≡ list-of (valuesOf w₀ (i + 1)) s .values
+  values-next : (s : Store) → s .pairs ≡ take (2 * used) p₀ → s .ghosts ≡ ghosts → values-of w′ (i + 1) ≡ list-of (values-of w₀ (i + 1)) s .values
   values-next s e f =
       values-more w′ i
-      ∙ ap {B = List Value} (λ vs. valueAt w′ i ∷ vs) (values-same w w′ i (λ k m n. a .others k (λ q. omega arith)) ∙ l .values-are s e f)
-      ∙ a .values-are (list-of (valuesOf w₀ i) s) (held s e f) ∙ ap (λ (r : Listed). r .values) (next-list s)
+      ∙ ap {B = List Value} (λ vs. value-at w′ i ∷ vs) (values-same w w′ i (λ k m n. a .others k (λ q. omega arith)) ∙ l .values-are s e f)
+      ∙ a .values-are (list-of (values-of w₀ i) s) (held s e f) ∙ ap (λ (r : Listed). r .values) (next-list s)
 
-  listed-next : unlisted (valuesOf w′ (b .listed)) ≡ 0
+  listed-next : unlisted (values-of w′ (b .listed)) ≡ 0
   listed-next =
       let s : Store = record { pairs = take (2 * used) p₀; atoms = []; bytes = []; ghosts = ghosts } in
-      ap (λ (n : ℕ). unlisted (valuesOf w′ n)) (a .listed-is) ∙ ap unlisted (values-next s refl refl) ∙ all-listed (valuesOf w₀ (i + 1)) s
+      ap (λ (n : ℕ). unlisted (values-of w′ n)) (a .listed-is) ∙ ap unlisted (values-next s refl refl) ∙ all-listed (values-of w₀ (i + 1)) s
 
   pub lists-more : Lists w₀ p₀ (i + 1) listed used ghosts w′ p′ b
   lists-more =
@@ -259,22 +259,22 @@ module _ (w₀ p₀ : List ℕ) (listed used ghosts i : ℕ) (w p : List ℕ) (b
       }
 
   -- A ghost pair is spent for each value without a list.
-  pub spent-more : below .ghosts + unlisted (valuesOf w₀ i) ≡ ghosts → b .ghosts + unlisted (valuesOf w₀ (i + 1)) ≡ ghosts
+  pub spent-more : below .ghosts + unlisted (values-of w₀ i) ≡ ghosts → b .ghosts + unlisted (values-of w₀ (i + 1)) ≡ ghosts
   spent-more e =
-      ap (λ (n : ℕ). b .ghosts + n) (unlisted-more w₀ i) ∙ sym (unlisted-at (valueAt w₀ i .list) (b .ghosts) (unlisted (valuesOf w₀ i)))
-      ∙ ap (λ (v : Value). unlisted-of (v .list) (b .ghosts) + unlisted (valuesOf w₀ i)) (sym same-value)
-      ∙ ap (λ (n : ℕ). n + unlisted (valuesOf w₀ i)) (a .spent) ∙ e
+      ap (λ (n : ℕ). b .ghosts + n) (unlisted-more w₀ i) ∙ sym (unlisted-at (value-at w₀ i .list) (b .ghosts) (unlisted (values-of w₀ i)))
+      ∙ ap (λ (v : Value). unlisted-of (v .list) (b .ghosts) + unlisted (values-of w₀ i)) (sym same-value)
+      ∙ ap (λ (n : ℕ). n + unlisted (values-of w₀ i)) (a .spent) ∙ e
 
 -- One is left for the next value, if it has no list.
 pub one-left : (w₀ p₀ : List ℕ) (listed used ghosts i count : ℕ) (w p : List ℕ) (b : Built) → Lists w₀ p₀ i listed used ghosts w p b → i < count
-    → unlisted (valuesOf w₀ count) ≤ ghosts → b .ghosts + unlisted (valuesOf w₀ i) ≡ ghosts → unlisted-of (valueAt w i .list) 0 ≤ b .ghosts
+    → unlisted (values-of w₀ count) ≤ ghosts → b .ghosts + unlisted (values-of w₀ i) ≡ ghosts → unlisted-of (value-at w i .list) 0 ≤ b .ghosts
 one-left w₀ p₀ listed used ghosts i count w p b l h r e =
     subst (λ (v : Value). unlisted-of (v .list) 0 ≤ b .ghosts) (sym same)
-    (unlisted-least (valueAt w₀ i .list) (unlisted (valuesOf w₀ i)) (b .ghosts) 0
-    (omega (arith, unlisted-more w₀ i, unlisted-up w₀ (i + 1) (count - (i + 1)), ap (λ (n : ℕ). unlisted (valuesOf w₀ n)) whole)))
+    (unlisted-least (value-at w₀ i .list) (unlisted (values-of w₀ i)) (b .ghosts) 0
+    (omega (arith, unlisted-more w₀ i, unlisted-up w₀ (i + 1) (count - (i + 1)), ap (λ (n : ℕ). unlisted (values-of w₀ n)) whole)))
   where
-    same : valueAt w i ≡ valueAt w₀ i
-    same = λ j. record { node = l .high (VALUES + 2 * i) (omega arith) j; list = listOf (l .high (VALUES + 2 * i + 1) (omega arith) j) }
+    same : value-at w i ≡ value-at w₀ i
+    same = λ j. record { node = l .high (VALUES + 2 * i) (omega arith) j; list = cached-list (l .high (VALUES + 2 * i + 1) (omega arith) j) }
 
     whole : i + 1 + (count - (i + 1)) ≡ count
     whole = omega arith
@@ -282,14 +282,14 @@ one-left w₀ p₀ listed used ghosts i count w p b l h r e =
 -- ---- room
 
 -- There is a ghost pair for a value without a list.
-pub bare-ghost : (w : List ℕ) (i g : ℕ) → at w (VALUES + 2 * i + 1) ≡ 0 → unlisted-of (valueAt w i .list) 0 ≤ g → 1 ≤ g
-bare-ghost w i g e h = subst (λ (o : Option ℕ). unlisted-of o 0 ≤ g) (ap listOf e) h
+pub bare-ghost : (w : List ℕ) (i g : ℕ) → at w (VALUES + 2 * i + 1) ≡ 0 → unlisted-of (value-at w i .list) 0 ≤ g → 1 ≤ g
+bare-ghost w i g e h = subst (λ (o : Option ℕ). unlisted-of o 0 ≤ g) (ap cached-list e) h
 
 pub pair-handle-small : (n : ℕ) → n < 2 ^ 26 → handle-of (pair n) + 1 < 2 ^ 32
 unfolding handle-of
 pair-handle-small n h = omega arith
 
-pub spent-start : (w : List ℕ) (i listed ghosts : ℕ) → i ≤ listed → unlisted (valuesOf w listed) ≡ 0 → ghosts + unlisted (valuesOf w i) ≡ ghosts
+pub spent-start : (w : List ℕ) (i listed ghosts : ℕ) → i ≤ listed → unlisted (values-of w listed) ≡ 0 → ghosts + unlisted (values-of w i) ≡ ghosts
 spent-start w i listed ghosts h e = omega (arith, fewer-listed w i listed h e)
 
 pub lists-end : (w p : List ℕ) (i count listed used ghosts : ℕ) (w′ p′ : List ℕ) (b : Built) → i ≡ count → Lists w p i listed used ghosts w′ p′ b → Lists w p count listed used ghosts w′ p′ b

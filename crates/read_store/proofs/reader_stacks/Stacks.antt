@@ -10,55 +10,55 @@ use Rattle.words.specs.Words.{at}
 use Rattle.words.proofs.Words.{Store, stores, miss, hit}
 use Rattle.spec_reading.specs.Format.{ParseOp, SExp, Cons}
 use Rattle.spec_reading.specs.Store.{Value}
-use Rattle.read_store.specs.Layout.{OPS, VALUES, opOf, opsOf, listOf, valueAt, valuesOf, PushedValue, PushedPair}
+use Rattle.read_store.specs.Layout.{OPS, VALUES, op-of, ops-of, cached-list, value-at, values-of, PushedValue, PushedPair}
 
 -- n operations keep where the words from OPS on keep
-pub ops-same : (w w′ : List ℕ) (n : ℕ) → ((k : ℕ) → k < OPS + n → at w′ k ≡ at w k) → opsOf w′ n ≡ opsOf w n
-unfolding opsOf
+pub ops-same : (w w′ : List ℕ) (n : ℕ) → ((k : ℕ) → k < OPS + n → at w′ k ≡ at w k) → ops-of w′ n ≡ ops-of w n
+unfolding ops-of
 ops-same w w′ zero h = refl
-ops-same w w′ (suc n) h = λ i. opOf (h (OPS + n) (omega arith) i) ∷ ops-same w w′ n (λ k l. h k (omega arith)) i
+ops-same w w′ (suc n) h = λ i. op-of (h (OPS + n) (omega arith) i) ∷ ops-same w w′ n (λ k l. h k (omega arith)) i
 
 -- n values keep where their words keep
-pub values-same : (w w′ : List ℕ) (n : ℕ) → ((k : ℕ) → VALUES ≤ k → k < VALUES + 2 * n → at w′ k ≡ at w k) → valuesOf w′ n ≡ valuesOf w n
-unfolding valuesOf
+pub values-same : (w w′ : List ℕ) (n : ℕ) → ((k : ℕ) → VALUES ≤ k → k < VALUES + 2 * n → at w′ k ≡ at w k) → values-of w′ n ≡ values-of w n
+unfolding values-of
 values-same w w′ zero h = refl
 values-same w w′ (suc n) h =
     λ i.
-    record { node = h (VALUES + 2 * n) (omega arith) (omega arith) i; list = listOf (h (VALUES + 2 * n + 1) (omega arith) (omega arith) i) }
+    record { node = h (VALUES + 2 * n) (omega arith) (omega arith) i; list = cached-list (h (VALUES + 2 * n + 1) (omega arith) (omega arith) i) }
     ∷ values-same w w′ n (λ k l m. h k l (omega arith)) i
 
 -- one operation, or value, more
-pub ops-more : (w : List ℕ) (n : ℕ) → opsOf w (n + 1) ≡ opOf (at w (OPS + n)) ∷ opsOf w n
-unfolding opsOf
-ops-more w n = ap (opsOf w) (add-one n)
+pub ops-more : (w : List ℕ) (n : ℕ) → ops-of w (n + 1) ≡ op-of (at w (OPS + n)) ∷ ops-of w n
+unfolding ops-of
+ops-more w n = ap (ops-of w) (add-one n)
 
-pub values-more : (w : List ℕ) (n : ℕ) → valuesOf w (n + 1) ≡ valueAt w n ∷ valuesOf w n
-unfolding valuesOf
-values-more w n = ap (valuesOf w) (add-one n)
+pub values-more : (w : List ℕ) (n : ℕ) → values-of w (n + 1) ≡ value-at w n ∷ values-of w n
+unfolding values-of
+values-more w n = ap (values-of w) (add-one n)
 
 -- the two topmost of n values
-pub values-two : (w : List ℕ) (n : ℕ) → 2 ≤ n → valuesOf w n ≡ valueAt w (n - 1) ∷ valueAt w (n - 2) ∷ valuesOf w (n - 2)
+pub values-two : (w : List ℕ) (n : ℕ) → 2 ≤ n → values-of w n ≡ value-at w (n - 1) ∷ value-at w (n - 2) ∷ values-of w (n - 2)
 values-two w n h =
     let e : n ≡ n - 1 + 1 = omega arith in
     let f : n - 1 ≡ n - 2 + 1 = omega arith in
-    ap (valuesOf w) e ∙ values-more w (n - 1)
-    ∙ ap {B = List Value} (λ vs. valueAt w (n - 1) ∷ vs) (ap (valuesOf w) f ∙ values-more w (n - 2))
+    ap (values-of w) e ∙ values-more w (n - 1)
+    ∙ ap {B = List Value} (λ vs. value-at w (n - 1) ∷ vs) (ap (values-of w) f ∙ values-more w (n - 2))
 
 -- As many values as are counted.
-pub length-values : (w : List ℕ) (n : ℕ) → length (valuesOf w n) ≡ n
-unfolding valuesOf
+pub length-values : (w : List ℕ) (n : ℕ) → length (values-of w n) ≡ n
+unfolding values-of
 length-values w zero = refl
 length-values w (suc n) = ap suc (length-values w n)
 
 -- The values without the k topmost ones.
-pub drop-values : (w : List ℕ) (n k : ℕ) → k ≤ n → drop k (valuesOf w n) ≡ valuesOf w (n - k)
-unfolding valuesOf
-drop-values w n zero h = ap (valuesOf w) less
+pub drop-values : (w : List ℕ) (n k : ℕ) → k ≤ n → drop k (values-of w n) ≡ values-of w (n - k)
+unfolding values-of
+drop-values w n zero h = ap (values-of w) less
   where
     less : n ≡ n - 0
     less = omega arith
 drop-values w zero (suc k) h = absurd (omega arith)
-drop-values w (suc n) (suc k) h = drop-values w n k (omega arith) ∙ ap (valuesOf w) less
+drop-values w (suc n) (suc k) h = drop-values w n k (omega arith) ∙ ap (values-of w) less
   where
     less : n - k ≡ suc n - suc k
     less = omega arith
@@ -76,7 +76,7 @@ module _ (w : List ℕ) (n v : ℕ) (room : VALUES + 2 * n + 1 < length w) where
   unfolding value-pushed value-stores
   value-miss k p q = miss value-stores w k (p, (q, tt))
 
-  value-below : (m : ℕ) → m ≤ n → valuesOf value-pushed m ≡ valuesOf w m
+  value-below : (m : ℕ) → m ≤ n → values-of value-pushed m ≡ values-of w m
   value-below m l = values-same w value-pushed m (λ k p q. value-miss k (λ e. omega arith) (λ e. omega arith))
 
   value-node : at value-pushed (VALUES + 2 * n) ≡ v
@@ -94,7 +94,7 @@ module _ (w : List ℕ) (n v : ℕ) (room : VALUES + 2 * n + 1 < length w) where
   unfolding value-pushed value-stores
   pushed-value =
       record {
-        values = values-more value-pushed n ∙ (λ i. record { node = value-node i; list = listOf (value-list i) } ∷ value-below n (omega arith) i);
+        values = values-more value-pushed n ∙ (λ i. record { node = value-node i; list = cached-list (value-list i) } ∷ value-below n (omega arith) i);
         below = value-below;
         ops = λ m l. ops-same w value-pushed m (λ k p. value-miss k (λ e. omega arith) (λ e. omega arith));
       }
@@ -120,13 +120,13 @@ module _ (w : List ℕ) (n : ℕ) (room : n + 2 ≤ VALUES) (long : VALUES ≤ l
       let l : OPS + n + 1 < length (set w (OPS + n) 1) = simp length-set (omega arith) in
       hit [] (set w (OPS + n) 1) (OPS + n + 1) 0 l tt
 
-  pair-ops : opsOf pair-pushed (n + 2) ≡ SExp ∷ Cons ∷ opsOf w n
+  pair-ops : ops-of pair-pushed (n + 2) ≡ SExp ∷ Cons ∷ ops-of w n
   pair-ops =
       let e : n + 2 ≡ n + 1 + 1 = omega arith in
       let f : OPS + (n + 1) ≡ OPS + n + 1 = omega arith in
-      ap (opsOf pair-pushed) e ∙ ops-more pair-pushed (n + 1) ∙ ap {B = List ParseOp} (λ o. opOf o ∷ opsOf pair-pushed (n + 1)) (ap (at pair-pushed) f ∙ pair-read)
+      ap (ops-of pair-pushed) e ∙ ops-more pair-pushed (n + 1) ∙ ap {B = List ParseOp} (λ o. op-of o ∷ ops-of pair-pushed (n + 1)) (ap (at pair-pushed) f ∙ pair-read)
       ∙ ap {B = List ParseOp} (λ os. SExp ∷ os)
-      (ops-more pair-pushed n ∙ (λ i. opOf (pair-join i) ∷ ops-same w pair-pushed n (λ k p. pair-miss k (λ q. omega arith) (λ q. omega arith)) i))
+      (ops-more pair-pushed n ∙ (λ i. op-of (pair-join i) ∷ ops-same w pair-pushed n (λ k p. pair-miss k (λ q. omega arith) (λ q. omega arith)) i))
 
   pub pushed-pair : PushedPair w (set (set w (OPS + n) 1) (OPS + n + 1) 0) n
   unfolding pair-pushed pair-stores

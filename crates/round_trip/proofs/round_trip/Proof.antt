@@ -46,7 +46,7 @@ use Rattle.read_answer.specs.declared.ReadAnswer.{ReadAnswer}
 use Rattle.read_answer.specs.Answer.{slices as store-slices}
 use Rattle.read_answer.proofs.ReadAnswer as Q
 use Rattle.read_answer.proofs.ReadAnswer.Laws as Q′
-use Rattle.read_call.specs.Outcome.{resultOf}
+use Rattle.read_call.specs.Outcome.{read-result-of}
 use Rattle.spec_session.specs.Call.{Slices}
 use Rattle.session_answer.specs.declared.SessionAnswer.{SessionAnswer}
 use Rattle.session_answer.proofs.SessionAnswer as R
@@ -161,7 +161,7 @@ module _ {M : Type 1} (𝓤 : URA M) (H : Heap 𝓤) (A : Atoms 𝓤) (W : Given
   Back s w w₂ cs o = ReadsBack (x₀ .now) (result-of s w w₂ cs o)
 
   abbrev WasRead : SessionAnswer → List ℕ → List ℕ → ReadAnswer → List ℕ → List ℕ → List ℕ → List ℕ → Type 0
-  WasRead s w o r w₁ ps ns bs = resultOf r w₁ ps ns bs ≡ read.reading (take (s .size) o) (store-slices w (x₅ .now) (x₆ .now) (x₇ .now))
+  WasRead s w o r w₁ ps ns bs = read-result-of r w₁ ps ns bs ≡ read.reading (take (s .size) o) (store-slices w (x₅ .now) (x₆ .now) (x₇ .now))
 
   -- `work` and `output` as the session call takes them
   abbrev lent₁ : ℕ → GName → RefT (List ℕ)
@@ -213,9 +213,9 @@ module _ {M : Type 1} (𝓤 : URA M) (H : Heap 𝓤) (A : Atoms 𝓤) (W : Given
       → ent 𝓤 (⋆ 𝓤 H A (‵ (ShrSlice (named 0) κ₀ u8 .own x₀ (v₀ ∷ [])) ∷ ‵ (flft κ₀ q₀) ∷ ‵ (flft κ₁ q₁) ∷ ‵ (flft κ₂ q₂) ∷ ‵ (flft κ₃ q₃) ∷ ‵ (flft κ₄ q₄) ∷ ‵ (flft κ₅ q₅) ∷ ‵ (flft κ₆ q₆) ∷ ‵ (flft κ₇ q₇) ∷ ‵ (finally u32 (x₁ .name) w₁) ∷ ‵ (finally u32 (x₂ .name) w₂) ∷ ‵ (finally T.the-row (x₃ .name) cs) ∷ ‵ (MutSlice (named 4) κ₄ u8 .own (at-last x₄ o) (v₄ ∷ [])) ∷ ‵ (finally u32 (x₅ .name) ps) ∷ ‵ (finally u32 (x₆ .name) ns) ∷ ‵ (finally u8 (x₇ .name) bs) ∷ [])) (Post (mach (whole s r)))
   exits s w w₂ cs o e₀ e₂ e₃ e₄ ran back r w₁ ps ns bs d₁ e₅ e₆ e₇ was-read is =
       let e₁ = d₁ ∙ e₀ in
-      let says₁ = session-part (x₀ .now) lent (x₅ .now) (x₆ .now) (x₇ .now) (result-of s w w₂ cs o) ran (resultOf r w₁ ps ns bs) was-read in
-      let says₂ = reading-part (x₀ .now) lent (x₅ .now) (x₆ .now) (x₇ .now) (result-of s w w₂ cs o) ran (resultOf r w₁ ps ns bs) was-read in
-      let says₃ = whole-read (x₀ .now) lent (x₅ .now) (x₆ .now) (x₇ .now) (result-of s w w₂ cs o) ran (resultOf r w₁ ps ns bs) was-read back e₀ in
+      let says₁ = session-part (x₀ .now) lent (x₅ .now) (x₆ .now) (x₇ .now) (result-of s w w₂ cs o) ran (read-result-of r w₁ ps ns bs) was-read in
+      let says₂ = reading-part (x₀ .now) lent (x₅ .now) (x₆ .now) (x₇ .now) (result-of s w w₂ cs o) ran (read-result-of r w₁ ps ns bs) was-read in
+      let says₃ = whole-read (x₀ .now) lent (x₅ .now) (x₆ .now) (x₇ .now) (result-of s w w₂ cs o) ran (read-result-of r w₁ ps ns bs) was-read back e₀ in
       qed W (‵ (ShrSlice (named 0) κ₀ u8 .own x₀ (v₀ ∷ [])) ∷ ‵ (flft κ₀ q₀) ∷ ‵ (flft κ₁ q₁) ∷ ‵ (flft κ₂ q₂) ∷ ‵ (flft κ₃ q₃) ∷ ‵ (flft κ₄ q₄) ∷ ‵ (flft κ₅ q₅) ∷ ‵ (flft κ₆ q₆) ∷ ‵ (flft κ₇ q₇) ∷ ‵ (finally u32 (x₁ .name) w₁) ∷ ‵ (finally u32 (x₂ .name) w₂) ∷ ‵ (finally T.the-row (x₃ .name) cs) ∷ ‵ (MutSlice (named 4) κ₄ u8 .own (at-last x₄ o) (v₄ ∷ [])) ∷ ‵ (finally u32 (x₅ .name) ps) ∷ ‵ (finally u32 (x₆ .name) ns) ∷ ‵ (finally u8 (x₇ .name) bs) ∷ []) ∵
       suffices ! _ (ends-at 𝓤 H A trip.ended stayed (trip.clauses 𝓤 H A mem run) W bound (mach (whole s r)) (whole s r) (tt, (w₁, (w₂, (cs, (o, (ps, (ns, (bs, tt)))))))) (tt, (e₁, (e₂, (e₃, (e₄, (e₅, (e₆, (e₇, tt))))))))) $
       suffices ! _ (says-three 𝓤 _ says₁ says₂ says₃) $

@@ -42,25 +42,25 @@ module _ {M : Type 1} (𝓤 : URA M) (H : Heap 𝓤) (A : Atoms 𝓤) where
   the-typed W c g = LL.lawful T.the-type T′.the-laws 𝓤 H A W .typed c _ g .0
 
 -- ---- a list whose first n elements are v
-abbrev pub fillTo : {X : Type 0} → ℕ → X → List X → List X
-fillTo zero v d = d
-fillTo (suc n) v [] = []
-fillTo (suc n) v (x ∷ d) = v ∷ fillTo n v d
+abbrev pub fill-to : {X : Type 0} → ℕ → X → List X → List X
+fill-to zero v d = d
+fill-to (suc n) v [] = []
+fill-to (suc n) v (x ∷ d) = v ∷ fill-to n v d
 
-pub fill-length : {X : Type 0} (n : ℕ) (v : X) (d : List X) → length (fillTo n v d) ≡ length d
+pub fill-length : {X : Type 0} (n : ℕ) (v : X) (d : List X) → length (fill-to n v d) ≡ length d
 fill-length zero v d = refl
 fill-length (suc n) v [] = refl
 fill-length (suc n) v (x ∷ d) = ap suc (fill-length n v d)
 
-fill-suc : {X : Type 0} (n : ℕ) (v : X) (d : List X) → n < length d → set (fillTo n v d) n v ≡ fillTo (suc n) v d
+fill-suc : {X : Type 0} (n : ℕ) (v : X) (d : List X) → n < length d → set (fill-to n v d) n v ≡ fill-to (suc n) v d
 fill-suc n v [] l = absurd (not-suc-le-zero l)
 fill-suc zero v (x ∷ d) l = refl
 fill-suc {X} (suc n) v (x ∷ d) l = ap (λ (t : List X). v ∷ t) (fill-suc n v d (le-of-suc-le-suc l))
 
-pub fill-more : {X : Type 0} (n : ℕ) (v : X) (d : List X) → n < length d → set (fillTo n v d) n v ≡ fillTo (n + 1) v d
-fill-more n v d l = subst (λ (k : ℕ). set (fillTo n v d) n v ≡ fillTo k v d) (sym (add-one n)) (fill-suc n v d l)
+pub fill-more : {X : Type 0} (n : ℕ) (v : X) (d : List X) → n < length d → set (fill-to n v d) n v ≡ fill-to (n + 1) v d
+fill-more n v d l = subst (λ (k : ℕ). set (fill-to n v d) n v ≡ fill-to k v d) (sym (add-one n)) (fill-suc n v d l)
 
-pub fill-is : {X : Type 0} (n : ℕ) (v : X) (d : List X) → n ≤ length d → fillTo n v d ≡ replicate n v ++ drop n d
+pub fill-is : {X : Type 0} (n : ℕ) (v : X) (d : List X) → n ≤ length d → fill-to n v d ≡ replicate n v ++ drop n d
 fill-is zero v d l = refl
 fill-is (suc n) v [] l = absurd (not-suc-le-zero l)
 fill-is {X} (suc n) v (x ∷ d) l = ap (λ (t : List X). v ∷ t) (fill-is n v d (le-of-suc-le-suc l))

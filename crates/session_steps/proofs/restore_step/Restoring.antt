@@ -8,7 +8,7 @@ use native.Mathlib.Omega.{arith}
 use lib.Dec.{ltb}
 use lib.ListN.{length, getD, set, take, length-set}
 use borrow.Author.Tests.{lt-ltb}
-use Rattle.words.specs.Words.{at}
+use Rattle.words.specs.Words.{at, WORK}
 use Rattle.words.specs.Lists.{All}
 use Rattle.words.specs.Choice.{cond-true}
 use Rattle.session_state.specs.Records.{blank}
@@ -45,12 +45,12 @@ entry-other : (v : List ℕ) (r k : ℕ) → (k ≡ SENTINEL-ENTRY → ⊥) → 
 entry-other v zero k n = refl
 entry-other v (suc e) k n = set-there v SENTINEL-ENTRY k (suc e) 0 n
 
-entry-known : (v : List ℕ) (r : ℕ) → 524288 ≤ length v
+entry-known : (v : List ℕ) (r : ℕ) → WORK ≤ length v
     → or-known (entry-or-none r) (entry-or-none (at v SENTINEL-ENTRY)) ≡ entry-or-none (at (with-entry v r) SENTINEL-ENTRY)
 entry-known v zero l = refl
 entry-known v (suc e) l = ap entry-or-none (sym (set-here v SENTINEL-ENTRY (suc e) 0 (omega arith)))
 
-entry-low : (v : List ℕ) (r n : ℕ) → 524288 ≤ length v → r ≤ n → at v SENTINEL-ENTRY ≤ n → at (with-entry v r) SENTINEL-ENTRY ≤ n
+entry-low : (v : List ℕ) (r n : ℕ) → WORK ≤ length v → r ≤ n → at v SENTINEL-ENTRY ≤ n → at (with-entry v r) SENTINEL-ENTRY ≤ n
 entry-low v zero n l a b = b
 entry-low v (suc e) n l a b = omega (arith, set-here v SENTINEL-ENTRY (suc e) 0 (omega arith))
 
@@ -106,7 +106,7 @@ module _ (input : List ℕ) (f : File) (w words : List ℕ) (rows : List Checkpo
     wh : Whole w
     wh = u .present .running .stands .whole
 
-    v-long : 524288 ≤ length v
+    v-long : WORK ≤ length v
     v-long = omega (arith, wh .sound .long, long, ap length (a .is), entry-length v (r .sentinel))
 
     whole : Whole w′

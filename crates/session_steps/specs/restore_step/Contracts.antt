@@ -3,7 +3,7 @@ use Prim.Native.Nat.{ℕ, _+_, _≤_, _<_}
 use mathlib.Core.Path.{_≡_}
 use mathlib.Core.List.{List}
 use lib.ListN.{length}
-use Rattle.words.specs.Words.{at}
+use Rattle.words.specs.Words.{at, WORK}
 use Rattle.session_state.specs.declared.checkpoints.Checkpoint.{Checkpoint}
 use Rattle.work_layout.specs.Layout.{ENTRIES, DEPTH}
 use Rattle.cache_stack.specs.Contracts.{Stacked}
@@ -13,7 +13,7 @@ use Rattle.session_state.specs.Stored.{with-entry}
 
 -- What a restore takes: copy n and record r, on a stack of so many entries.
 pub record Undoing (w : List ℕ) (depth n : ℕ) (r : Checkpoint) : Type 0 where
-  pub long : 524288 ≤ length w
+  pub long : WORK ≤ length w
   pub stacked : Stacked w depth
   pub few : n < 16
   pub few-opens : r .opens ≤ 4096

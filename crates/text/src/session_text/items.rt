@@ -1,10 +1,8 @@
 // The items of the output: what find_path answered before each of them.
+use atom::BACK_REFERENCE;
+use atom::CONS_BOX_MARKER;
 use atom_decode::ParseAtom;
 use libc::STDOUT_FILENO;
-
-const BACK_REFERENCE: u8 = 0xfe;
-
-const CONS_BOX_MARKER: u8 = 0xff;
 
 // A line with a word, and bytes in hexadecimal if there are any.
 fn line(word: &[u8], bytes: &[u8]) {

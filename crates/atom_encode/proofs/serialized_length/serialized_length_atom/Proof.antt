@@ -2,7 +2,7 @@
 -- Assumes nothing.
 use mathlib.Core.Path.{sym, ap, _∙_}
 use native.Mathlib.Omega.{arith}
-use Rattle.atom.specs.Answers.{widthOf}
+use Rattle.atom.specs.Answers.{width-of}
 use Rattle.atom.specs.PrefixLaws.{prefixed}
 use Rattle.atom.specs.WriteLaws.{length-some, length-none}
 use borrow.Author.Needs.{needs}
@@ -17,7 +17,7 @@ enum-known-width c = search needs
 
 add-result : tie.Need-add-result
 add-result c =
-    let e = sym (c .before .before .before .prefix-width .ensures) ∙ ap widthOf (c .before .width .given .1) in
+    let e = sym (c .before .before .before .prefix-width .ensures) ∙ ap width-of (c .before .width .given .1) in
     let p = prefixed (c .before .before .before .before .before .args .atom .now) (c .before .width .given .0 .0) e in
     omega (arith, p .five, p .limit)
 
@@ -25,10 +25,10 @@ enum-told : tie.Need-enum-told
 enum-told c = search needs
 
 returns : tie.Need-returns
-returns c = sym (length-some (c .before .before .before .before .before .args .atom .now) (c .before .width .given .0 .0) (sym (c .before .before .before .prefix-width .ensures) ∙ ap widthOf (c .before .width .given .1)))
+returns c = sym (length-some (c .before .before .before .before .before .args .atom .now) (c .before .width .given .0 .0) (sym (c .before .before .before .prefix-width .ensures) ∙ ap width-of (c .before .width .given .1)))
 
 returns-2 : tie.Need-returns-2
-returns-2 c = sym (length-none (c .before .before .before .before .args .atom .now) (sym (c .before .before .prefix-width .ensures) ∙ ap widthOf (c .enum-told .given .1)))
+returns-2 c = sym (length-none (c .before .before .before .before .args .atom .now) (sym (c .before .before .prefix-width .ensures) ∙ ap width-of (c .enum-told .given .1)))
 
 pub serialized-length-atom-spec : {M : Type 1} → statement M
 serialized-length-atom-spec =

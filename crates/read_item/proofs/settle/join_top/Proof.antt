@@ -3,7 +3,7 @@
 use Prim.Native.Nat.{_-_}
 use mathlib.Core.Path.{refl}
 use native.Mathlib.Omega.{arith}
-use Rattle.read_store.specs.Layout.{opsOf}
+use Rattle.read_store.specs.Layout.{ops-of}
 use Rattle.read_item.proofs.settle.Joins as joins
 use borrow.Author.Needs.{needs}
 use Rattle.read_item.proofs.settle.join_top.Statement.{statement}
@@ -13,7 +13,7 @@ sub-listed-among : tie.Need-sub-listed-among
 sub-listed-among c =
     let a = c .before .before .args in
     let p = c .before .before .pre in
-    omega (arith, joins.join-two (a .work .now) (a .pairs .now) (a .r) (p .0) (opsOf (a .work .now) (a .r .ops - 1)) (p .2))
+    omega (arith, joins.join-two (a .work .now) (a .pairs .now) (a .r) (p .0) (ops-of (a .work .now) (a .r .ops - 1)) (p .2))
 
 listed-among-requires : tie.Need-listed-among-requires
 listed-among-requires c κs = search needs
@@ -22,8 +22,8 @@ join-requires : tie.Need-join-requires
 join-requires c κs =
     let a = c .before .before .before .before .before .args in
     let p = c .before .before .before .before .before .pre in
-    let two = joins.join-two (a .work .now) (a .pairs .now) (a .r) (p .0) (opsOf (a .work .now) (a .r .ops - 1)) (p .2) in
-    let m = joins.join-room (a .work .now) (a .pairs .now) (a .r) (p .0) (opsOf (a .work .now) (a .r .ops - 1)) (p .2) in
+    let two = joins.join-two (a .work .now) (a .pairs .now) (a .r) (p .0) (ops-of (a .work .now) (a .r .ops - 1)) (p .2) in
+    let m = joins.join-room (a .work .now) (a .pairs .now) (a .r) (p .0) (ops-of (a .work .now) (a .r .ops - 1)) (p .2) in
     (p .0 .work, two, omega (arith, m .values), omega (arith, m .pairs, p .0 .room), omega (arith, m .pairs))
 
 sub-t7 : tie.Need-sub-t7
@@ -33,7 +33,7 @@ sub-t13 : tie.Need-sub-t13
 sub-t13 c =
     let a = c .before .before .before .before .before .before .before .before .before .before .before .args in
     let p = c .before .before .before .before .before .before .before .before .before .before .before .pre in
-    omega (arith, joins.join-two (a .work .now) (a .pairs .now) (a .r) (p .0) (opsOf (a .work .now) (a .r .ops - 1)) (p .2))
+    omega (arith, joins.join-two (a .work .now) (a .pairs .now) (a .r) (p .0) (ops-of (a .work .now) (a .r .ops - 1)) (p .2))
 
 add-t14 : tie.Need-add-t14
 add-t14 c = search needs

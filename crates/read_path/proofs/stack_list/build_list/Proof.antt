@@ -5,7 +5,7 @@ use mathlib.Core.Path.{_≡_, refl, _∙_}
 use native.Mathlib.Omega.{arith}
 use lib.ListN.{length}
 use borrow.Author.Needs.{needs}
-use Rattle.read_store.specs.Layout.{valuesOf}
+use Rattle.read_store.specs.Layout.{values-of}
 use Rattle.spec_reading.specs.Sound.{unlisted}
 use Rattle.read_path.specs.Lists.{Lists}
 use Rattle.read_path.proofs.stack_list.Adding.{fewer-listed, lists-start, lists-more, lists-end, spent-start, spent-more, one-left}
@@ -15,7 +15,7 @@ use Rattle.read_path.proofs.stack_list.build_list.Tie as tie
 abbrev Inv-loop : tie.InvT-loop
 Inv-loop work₀ pairs₀ count listed used ghosts i₀ b₀ work pairs i b =
     (i ≤ count) × (length work ≡ length work₀) × (length pairs ≡ length pairs₀) × Lists work₀ pairs₀ i listed used ghosts work pairs b
-    × (b .ghosts + unlisted (valuesOf work₀ i) ≡ ghosts)
+    × (b .ghosts + unlisted (values-of work₀ i) ≡ ghosts)
 
 abbrev μ-loop : tie.MeasureT-loop
 μ-loop work₀ pairs₀ count listed used ghosts i₀ b₀ work pairs i b = count - i

@@ -2,7 +2,7 @@
 -- Assumes nothing.
 use borrow.Author.Needs.{needs}
 use Rattle.read_answer.specs.Answer.{slices}
-use Rattle.read_call.specs.Outcome.{resultOf}
+use Rattle.read_call.specs.Outcome.{read-result-of}
 use Rattle.round_trip.proofs.read_finished.Finished.{lesser-many, first-read}
 use Rattle.round_trip.proofs.read_finished.read_first.Statement.{statement}
 use Rattle.round_trip.proofs.read_finished.read_first.Tie as tie
@@ -30,7 +30,7 @@ same-length-4 c = search needs
 
 returns : tie.Need-returns
 returns c = let a = c .before .before .before .before .before .before .before .before .before .before .before .before .before .before .before .before .before .before .before .before .args in let l = c .before .before .before .before .before .before .before .before .before .before .before .before .before .before .lesser in let r = c .before .before .before .before .before .before .before .before .nikvoldra-read in
-    first-read (l .result) (a .session .size) (a .output .now) (l .ensures) (slices (a .work .now) (a .pairs .now) (a .atoms .now) (a .bytes .now)) (resultOf (r .result) (r .last .1 .0) (r .last .1 .1 .0) (r .last .1 .1 .1 .0) (r .last .1 .1 .1 .1 .0)) (r .ensures)
+    first-read (l .result) (a .session .size) (a .output .now) (l .ensures) (slices (a .work .now) (a .pairs .now) (a .atoms .now) (a .bytes .now)) (read-result-of (r .result) (r .last .1 .0) (r .last .1 .1 .0) (r .last .1 .1 .1 .0) (r .last .1 .1 .1 .1 .0)) (r .ensures)
 
 pub read-first-spec : {M : Type 1} → statement M
 read-first-spec =

@@ -1,5 +1,5 @@
 -- `session_state::checkpoints::clear_first` meets its contract: a walk of its MIR, by hand, with a loop. The borrow is opened once, before the loop, and closed once, after it; between the two the row of records is the function's own.
--- The loop's state is i with a proof that i ≤ n, the count of records to clear, and the records are then `fillTo i blank ys`.
+-- The loop's state is i with a proof that i ≤ n, the count of records to clear, and the records are then `fill-to i blank ys`.
 -- Assumes nothing.
 use mathlib.Core.Path.{_≡_, refl, sym, _∙_, ap, subst}
 use Prim.Native.Nat.{ℕ, _+_, _-_, _<_, _≤_, _^_, zero-le}
@@ -46,7 +46,7 @@ use denote.Triple.Walked.{says, needs, Stays, stay-slice, stay-none, walkOf, goe
 use denote.Exit.{yes}
 use Rattle.session_state.specs.declared.checkpoints.Checkpoint.{Checkpoint}
 use Rattle.session_state.specs.Records.{blank}
-use Rattle.session_state.proofs.checkpoints.Rows.{byte-fits, the-vals, the-tells, the-makes, the-typed, after, fillTo, fill-length, fill-more, fill-is}
+use Rattle.session_state.proofs.checkpoints.Rows.{byte-fits, the-vals, the-tells, the-makes, the-typed, after, fill-to, fill-length, fill-more, fill-is}
 use Rattle.session_state.proofs.checkpoints.Checkpoint as T
 use Rattle.session_state.proofs.checkpoints.Checkpoint.Laws as T′
 use Rattle.session_state.proofs.checkpoints.clear_first.Key.{name as #clear}
@@ -122,7 +122,7 @@ module _ {M : Type 1} (𝓤 : URA M) (H : Heap 𝓤) (A : Atoms 𝓤) (W : Given
     abbrev At : Upto → List (Item 𝓤)
     At i = ‵ (froom tyPtr l₇ 0) ∷ ‵ (fdies tyPtr l₇) ∷ ‵ (froom word l₆ 0) ∷ ‵ (fdies word l₆) ∷ ‵ (froom tyBool l₅ 0) ∷ ‵ (fdies tyBool l₅) ∷ ‵ (fat fullShare word l₄ 0 (vint w64 (i .0))) ∷ ‵ (fdies word l₄)
         ∷ ‵ (fat fullShare T′.mir l₃ 0 (mach blank)) ∷ ‵ (fdies T′.mir l₃) ∷ ‵ (fat fullShare word l₂ 0 (vint w64 n)) ∷ ‵ (fdies word l₂) ∷ ‵ (fat fullShare slice l₁ 0 s) ∷ ‵ (fdies slice l₁) ∷ ‵ (froom tyUnit l₀ 0) ∷ ‵ (fdies tyUnit l₀)
-        ∷ ‵ (row T.the-row fullShare (fillTo (i .0) blank ys) b o) ∷ ‵ (fobor κ q (Held T.the-row (length ys) b o γ)) ∷ ‵ (fobs γ (codedHoleys T.the-row .code (heres T.the-row ys))) ∷ ‵ (fauth γ (codedHoleys T.the-row .code (heres T.the-row ys))) ∷ []
+        ∷ ‵ (row T.the-row fullShare (fill-to (i .0) blank ys) b o) ∷ ‵ (fobor κ q (Held T.the-row (length ys) b o γ)) ∷ ‵ (fobs γ (codedHoleys T.the-row .code (heres T.the-row ys))) ∷ ‵ (fauth γ (codedHoleys T.the-row .code (heres T.the-row ys))) ∷ []
 
     -- a turn's postcondition: it ends nearer to n, or the loop is left and the rest of the body runs
     abbrev Turned : Upto → Out → SProp 𝓤
@@ -149,10 +149,10 @@ module _ {M : Type 1} (𝓤 : URA M) (H : Heap 𝓤) (A : Atoms 𝓤) (W : Given
         move ! (16 ∷ 17 ∷ 18 ∷ 19 ∷ []) $ closes-slice ! tt T.the-row ys (now i) (fill-length (i .0) blank ys) b o $
         returns ! (look ! 17 refl) $ forget ! 7 refl $ forget ! 9 refl $ forget ! 11 refl $ forget ! 13 refl $ forget ! 15 refl $ forget ! 17 refl $
         move ! (17 ∷ 18 ∷ []) $ free1 ! $ move ! (15 ∷ 16 ∷ []) $ free1 ! $ move ! (13 ∷ 14 ∷ []) $ free1 ! $ move ! (11 ∷ 12 ∷ []) $ free1 ! $ move ! (9 ∷ 10 ∷ []) $ free1 ! $ move ! (7 ∷ 8 ∷ []) $ free1 ! $ move ! (5 ∷ 6 ∷ []) $ free1 ! $ move ! (3 ∷ 4 ∷ []) $ free1 ! $ free0 ! $
-        keep ! (0 ∷ 1 ∷ 2 ∷ []) $ by ! (exits (now i) (ap (λ (m : ℕ). fillTo m blank ys) (le-antisymm (i .1) (nltb→le (i .0) n over)) ∙ fill-is n blank ys enough) (fill-length (i .0) blank ys)))
+        keep ! (0 ∷ 1 ∷ 2 ∷ []) $ by ! (exits (now i) (ap (λ (m : ℕ). fill-to m blank ys) (le-antisymm (i .1) (nltb→le (i .0) n over)) ∙ fill-is n blank ys enough) (fill-length (i .0) blank ys)))
       where
         now : Upto → List Checkpoint
-        now j = fillTo (j .0) blank ys
+        now j = fill-to (j .0) blank ys
 
         within : Holds (ltb (i .0) n) → i .0 < n
         within less = ltb→lt (i .0) n less
@@ -160,7 +160,7 @@ module _ {M : Type 1} (𝓤 : URA M) (H : Heap 𝓤) (A : Atoms 𝓤) (W : Given
         inside : Holds (ltb (i .0) n) → i .0 < length ys
         inside less = lt-of-lt-of-le (within less) enough
 
-        in-row : Holds (ltb (i .0) n) → i .0 < length (fillTo (i .0) blank ys)
+        in-row : Holds (ltb (i .0) n) → i .0 < length (fill-to (i .0) blank ys)
         in-row less = subst (λ (m : ℕ). i .0 < m) (sym (fill-length (i .0) blank ys)) (inside less)
 
         fits : (j : Upto) → j .0 < 2 ^ 64
