@@ -18,7 +18,9 @@ pub fn is_visited(bits: &[u32], idx: usize) -> bool
 // Marks the number, and returns whether it was marked already.
 pub fn visit(bits: &mut [u32], idx: usize) -> bool
     requires { ⌜ idx < 32 * length (now bits) ⌝ }
-    ensures { λ r. ⌜ (r ≡ getD (bits-of (now (bits .entry))) idx false) × (bits-of (now (bits .exit)) ≡ set (bits-of (now (bits .entry))) idx true) ⌝ }
+    ensures { λ r. ⌜
+        (r ≡ getD (bits-of (now (bits .entry))) idx false)
+        × (bits-of (now (bits .exit)) ≡ set (bits-of (now (bits .entry))) idx true) ⌝ }
 {
     let pos = idx / 32;
     let x = bits[pos];

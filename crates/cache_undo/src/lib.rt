@@ -33,7 +33,13 @@ fn pop_all(work: &mut [u32], depth: usize)
 
 // The `depth` entries that stand from `from` on go on the empty stack, the first one first.
 fn push_all(work: &mut [u32], from: usize, depth: usize)
-    requires { ⌜ (WORK ≤ length (now work)) × (Stacked (now work) 0) × (depth ≤ DEPTH) × (WRITTEN ≤ from) × (from + depth ≤ WORK) × ((i : ℕ) → i < depth → at (now work) (from + i) < ENTRIES) ⌝ }
+    requires { ⌜
+        (WORK ≤ length (now work))
+        × (Stacked (now work) 0)
+        × (depth ≤ DEPTH)
+        × (WRITTEN ≤ from)
+        × (from + depth ≤ WORK)
+        × ((i : ℕ) → i < depth → at (now work) (from + i) < ENTRIES) ⌝ }
     ensures { λ _. ⌜ PushedAll (now (work .entry)) (now (work .exit)) from depth ⌝ }
 {
     let mut i = 0;
@@ -46,7 +52,13 @@ fn push_all(work: &mut [u32], from: usize, depth: usize)
 
 // The first `opens` open pairs, the `depth` entries of the stack and the marks become those of copy k. The stack has `present` entries before.
 pub fn restore(work: &mut [u32], k: usize, opens: usize, present: usize, depth: usize)
-    requires { ⌜ (WORK ≤ length (now work)) × (Stacked (now work) present) × (k < 16) × (opens ≤ 4096) × (depth ≤ DEPTH) × ((i : ℕ) → i < depth → at (now work) (copied-stack k + i) < ENTRIES) ⌝ }
+    requires { ⌜
+        (WORK ≤ length (now work))
+        × (Stacked (now work) present)
+        × (k < 16)
+        × (opens ≤ 4096)
+        × (depth ≤ DEPTH)
+        × ((i : ℕ) → i < depth → at (now work) (copied-stack k + i) < ENTRIES) ⌝ }
     ensures { λ _. ⌜ Restored (now (work .entry)) (now (work .exit)) k opens depth ⌝ }
 {
     let from = COPIES + k * COPY;

@@ -127,7 +127,9 @@ fn step(file: &[u8], at: usize, atoms: u32, pairs: u32, done: u32) -> Part
 // The steps, to the end of the file.
 pub fn steps(file: &[u8], at: usize, atoms: u32, pairs: u32) -> Part
     requires { ⌜ at ≤ length (now file) ⌝ }
-    ensures { λ r. ⌜ Answers (now (file .entry)) counted r (file-format.steps (length (drop at (now (file .entry)))) atoms pairs 1024 [] (drop at (now (file .entry)))) ⌝ }
+    ensures { λ r. ⌜
+        Answers (now (file .entry)) counted r
+        (file-format.steps (length (drop at (now (file .entry)))) atoms pairs 1024 [] (drop at (now (file .entry)))) ⌝ }
 {
     let mut next = at;
     let mut done: u32 = 0;

@@ -16,7 +16,9 @@ ghost use Rattle.file_parts.specs.Loaded.{AtomsThere, AtomsLoaded, Pairs
 // Where the bytes of atom i start and end, as words 2·i and 2·i + 1. The rest of the table is as it was.
 pub fn load_atoms(file: &[u8], table: &mut [u32], count: u32)
     requires { ⌜ (AtomsThere (now file) count) × (2 * count ≤ length (now table)) ⌝ }
-    ensures { λ _. ⌜ ((xs : List (List ℕ)) → length xs ≡ count → AtomsAt (now (file .entry)) 7 xs → AtomsLoaded (now (file .entry)) xs (now (table .entry)) (now (table .exit))) ⌝ }
+    ensures { λ _. ⌜
+        ((xs : List (List ℕ)) → length xs ≡ count → AtomsAt (now (file .entry)) 7 xs
+        → AtomsLoaded (now (file .entry)) xs (now (table .entry)) (now (table .exit))) ⌝ }
 {
     let n = count as usize;
     let mut place: usize = 7;
@@ -36,7 +38,9 @@ pub fn load_atoms(file: &[u8], table: &mut [u32], count: u32)
 // The left and the right handle of pair i, as words 2·i and 2·i + 1. The pairs begin at `from`; the rest of the table is as it was.
 pub fn load_pairs(file: &[u8], table: &mut [u32], from: usize, count: u32)
     requires { ⌜ (PairsThere (now file) from count) × (2 * count ≤ length (now table)) ⌝ }
-    ensures { λ _. ⌜ ((ps : List Pair) → length ps ≡ count → PairsAt (now (file .entry)) from ps → PairsLoaded ps (now (table .entry)) (now (table .exit))) ⌝ }
+    ensures { λ _. ⌜
+        ((ps : List Pair) → length ps ≡ count → PairsAt (now (file .entry)) from ps
+        → PairsLoaded ps (now (table .entry)) (now (table .exit))) ⌝ }
 {
     let n = count as usize;
     let mut place = from;

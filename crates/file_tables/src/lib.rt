@@ -11,7 +11,11 @@ ghost use Rattle.file_tables.specs.Chains.{first-of, Loading};
 
 // The first atom with the bytes of atom i, where all atoms before i are loaded; i itself where none of them has its bytes.
 fn find_first(work: &[u32], file: &[u8], i: usize, slot: usize) -> usize
-    requires { ⌜ (i < 1024) × (slot ≡ slot-of (atom-bytes (now file) (now work) i)) × (Loading (atom-bytes (now file) (now work)) (now work) i) × ((k : ℕ) → k < i + 1 → Inside (now file) (now work) k) ⌝ }
+    requires { ⌜
+        (i < 1024)
+        × (slot ≡ slot-of (atom-bytes (now file) (now work) i))
+        × (Loading (atom-bytes (now file) (now work)) (now work) i)
+        × ((k : ℕ) → k < i + 1 → Inside (now file) (now work) k) ⌝ }
     ensures { λ r. ⌜ r ≡ first-of (atom-bytes (now (file .entry)) (now (work .entry))) i ⌝ }
 {
     let mut head = wide(work[work_layout::ATOM_HEADS + slot]);
@@ -27,8 +31,14 @@ fn find_first(work: &[u32], file: &[u8], i: usize, slot: usize) -> usize
 
 // The tables of atom i, where all atoms before it are loaded. If it is the first one with its bytes, it goes to the front of its chain.
 fn load_atom(work: &mut [u32], file: &[u8], i: usize)
-    requires { ⌜ (i < 1024) × (length (now file) ≤ 65535) × (Loading (atom-bytes (now file) (now work)) (now work) i) × ((k : ℕ) → k < i + 1 → Inside (now file) (now work) k) ⌝ }
-    ensures { λ _. ⌜ (Loading (atom-bytes (now (file .entry)) (now (work .entry))) (now (work .exit)) (i + 1)) × (Kept (now (work .entry)) (now (work .exit))) ⌝ }
+    requires { ⌜
+        (i < 1024)
+        × (length (now file) ≤ 65535)
+        × (Loading (atom-bytes (now file) (now work)) (now work) i)
+        × ((k : ℕ) → k < i + 1 → Inside (now file) (now work) k) ⌝ }
+    ensures { λ _. ⌜
+        (Loading (atom-bytes (now (file .entry)) (now (work .entry))) (now (work .exit)) (i + 1))
+        × (Kept (now (work .entry)) (now (work .exit))) ⌝ }
 {
     let slot = listed_atoms::slot_at(work, file, i);
     let first = find_first(work, file, i, slot);

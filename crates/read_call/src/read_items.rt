@@ -20,7 +20,9 @@ pub fn read_all(
     bytes: &mut [u8],
 ) -> Outcome
     requires { ⌜ Lent (now input) (now work) (now pairs) (now atoms) (now bytes) start ⌝ }
-    ensures { λ o. ⌜ ReadAll (now (input .entry)) (now (work .exit)) (now (pairs .exit)) (now (atoms .exit)) (now (bytes .exit)) (read-stored (now (input .entry))) o ⌝ }
+    ensures { λ o. ⌜
+        ReadAll (now (input .entry)) (now (work .exit)) (now (pairs .exit)) (now (atoms .exit)) (now (bytes .exit))
+        (read-stored (now (input .entry))) o ⌝ }
 {
     let mut r = Reader {
         position: 0,

@@ -42,7 +42,9 @@ pub fn next_item(
     r: Reader,
 ) -> Item
     requires { ⌜ Stands (now input) (now work) (now pairs) (now atoms) (now bytes) r ⌝ }
-    ensures { λ i. ⌜ Stepped (now (input .entry)) (now (work .entry)) (now (pairs .entry)) (now (atoms .entry)) (now (bytes .entry)) r (now (work .exit)) (now (pairs .exit)) (now (atoms .exit)) (now (bytes .exit)) i ⌝ }
+    ensures { λ i. ⌜
+        Stepped (now (input .entry)) (now (work .entry)) (now (pairs .entry)) (now (atoms .entry)) (now (bytes .entry))
+        r (now (work .exit)) (now (pairs .exit)) (now (atoms .exit)) (now (bytes .exit)) i ⌝ }
 {
     match read_cursor::head_at(input, r.position) {
         Head::End => Item::Refused(14),

@@ -27,7 +27,10 @@ fn push_atom(
     end: usize,
 ) -> Reader
     requires { ⌜ AtomRoom (now work) (now atoms) (now bytes) r (blob-of (now input) (parse-of found)) ⌝ }
-    ensures { λ s. ⌜ AtomPushed (now (work .entry)) (now (atoms .entry)) (now (bytes .entry)) r (blob-of (now (input .entry)) (parse-of found)) end (now (work .exit)) (now (atoms .exit)) (now (bytes .exit)) s ⌝ }
+    ensures { λ s. ⌜
+        AtomPushed (now (work .entry)) (now (atoms .entry)) (now (bytes .entry)) r
+        (blob-of (now (input .entry)) (parse-of found)) end (now (work .exit)) (now (atoms .exit))
+        (now (bytes .exit)) s ⌝ }
 {
     let blob = atom_decode::parse_atom_ptr(input, found);
     let used = r.atoms;
@@ -57,7 +60,9 @@ pub fn atom_item(
     found: ParseAtom,
 ) -> Item
     requires { ⌜ (Stands (now input) (now work) (now pairs) (now atoms) (now bytes) r) × (parse-of found ≡ parse-at (now input) (r .position)) ⌝ }
-    ensures { λ i. ⌜ SteppedAtom (now (input .entry)) (now (work .entry)) (now (pairs .entry)) (now (atoms .entry)) (now (bytes .entry)) r (now (work .exit)) (now (pairs .exit)) (now (atoms .exit)) (now (bytes .exit)) i ⌝ }
+    ensures { λ i. ⌜
+        SteppedAtom (now (input .entry)) (now (work .entry)) (now (pairs .entry)) (now (atoms .entry))
+        (now (bytes .entry)) r (now (work .exit)) (now (pairs .exit)) (now (atoms .exit)) (now (bytes .exit)) i ⌝ }
 {
     match found {
         ParseAtom::Blob { start: _, end } => {

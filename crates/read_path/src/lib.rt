@@ -33,7 +33,11 @@ pub fn traverse_path_with_vec(
     ghosts: usize,
 ) -> Traversed
     requires { ⌜ (length (now path) ≤ 65535) × (Walkable (now work) (now pairs) values listed used ghosts) ⌝ }
-    ensures { λ r. ⌜ ((s : Store) → s .pairs ≡ take (2 * used) (now (pairs .entry)) → s .ghosts ≡ ghosts → LeadsTo (now (work .entry)) (now (pairs .entry)) values used (led (read-path (now (path .entry))) (values-of (now (work .entry)) values) s) (now (work .exit)) (now (pairs .exit)) r) ⌝ }
+    ensures { λ r. ⌜
+        ((s : Store) → s .pairs ≡ take (2 * used) (now (pairs .entry)) → s .ghosts ≡ ghosts
+        → LeadsTo (now (work .entry)) (now (pairs .entry)) values used
+        (led (read-path (now (path .entry))) (values-of (now (work .entry)) values) s) (now (work .exit))
+        (now (pairs .exit)) r) ⌝ }
     ensures { λ r. ⌜ SameTotal used ghosts r ⌝ }
 {
     let PathBits::Bits(count) = path_bits::path_bits(path) else {

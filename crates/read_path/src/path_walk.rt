@@ -47,7 +47,9 @@ pub fn walk_bits(
     start: NodePtr,
 ) -> Walked
     requires { ⌜ (from ≤ count) × (count ≤ 8 * length (now path)) × (Reachable (now pairs) used (start .0)) ⌝ }
-    ensures { λ r. ⌜ ((bits : List Bool) → read-path (now (path .entry)) ≡ some bits → count ≡ length bits → Walks (now (pairs .entry)) used (drop from bits) (start .0) r) ⌝ }
+    ensures { λ r. ⌜
+        ((bits : List Bool) → read-path (now (path .entry)) ≡ some bits → count ≡ length bits
+        → Walks (now (pairs .entry)) used (drop from bits) (start .0) r) ⌝ }
 {
     let mut node = start;
     let mut i = from;

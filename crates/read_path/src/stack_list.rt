@@ -38,7 +38,8 @@ fn list_at(work: &[u32], count: usize) -> NodePtr
     NodePtr(work[VALUES + 2 * (count - 1) + 1] - 1)
 }
 
-// The list of the lowest `count` values. The lowest `listed` have theirs; from there up, a list that a value has is taken, and one that is made is kept with its value.
+// The list of the lowest `count` values. The lowest `listed` have theirs; from there up, a list that a value has is taken, and one
+// that is made is kept with its value.
 pub fn build_list(
     work: &mut [u32],
     pairs: &mut [u32],

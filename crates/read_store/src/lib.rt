@@ -33,8 +33,14 @@ pub struct NewAtom {
 
 // A listed atom is appended: its bytes, and where they start and end.
 fn new_listed(atoms: &mut [u32], bytes: &mut [u8], used: usize, size: usize, blob: &[u8]) -> NewAtom
-    requires { ⌜ (2 * used + 2 ≤ length (now atoms)) × (size + length (now blob) ≤ length (now bytes)) × (used < 2 ^ 26) × (size + length (now blob) < 2 ^ 32) ⌝ }
-    ensures { λ r. ⌜ ListedAppended (now (atoms .entry)) (now (bytes .entry)) used size (now (blob .entry)) (now (atoms .exit)) (now (bytes .exit)) (r .node .0) (r .atoms) (r .bytes) ⌝ }
+    requires { ⌜
+        (2 * used + 2 ≤ length (now atoms))
+        × (size + length (now blob) ≤ length (now bytes))
+        × (used < 2 ^ 26)
+        × (size + length (now blob) < 2 ^ 32) ⌝ }
+    ensures { λ r. ⌜
+        ListedAppended (now (atoms .entry)) (now (bytes .entry)) used size (now (blob .entry)) (now (atoms .exit))
+        (now (bytes .exit)) (r .node .0) (r .atoms) (r .bytes) ⌝ }
 {
     let end = size + blob.len();
     slices::copy_bytes(blob, bytes, size);
@@ -55,8 +61,14 @@ pub fn new_atom(
     size: usize,
     blob: &[u8],
 ) -> NewAtom
-    requires { ⌜ (2 * used + 2 ≤ length (now atoms)) × (size + length (now blob) ≤ length (now bytes)) × (used < 2 ^ 26) × (size + length (now blob) < 2 ^ 32) ⌝ }
-    ensures { λ r. ⌜ AtomStored (now (atoms .entry)) (now (bytes .entry)) used size (now (blob .entry)) (now (atoms .exit)) (now (bytes .exit)) (r .node .0) (r .atoms) (r .bytes) ⌝ }
+    requires { ⌜
+        (2 * used + 2 ≤ length (now atoms))
+        × (size + length (now blob) ≤ length (now bytes))
+        × (used < 2 ^ 26)
+        × (size + length (now blob) < 2 ^ 32) ⌝ }
+    ensures { λ r. ⌜
+        AtomStored (now (atoms .entry)) (now (bytes .entry)) used size (now (blob .entry)) (now (atoms .exit))
+        (now (bytes .exit)) (r .node .0) (r .atoms) (r .bytes) ⌝ }
 {
     match fits_in_small_atom::fits_in_small_atom(blob) {
         FitsInSmallAtom::Small(value) => NewAtom {

@@ -27,9 +27,24 @@ pub fn round_trip(
     atoms: &mut [u32],
     bytes: &mut [u8],
 ) -> RoundTrip
-    ensures { λ r. ⌜ result-of (r .session) (the-session (now (file .entry)) (slices (now (work .entry)) (now (words .entry)) (now (checkpoints .entry)) (now (output .entry))) .slices .work) (now (words .exit)) (now (checkpoints .exit)) (now (output .exit)) ≡ the-session (now (file .entry)) (slices (now (work .entry)) (now (words .entry)) (now (checkpoints .entry)) (now (output .entry))) ⌝ }
-    ensures { λ r. ⌜ read-result-of (r .read) (now (work .exit)) (now (pairs .exit)) (now (atoms .exit)) (now (bytes .exit)) ≡ the-reading (the-session (now (file .entry)) (slices (now (work .entry)) (now (words .entry)) (now (checkpoints .entry)) (now (output .entry)))) (now (pairs .entry)) (now (atoms .entry)) (now (bytes .entry)) ⌝ }
-    ensures { λ r. ⌜ RoundTrips (now (file .entry)) (store-slices (now (work .entry)) (now (pairs .entry)) (now (atoms .entry)) (now (bytes .entry))) (r .session .steps) (now (words .exit)) (read-result-of (r .read) (now (work .exit)) (now (pairs .exit)) (now (atoms .exit)) (now (bytes .exit))) ⌝ }
+    ensures { λ r. ⌜
+        result-of (r .session)
+        (the-session (now (file .entry))
+        (slices (now (work .entry)) (now (words .entry)) (now (checkpoints .entry)) (now (output .entry)))
+        .slices .work) (now (words .exit)) (now (checkpoints .exit)) (now (output .exit))
+        ≡ the-session (now (file .entry))
+        (slices (now (work .entry)) (now (words .entry)) (now (checkpoints .entry)) (now (output .entry))) ⌝ }
+    ensures { λ r. ⌜
+        read-result-of (r .read) (now (work .exit)) (now (pairs .exit)) (now (atoms .exit)) (now (bytes .exit))
+        ≡ the-reading
+        (the-session (now (file .entry))
+        (slices (now (work .entry)) (now (words .entry)) (now (checkpoints .entry)) (now (output .entry))))
+        (now (pairs .entry)) (now (atoms .entry)) (now (bytes .entry)) ⌝ }
+    ensures { λ r. ⌜
+        RoundTrips (now (file .entry))
+        (store-slices (now (work .entry)) (now (pairs .entry)) (now (atoms .entry)) (now (bytes .entry)))
+        (r .session .steps) (now (words .exit))
+        (read-result-of (r .read) (now (work .exit)) (now (pairs .exit)) (now (atoms .exit)) (now (bytes .exit))) ⌝ }
 {
     let session = session_call::nikvoldra_session(file, work, words, checkpoints, output);
     let read = read_finished::read_first(output, session, work, pairs, atoms, bytes);

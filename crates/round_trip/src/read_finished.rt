@@ -29,7 +29,10 @@ pub fn read_first(
     atoms: &mut [u32],
     bytes: &mut [u8],
 ) -> ReadAnswer
-    ensures { λ r. ⌜ read-result-of r (now (work .exit)) (now (pairs .exit)) (now (atoms .exit)) (now (bytes .exit)) ≡ reading (take (session .size) (now (output .entry))) (store-slices (now (work .entry)) (now (pairs .entry)) (now (atoms .entry)) (now (bytes .entry))) ⌝ }
+    ensures { λ r. ⌜
+        read-result-of r (now (work .exit)) (now (pairs .exit)) (now (atoms .exit)) (now (bytes .exit))
+        ≡ reading (take (session .size) (now (output .entry)))
+        (store-slices (now (work .entry)) (now (pairs .entry)) (now (atoms .entry)) (now (bytes .entry))) ⌝ }
 {
     let n = lesser(output, session.size);
     read_call::nikvoldra_read(&output[..n], work, pairs, atoms, bytes)

@@ -30,7 +30,11 @@ pub fn add_node(work: &mut [u32], c: usize, m: usize)
 fn add_copy(work: &mut [u32], e: usize, i: usize, n: usize, m: usize) -> usize
     requires { ⌜ (Links (now work)) × (Nodes (now work) m) × (PathsOK (now work) m n) ⌝ }
     requires { ⌜ (e < ENTRIES) × (i < count-at (now work) e) × (n < 3333) ⌝ }
-    ensures { λ r. ⌜ Relisted (now (work .entry)) (now (work .exit)) m r (trails-of (now (work .entry)) n ++ upward (seen-of (now (work .entry)) m) (node-bits (now (work .entry)) m) (parent-of (at (now (work .entry)) (PARENTS + e * 100 + i)) ∷ [])) ⌝ }
+    ensures { λ r. ⌜
+        Relisted (now (work .entry)) (now (work .exit)) m r
+        (trails-of (now (work .entry)) n
+        ++ upward (seen-of (now (work .entry)) m) (node-bits (now (work .entry)) m)
+        (parent-of (at (now (work .entry)) (PARENTS + e * 100 + i)) ∷ [])) ⌝ }
 {
     let v = crate::parent_at(work, e, i);
     if crate::is_seen(work, words::wide(v) / 2) {

@@ -30,7 +30,9 @@ pub fn first_unseen(work: &[u32], e: usize) -> usize
 // The last path, n, takes slot c.
 pub fn drop_path(work: &mut [u32], c: usize, n: usize, m: usize)
     requires { ⌜ (WORK ≤ length (now work)) × (Nodes (now work) m) × (PathsOK (now work) m (n + 1)) × (c < n + 1) × (n < 3333) ⌝ }
-    ensures { λ _. ⌜ Relisted (now (work .entry)) (now (work .exit)) m n (swap-remove (trails-of (now (work .entry)) (n + 1)) c (trail-of (now (work .entry)) c)) ⌝ }
+    ensures { λ _. ⌜
+        Relisted (now (work .entry)) (now (work .exit)) m n
+        (swap-remove (trails-of (now (work .entry)) (n + 1)) c (trail-of (now (work .entry)) c)) ⌝ }
 {
     let a = crate::node_of(work, n);
     let v = crate::place_of(work, n);
@@ -43,7 +45,11 @@ pub fn drop_path(work: &mut [u32], c: usize, n: usize, m: usize)
 pub fn go_up(work: &mut [u32], c: usize, n: usize, m: usize, e: usize, k: usize, d: usize) -> usize
     requires { ⌜ (Links (now work)) × (Tops (now work) d) × (Nodes (now work) m) × (PathsOK (now work) m n) ⌝ }
     requires { ⌜ (c < n) × (e < ENTRIES) × (k < count-at (now work) e) × (n + (count-at (now work) e - k) ≤ 3333) ⌝ }
-    ensures { λ r. ⌜ Relisted (now (work .entry)) (now (work .exit)) m r (set (trails-of (now (work .entry)) n) c (trail 0 (node-bits (now (work .entry)) m) (at (now (work .entry)) (PARENTS + e * 100 + k))) ++ (copies (now (work .entry)) m e (k + 1) ++ stacked (now (work .entry)) m e d)) ⌝ }
+    ensures { λ r. ⌜
+        Relisted (now (work .entry)) (now (work .exit)) m r
+        (set (trails-of (now (work .entry)) n) c
+        (trail 0 (node-bits (now (work .entry)) m) (at (now (work .entry)) (PARENTS + e * 100 + k)))
+        ++ (copies (now (work .entry)) m e (k + 1) ++ stacked (now (work .entry)) m e d)) ⌝ }
 {
     let v = crate::parent_at(work, e, k);
     crate::put_path(work, c, m as u32, v, 0);
@@ -55,7 +61,10 @@ pub fn go_up(work: &mut [u32], c: usize, n: usize, m: usize, e: usize, k: usize,
 pub fn go_off(work: &mut [u32], c: usize, n: usize, m: usize, e: usize, d: usize) -> usize
     requires { ⌜ (Links (now work)) × (Tops (now work) d) × (Nodes (now work) m) × (PathsOK (now work) m n) ⌝ }
     requires { ⌜ (c < n) × (e < ENTRIES) × (n < 3333) ⌝ }
-    ensures { λ r. ⌜ Relisted (now (work .entry)) (now (work .exit)) m r (swap-remove (trails-of (now (work .entry)) n ++ stacked (now (work .entry)) m e d) c (trail-of (now (work .entry)) c)) ⌝ }
+    ensures { λ r. ⌜
+        Relisted (now (work .entry)) (now (work .exit)) m r
+        (swap-remove (trails-of (now (work .entry)) n ++ stacked (now (work .entry)) m e d) c
+        (trail-of (now (work .entry)) c)) ⌝ }
 {
     let last = search_copies::add_stacked(work, e, n, m, d) - 1;
     drop_path(work, c, last, m);

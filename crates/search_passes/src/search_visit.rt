@@ -11,7 +11,12 @@ ghost use Rattle.search_list.specs.State.{place-at, extra-at, seen-at};
 
 // The visit of the entry of path c, which is not seen.
 fn visit(work: &mut [u32], c: usize, n: usize, m: usize, d: usize) -> Turned
-    requires { ⌜ (Working (now work) d n m) × (c < n) × (extra-at (now work) c ≡ 0) × (false ≡ seen-at (now work) (place-at (now work) c / 2)) × (m < 1024) ⌝ }
+    requires { ⌜
+        (Working (now work) d n m)
+        × (c < n)
+        × (extra-at (now work) c ≡ 0)
+        × (false ≡ seen-at (now work) (place-at (now work) c / 2))
+        × (m < 1024) ⌝ }
     ensures { λ r. ⌜ Steps (now (work .entry)) (now (work .exit)) d c n m r ⌝ }
 {
     let next = c + 1;

@@ -17,7 +17,9 @@ pub struct SessionAnswer {
 // What is left is cleared: work, the words past the finished steps, and the output past the size. With 1 to 8 no slice is touched.
 fn clear_rest(work: &mut [u32], words: &mut [u32], output: &mut [u8], refused: bool, p: Progress)
     requires { ⌜ (p .steps ≤ length (now words)) × (p .size ≤ length (now output)) ⌝ }
-    ensures { λ _. ⌜ Cleared p (now (work .entry)) (now (words .entry)) (now (output .entry)) (now (work .exit)) (now (words .exit)) (now (output .exit)) refused ⌝ }
+    ensures { λ _. ⌜
+        Cleared p (now (work .entry)) (now (words .entry)) (now (output .entry)) (now (work .exit)) (now (words .exit))
+        (now (output .exit)) refused ⌝ }
 {
     if refused {
         return;
@@ -38,7 +40,10 @@ pub fn finish(
     p: Progress,
 ) -> SessionAnswer
     requires { ⌜ (p .steps ≤ 1024) × (p .steps ≤ length (now words)) × (p .size ≤ 65535) × (p .size ≤ length (now output)) ⌝ }
-    ensures { λ r. ⌜ (answer-of r ≡ answer-at p) × (Cleared p (now (work .entry)) (now (words .entry)) (now (output .entry)) (now (work .exit)) (now (words .exit)) (now (output .exit)) refused) ⌝ }
+    ensures { λ r. ⌜
+        (answer-of r ≡ answer-at p)
+        × (Cleared p (now (work .entry)) (now (words .entry)) (now (output .entry)) (now (work .exit))
+        (now (words .exit)) (now (output .exit)) refused) ⌝ }
 {
     clear_rest(work, words, output, refused, p);
     SessionAnswer {

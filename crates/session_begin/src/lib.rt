@@ -97,7 +97,10 @@ fn started(at: usize, records: usize) -> Begun
 
 // Questions 1 to 8, of so many words and checkpoint records. Where all get yes, the tables of the file are loaded.
 pub fn begin(file: &[u8], work: &mut [u32], words: usize, records: usize) -> Begun
-    ensures { λ b. ⌜ (Bytes (now (file .entry))) × (Begins (now (file .entry)) (now (work .entry)) words records (now (work .exit)) b (asked (now (file .entry)) (length (now (work .entry))) words records)) ⌝ }
+    ensures { λ b. ⌜
+        (Bytes (now (file .entry)))
+        × (Begins (now (file .entry)) (now (work .entry)) words records (now (work .exit)) b
+        (asked (now (file .entry)) (length (now (work .entry))) words records)) ⌝ }
 {
     if !session_lengths::long_enough(work.len(), words, records) {
         return refused(1);

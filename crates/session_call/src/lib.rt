@@ -18,7 +18,10 @@ pub extern "C" fn nikvoldra_session(
     checkpoints: &mut [Checkpoint],
     output: &mut [u8],
 ) -> SessionAnswer
-    ensures { λ r. ⌜ result-of r (now (work .exit)) (now (words .exit)) (now (checkpoints .exit)) (now (output .exit)) ≡ session blank version-1 counted (now (file .entry)) (slices (now (work .entry)) (now (words .entry)) (now (checkpoints .entry)) (now (output .entry))) ⌝ }
+    ensures { λ r. ⌜
+        result-of r (now (work .exit)) (now (words .exit)) (now (checkpoints .exit)) (now (output .exit))
+        ≡ session blank version-1 counted (now (file .entry))
+        (slices (now (work .entry)) (now (words .entry)) (now (checkpoints .entry)) (now (output .entry))) ⌝ }
     ensures { λ r. ⌜ ReadsBack (now (file .entry)) (result-of r (now (work .exit)) (now (words .exit)) (now (checkpoints .exit)) (now (output .exit))) ⌝ }
 {
     let many = words.len();

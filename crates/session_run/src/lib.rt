@@ -13,7 +13,10 @@ pub fn run_steps(
     start: Progress,
 ) -> Progress
     requires { ⌜ Going (now file) (now work) (now words) (now checkpoints) (now output) start (start .done) ⌝ }
-    ensures { λ q. ⌜ Driven (now (file .entry)) (now (work .entry)) (now (words .entry)) (now (checkpoints .entry)) (now (output .entry)) start (now (work .exit)) (now (words .exit)) (now (checkpoints .exit)) (now (output .exit)) q (start .done) ⌝ }
+    ensures { λ q. ⌜
+        Driven (now (file .entry)) (now (work .entry)) (now (words .entry)) (now (checkpoints .entry))
+        (now (output .entry)) start (now (work .exit)) (now (words .exit)) (now (checkpoints .exit))
+        (now (output .exit)) q (start .done) ⌝ }
 {
     let mut p = start;
     while !p.done {

@@ -43,8 +43,12 @@ fn add_step(
     next: usize,
     c: Checkpoint,
 ) -> StepAnswer
-    requires { ⌜ (Ready (now file) (the-file (now file)) (now work) (now words) (now output) p c) × (Comes (now file) (p .at) (next-step.Add node next)) ⌝ }
-    ensures { λ a. ⌜ Onward (now (file .entry)) (the-file (now (file .entry))) (now (work .entry)) (now (words .entry)) (now (output .entry)) p c (now (work .exit)) (now (words .exit)) (now (output .exit)) a ⌝ }
+    requires { ⌜
+        (Ready (now file) (the-file (now file)) (now work) (now words) (now output) p c)
+        × (Comes (now file) (p .at) (next-step.Add node next)) ⌝ }
+    ensures { λ a. ⌜
+        Onward (now (file .entry)) (the-file (now (file .entry))) (now (work .entry)) (now (words .entry))
+        (now (output .entry)) p c (now (work .exit)) (now (words .exit)) (now (output .exit)) a ⌝ }
 {
     let number = step_records::question(p.finished, p.adds);
     if number != 0 {
@@ -71,7 +75,9 @@ pub fn core_step(
     c: Checkpoint,
 ) -> StepAnswer
     requires { ⌜ Ready (now file) (the-file (now file)) (now work) (now words) (now output) p c ⌝ }
-    ensures { λ a. ⌜ Onward (now (file .entry)) (the-file (now (file .entry))) (now (work .entry)) (now (words .entry)) (now (output .entry)) p c (now (work .exit)) (now (words .exit)) (now (output .exit)) a ⌝ }
+    ensures { λ a. ⌜
+        Onward (now (file .entry)) (the-file (now (file .entry))) (now (work .entry)) (now (words .entry))
+        (now (output .entry)) p c (now (work .exit)) (now (words .exit)) (now (output .exit)) a ⌝ }
 {
     let at = p.at;
     match file_parts::next_step(file, at) {
@@ -93,7 +99,10 @@ pub fn bounded_step(
     c: Checkpoint,
 ) -> StepAnswer
     requires { ⌜ Ready (now file) (the-file (now file)) (now work) (now words) (take 65535 (now output)) p c ⌝ }
-    ensures { λ a. ⌜ Onward (now (file .entry)) (the-file (now (file .entry))) (now (work .entry)) (now (words .entry)) (take 65535 (now (output .entry))) p c (now (work .exit)) (now (words .exit)) (take 65535 (now (output .exit))) a ⌝ }
+    ensures { λ a. ⌜
+        Onward (now (file .entry)) (the-file (now (file .entry))) (now (work .entry)) (now (words .entry))
+        (take 65535 (now (output .entry))) p c (now (work .exit)) (now (words .exit))
+        (take 65535 (now (output .exit))) a ⌝ }
 {
     let space = step_records::space_of(output);
     core_step(file, work, words, &mut output[..space], p, c)

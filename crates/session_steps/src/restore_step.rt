@@ -29,8 +29,12 @@ pub fn restore_step(
     next: usize,
     c: Checkpoint,
 ) -> StepAnswer
-    requires { ⌜ (Ready (now file) (the-file (now file)) (now work) (now words) (now output) p c) × (Comes (now file) (p .at) (next-step.Restore number next)) ⌝ }
-    ensures { λ a. ⌜ Onward (now (file .entry)) (the-file (now (file .entry))) (now (work .entry)) (now (words .entry)) (now (output .entry)) p c (now (work .exit)) (now (words .exit)) (now (output .entry)) a ⌝ }
+    requires { ⌜
+        (Ready (now file) (the-file (now file)) (now work) (now words) (now output) p c)
+        × (Comes (now file) (p .at) (next-step.Restore number next)) ⌝ }
+    ensures { λ a. ⌜
+        Onward (now (file .entry)) (the-file (now (file .entry))) (now (work .entry)) (now (words .entry))
+        (now (output .entry)) p c (now (work .exit)) (now (words .exit)) (now (output .entry)) a ⌝ }
 {
     let n = number as usize;
     if n >= p.adds {

@@ -29,7 +29,10 @@ fn path_bits(work: &[u32], slot: usize) -> usize
 // The width of the prefix of a path of so many bits, the first of which is set: below 8 of them it is one byte that stands for itself.
 fn path_width(bits: usize) -> usize
     requires { ⌜ bits ≤ 8192 ⌝ }
-    ensures { λ r. ⌜ (r ≤ 5) × ((path : List Bool) → bits ≡ length (path ++ true ∷ []) → «prefix-width» («path-bytes» (path ++ true ∷ [])) ≡ some r) ⌝ }
+    ensures { λ r. ⌜
+        (r ≤ 5)
+        × ((path : List Bool) → bits ≡ length (path ++ true ∷ [])
+        → «prefix-width» («path-bytes» (path ++ true ∷ [])) ≡ some r) ⌝ }
 {
     if bits < 8 {
         return 0;
@@ -39,7 +42,11 @@ fn path_width(bits: usize) -> usize
 
 // The bytes of the path at a slot, from `start` on.
 fn put_path(work: &[u32], slot: usize, output: &mut [u8], start: usize, count: usize)
-    requires { ⌜ (WORK ≤ length (now work)) × (Readable (now work) slot) × (count ≡ (length («path-at» (now work) slot) + 7) / 8) × (start + count ≤ length (now output)) ⌝ }
+    requires { ⌜
+        (WORK ≤ length (now work))
+        × (Readable (now work) slot)
+        × (count ≡ (length («path-at» (now work) slot) + 7) / 8)
+        × (start + count ≤ length (now output)) ⌝ }
     ensures { λ _. ⌜ now (output .exit) ≡ paste (now (output .entry)) start («path-bytes» («path-at» (now (work .entry)) slot)) count ⌝ }
 {
     let end = start + count;
@@ -55,9 +62,16 @@ fn put_reference(
     width: usize,
     count: usize,
 )
-    requires { ⌜ (WORK ≤ length (now work)) × (Readable (now work) slot) × (count ≡ (length («path-at» (now work) slot) + 7) / 8) × (count ≤ 1024) ⌝ }
+    requires { ⌜
+        (WORK ≤ length (now work))
+        × (Readable (now work) slot)
+        × (count ≡ (length («path-at» (now work) slot) + 7) / 8)
+        × (count ≤ 1024) ⌝ }
     requires { ⌜ (width ≤ 5) × (size + (1 + (width + count)) ≤ length (now output)) ⌝ }
-    ensures { λ _. ⌜ now (output .exit) ≡ paste (paste (set (now (output .entry)) size 0xfe) (size + 1) (prefix width count) width) (size + 1 + width) («path-bytes» («path-at» (now (work .entry)) slot)) count ⌝ }
+    ensures { λ _. ⌜
+        now (output .exit)
+        ≡ paste (paste (set (now (output .entry)) size 0xfe) (size + 1) (prefix width count) width) (size + 1 + width)
+        («path-bytes» («path-at» (now (work .entry)) slot)) count ⌝ }
 {
     output[size] = atom::BACK_REFERENCE;
     write_prefix::write_prefix(output, size + 1, width, count as u64);
@@ -67,7 +81,9 @@ fn put_reference(
 // A reference to the path at a slot, whose first bit is set.
 pub fn write_reference(work: &[u32], slot: usize, output: &mut [u8], size: usize) -> Put
     requires { ⌜ (WORK ≤ length (now work)) × (Readable (now work) slot) × (Ends («path-at» (now work) slot)) ⌝ }
-    ensures { λ r. ⌜ ((path : List Bool) → «path-at» (now (work .entry)) slot ≡ path ++ true ∷ [] → written r (now (output .exit)) ≡ put (now (output .entry)) size (some («item-bytes» («reference-item» path)))) ⌝ }
+    ensures { λ r. ⌜
+        ((path : List Bool) → «path-at» (now (work .entry)) slot ≡ path ++ true ∷ []
+        → written r (now (output .exit)) ≡ put (now (output .entry)) size (some («item-bytes» («reference-item» path)))) ⌝ }
 {
     let bits = path_bits(work, slot);
     let width = path_width(bits);

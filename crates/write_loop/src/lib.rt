@@ -27,7 +27,10 @@ fn write_full(
     e: EntryIndex,
 ) -> Next
     requires { ⌜ (AtomPlaces (now file) (now work)) × (Found (now work) (now output) place (node .0) (e .0) NoPath) ⌝ }
-    ensures { λ r. ⌜ (Turns (now (file .entry)) (now (work .entry)) (now (work .exit)) (now (output .entry)) (now (output .exit)) (Parse place node) r) × (Falls (length (now (output .entry))) (Parse place node) r) ⌝ }
+    ensures { λ r. ⌜
+        (Turns (now (file .entry)) (now (work .entry)) (now (work .exit)) (now (output .entry)) (now (output .exit))
+        (Parse place node) r)
+        × (Falls (length (now (output .entry))) (Parse place node) r) ⌝ }
 {
     if node.is_pair() {
         return open_pairs::open_pair(work, output, place, node, e);
@@ -39,7 +42,10 @@ fn write_full(
 // The node that comes next is written: by a reference where one is found, or in full. The sentinel is the open place.
 fn parse(work: &mut [u32], file: &[u8], output: &mut [u8], place: Place, node: NodePtr) -> Next
     requires { ⌜ (AtomPlaces (now file) (now work)) × (Runs (now work) (now output) place 0) × (Names (now work) (at (now work) PAIR-COUNT) (node .0)) ⌝ }
-    ensures { λ r. ⌜ (Turns (now (file .entry)) (now (work .entry)) (now (work .exit)) (now (output .entry)) (now (output .exit)) (Parse place node) r) × (Falls (length (now (output .entry))) (Parse place node) r) ⌝ }
+    ensures { λ r. ⌜
+        (Turns (now (file .entry)) (now (work .entry)) (now (work .exit)) (now (output .entry)) (now (output .exit))
+        (Parse place node) r)
+        × (Falls (length (now (output .entry))) (Parse place node) r) ⌝ }
 {
     if cache_nodes::is_sentinel(work, node) {
         return Next::Stopped(place);
@@ -60,7 +66,9 @@ pub fn resume(
     node: NodePtr,
 ) -> Outcome
     requires { ⌜ (AtomPlaces (now file) (now work)) × (Runs (now work) (now output) place 0) × (Names (now work) (at (now work) PAIR-COUNT) (node .0)) ⌝ }
-    ensures { λ r. ⌜ Turns (now (file .entry)) (now (work .entry)) (now (work .exit)) (now (output .entry)) (now (output .exit)) (Parse place node) (ended r) ⌝ }
+    ensures { λ r. ⌜
+        Turns (now (file .entry)) (now (work .entry)) (now (work .exit)) (now (output .entry)) (now (output .exit))
+        (Parse place node) (ended r) ⌝ }
 {
     let mut next = Next::Parse(place, node);
     loop {

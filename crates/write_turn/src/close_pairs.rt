@@ -38,7 +38,10 @@ fn innermost(work: &[u32], opens: usize) -> u32
 // After a value: the innermost open pair is closed where it is complete, and else its right side is next. Where none is open, all is written.
 pub fn close_up(work: &mut [u32], place: Place) -> Next
     requires { ⌜ Standing (now work) (place .opens) (place .depth) 1 ⌝ }
-    ensures { λ r. ⌜ ((file out : List ℕ) → Runs (now (work .entry)) out place 1 → (Turns file (now (work .entry)) (now (work .exit)) out out (Close place) r) × (Falls (length out) (Close place) r)) ⌝ }
+    ensures { λ r. ⌜
+        ((file out : List ℕ) → Runs (now (work .entry)) out place 1
+        → (Turns file (now (work .entry)) (now (work .exit)) out out (Close place) r) ×
+        (Falls (length out) (Close place) r)) ⌝ }
 {
     let opens = place.opens;
     if opens == 0 {

@@ -44,7 +44,10 @@ pub enum Next {
 // Listed atom i, from where it lies in the file.
 fn write_listed(work: &[u32], file: &[u8], output: &mut [u8], size: usize, i: usize) -> Put
     requires { ⌜ (Whole (now work)) × (AtomPlaces (now file) (now work)) × (i < at (now work) ATOM-COUNT) ⌝ }
-    ensures { λ r. ⌜ written r (now (output .exit)) ≡ put (now (output .entry)) size (some (item-bytes (atom-item (bytes-at (now (file .entry)) (now (work .entry)) i)))) ⌝ }
+    ensures { λ r. ⌜
+        written r (now (output .exit))
+        ≡ put (now (output .entry)) size
+        (some (item-bytes (atom-item (bytes-at (now (file .entry)) (now (work .entry)) i)))) ⌝ }
 {
     let start = listed_atoms::start_of(work, i);
     let end = listed_atoms::end_of(work, i);
@@ -53,7 +56,11 @@ fn write_listed(work: &[u32], file: &[u8], output: &mut [u8], size: usize, i: us
 
 // An atom in full.
 pub fn write_atom(work: &[u32], file: &[u8], output: &mut [u8], size: usize, node: NodePtr) -> Put
-    requires { ⌜ (Whole (now work)) × (AtomPlaces (now file) (now work)) × (Names (now work) (at (now work) PAIR-COUNT) (node .0)) × (is-atom (node-of (node .0)) ≡ true) ⌝ }
+    requires { ⌜
+        (Whole (now work))
+        × (AtomPlaces (now file) (now work))
+        × (Names (now work) (at (now work) PAIR-COUNT) (node .0))
+        × (is-atom (node-of (node .0)) ≡ true) ⌝ }
     ensures { λ r. ⌜ AtomPut (now (file .entry)) (now (work .entry)) (node .0) (now (output .entry)) (now (output .exit)) size r ⌝ }
 {
     if cache_nodes::is_listed(node) {
@@ -91,7 +98,10 @@ pub fn refer(
     slot: usize,
 ) -> Next
     requires { ⌜ Found (now work) (now output) place (node .0) (e .0) (At slot) ⌝ }
-    ensures { λ r. ⌜ ((file : List ℕ) → (Turns file (now (work .entry)) (now (work .exit)) (now (output .entry)) (now (output .exit)) (Parse place node) r) × (Falls (length (now (output .entry))) (Parse place node) r)) ⌝ }
+    ensures { λ r. ⌜
+        ((file : List ℕ)
+        → (Turns file (now (work .entry)) (now (work .exit)) (now (output .entry)) (now (output .exit)) (Parse place node) r)
+        × (Falls (length (now (output .entry))) (Parse place node) r)) ⌝ }
 {
     let item = write_reference::write_reference(work, slot, output, place.size);
     push_value(work, place, e, item)

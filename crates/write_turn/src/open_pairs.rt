@@ -27,7 +27,10 @@ pub fn open_pair(
     e: EntryIndex,
 ) -> Next
     requires { ⌜ (Found (now work) (now output) place (node .0) (e .0) NoPath) × (is-pair (node-of (node .0)) ≡ true) ⌝ }
-    ensures { λ r. ⌜ ((file : List ℕ) → (Turns file (now (work .entry)) (now (work .exit)) (now (output .entry)) (now (output .exit)) (Parse place node) r) × (Falls (length (now (output .entry))) (Parse place node) r)) ⌝ }
+    ensures { λ r. ⌜
+        ((file : List ℕ)
+        → (Turns file (now (work .entry)) (now (work .exit)) (now (output .entry)) (now (output .exit)) (Parse place node) r)
+        × (Falls (length (now (output .entry))) (Parse place node) r)) ⌝ }
 {
     let opens = place.opens;
     if opens >= MAX_OPEN {
