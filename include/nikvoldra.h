@@ -1,8 +1,7 @@
 /*
  * The two calls of Nikvoldra, for C and C++ on x86-64 Linux.
  *
- * Link target/staticlib/libsession_call.a for nikvoldra_session and target/staticlib/libread_call.a for nikvoldra_read; the
- * command `tools/libraries` proves and writes them.
+ * Link target/staticlib/libnikvoldra.a, which has both; the command `tools/libraries` proves the calls and writes it.
  *
  * A slice is passed as a pointer to its first element, then its length in elements, not in bytes. The callee keeps no pointer.
  * The caller sees to it that

@@ -1,4 +1,4 @@
-//! Finds the port's static libraries and has them linked.
+//! Finds the port's static library and has it linked.
 
 use std::path::PathBuf;
 use std::process::exit;
@@ -22,21 +22,19 @@ fn main() {
     let target = std::env::var("TARGET").expect("cargo sets it");
     if !target.starts_with("x86_64-") || !target.contains("-linux-") {
         fail(&format!(
-            "the static libraries are for x86-64 Linux, and the target is {target}"
+            "the static library is for x86-64 Linux, and the target is {target}"
         ));
     }
     let folder = folder();
     println!("cargo:rustc-link-search=native={}", folder.display());
-    for name in ["session_call", "read_call"] {
-        let library = folder.join(format!("lib{name}.a"));
-        println!("cargo:rerun-if-changed={}", library.display());
-        if !library.is_file() {
-            fail(&format!(
-                "{} is missing.\nIn the repository's folder, `tools/libraries` proves and writes it; \
-                 or the variable NIKVOLDRA_LIBRARIES names the folder that has it.",
-                library.display()
-            ));
-        }
-        println!("cargo:rustc-link-lib=static={name}");
+    let library = folder.join("libnikvoldra.a");
+    println!("cargo:rerun-if-changed={}", library.display());
+    if !library.is_file() {
+        fail(&format!(
+            "{} is missing.\nIn the repository's folder, `tools/libraries` proves and writes it; \
+             or the variable NIKVOLDRA_LIBRARIES names the folder that has it.",
+            library.display()
+        ));
     }
+    println!("cargo:rustc-link-lib=static=nikvoldra");
 }

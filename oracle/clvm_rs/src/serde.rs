@@ -1,23 +1,6 @@
 //! Module file in the manner of the original: private modules and re-exports.
 
-#[path = "../../../../shared/docs/src/src/serde/bitset.rs"]
-mod bitset;
-#[path = "../../../../shared/docs/src/src/serde/de_br.rs"]
-mod de_br;
-#[path = "../../../../shared/docs/src/src/serde/identity_hash.rs"]
-mod identity_hash;
-#[path = "../../../../shared/docs/src/src/serde/incremental.rs"]
-mod incremental;
-#[path = "../../../../shared/docs/src/src/serde/parse_atom.rs"]
-pub mod parse_atom;
-#[path = "../../../../shared/docs/src/src/serde/path_builder.rs"]
-mod path_builder;
-#[path = "../../../../shared/docs/src/src/serde/serialized_length.rs"]
-mod serialized_length;
-#[path = "../../../../shared/docs/src/src/serde/tree_cache.rs"]
-mod tree_cache;
-#[path = "../../../../shared/docs/src/src/serde/write_atom.rs"]
-pub mod write_atom;
+include!(concat!(env!("OUT_DIR"), "/serde.rs"));
 
 pub use bitset::BitSet;
 pub use de_br::{
