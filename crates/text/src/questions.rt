@@ -29,7 +29,8 @@ question 3 got no: Does the file begin with the mark and version 1?
 question 4 got no: Does the field end inside the file?
 question 5 got no: At most 1,024 atoms, 1,024 pairs, 32,768 atom bytes so far, 1,024 steps?
 question 6 got no: Is this atom one that fits_in_small_atom turns down?
-question 7 got no: Does the handle name a listed atom, a small atom, or a pair listed earlier (for the sentinel and steps: any listed pair; the sentinel may be ffffffff)?
+question 7 got no: Does the handle name a listed atom, a small atom, or a pair listed earlier \
+(for the sentinel and steps: any listed pair; the sentinel may be ffffffff)?
 question 8 got no: Is the step code known?
 question 9 got no: At an add, is the session unfinished?
 question 10 got no: Are there fewer than 16 adds on the present history?
