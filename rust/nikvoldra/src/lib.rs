@@ -50,6 +50,11 @@ mod session;
 mod store;
 mod writer;
 
+/// The README's lines of Rust.
+#[cfg(doctest)]
+#[doc = include_str!("../../../README.md")]
+struct Readme;
+
 pub use node::{Kind, NodePtr};
 pub use refusal::Refusal;
 pub use session::{BuildError, Session};

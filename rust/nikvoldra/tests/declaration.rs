@@ -361,7 +361,8 @@ fn numbers() {
 #[test]
 fn words_of_the_programs() {
     let source = std::fs::read_to_string(place("crates/text/src/questions.rt")).unwrap();
-    let said = between(&source, "b\"", "\",");
+    // a line that ends in a backslash goes on
+    let said = between(&source, "b\"", "\",").replace("\\\n", "");
     let expected = Refusal::ALL.map(|refusal| format!("{refusal}\n")).concat();
     assert_eq!(said, expected);
 }
