@@ -1,4 +1,4 @@
--- What the crate's functions answer: the path that is used.
+-- What `find_path` answers: the path that is used.
 -- Assumes nothing.
 use mathlib.Core.Path.{_≡_}
 use mathlib.Core.Bool.{Bool}
