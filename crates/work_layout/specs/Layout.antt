@@ -140,6 +140,10 @@ ENTRIES = 3072
 abbrev pub SLOTS : ℕ
 SLOTS = 4096
 
+-- The most parents of an entry.
+abbrev pub MAX-PARENTS : ℕ
+MAX-PARENTS = 100
+
 -- The most entries on the stack.
 abbrev pub DEPTH : ℕ
 DEPTH = 4097
