@@ -217,7 +217,7 @@ module _ (w : List ℕ) (h i : ℕ) (wh : Whole w) (n : Names w (at w PAIR-COUNT
 -- ---- a pair that is not known: left, right, and the pair itself
 
 -- Handle h names pair i, which has no entry yet, and whose sides are a and b. There is room for it.
-pub record Fresh (w : List ℕ) (h i a b : ℕ) : Type 0 where
+pub record NewPair (w : List ℕ) (h i a b : ℕ) : Type 0 where
   pub whole : Whole w
   pub names : Names w (at w PAIR-COUNT) h
   pub other : at w SENTINEL ≡ h → ⊥
@@ -227,7 +227,7 @@ pub record Fresh (w : List ℕ) (h i a b : ℕ) : Type 0 where
   pub left : a ≡ at w (PAIRS + 2 * i)
   pub right : b ≡ at w (PAIRS + 2 * i + 1)
 
-module _ {w : List ℕ} {h i a b : ℕ} (d : Fresh w h i a b) where
+module _ {w : List ℕ} {h i a b : ℕ} (d : NewPair w h i a b) where
   here : i < at w PAIR-COUNT
   here = pair-low w (at w PAIR-COUNT) h i (d .names) (d .is-pair)
 

@@ -25,7 +25,8 @@ use Rattle.write_turn.specs.declared.writer_place.Place.{Place}
 use Rattle.write_turn.specs.declared.Next.the-variants.{Parse, Close, Done}
 use Rattle.write_turn.specs.State.{left-to-write, todo-of, rights-left, Standing, Writes, WriterOnly}
 use Rattle.write_turn.specs.Contracts.{Runs, goes-on, Turns, Falls, Closes}
-use Rattle.write_turn.proofs.Frames.{only-same, whole-stays, holds-stay, tables-stay, pairs-stay, names-stay, rights-few, rights-more, Beside, beside-only, beside-both, pairs-few, todo-stays, standing-stays}
+use Rattle.write_turn.proofs.Frames.{only-same, whole-stays, holds-stay, tables-stay, pairs-stay, names-stay, rights-few, rights-more}
+use Rattle.write_turn.proofs.Frames.{Beside, beside-only, beside-both, pairs-few, todo-stays, standing-stays}
 use Rattle.write_turn.proofs.Storing.{todo-none, todo-more, left-odd, left-even, store-only, store-standing, store-todo, store-writes}
 use Rattle.write_turn.proofs.Values.{push-beside, push-marks}
 

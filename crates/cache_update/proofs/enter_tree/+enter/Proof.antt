@@ -13,7 +13,7 @@ use Rattle.work_layout.specs.Layout.{PAIR-COUNT, SENTINEL, USED, ENTRIES}
 use Rattle.allocator.proofs.NodePtr.index.Reads as index-reads
 use Rattle.allocator.proofs.NodePtr.is_atom.Reads as is-atom-reads
 use Rattle.cache_nodes.specs.Contracts.{span}
-use Rattle.cache_nodes.proofs.Entering.{Fresh, pair-low, sentinel-entered, atom-entered, span-a, span-b, span-h, left-asks, right-asks, join-asks, pair-entered}
+use Rattle.cache_nodes.proofs.Entering.{NewPair, pair-low, sentinel-entered, atom-entered, span-a, span-b, span-h, left-asks, right-asks, join-asks, pair-entered}
 use Rattle.cache_nodes.proofs.Entering.{test-same, test-other, test-pair, known-at, room-one}
 use Rattle.cache_update.proofs.enter_tree.enter.Reads as enter
 use Rattle.cache_update.proofs.enter_tree.enter.Kinds as enter-kinds
@@ -110,8 +110,8 @@ module _ (t : ℕ) where
   abbrev start : Sides → Start
   start x = number x .before .before .before .before .before .before .before .before
 
-  fresh : (x : Sides) → Fresh (words (start x)) (handle (start x)) (number x .wide .result) (x .before .before .left-of .result .0) (x .right-of .result .0)
-  fresh x =
+  new-pair : (x : Sides) → NewPair (words (start x)) (handle (start x)) (number x .wide .result) (x .before .before .left-of .result .0) (x .right-of .result .0)
+  new-pair x =
       let p = start x .pre .1 in
       record {
         whole = p .0;
@@ -186,20 +186,20 @@ module _ (t : ℕ) where
   enter-requires c κs =
       let x = c .before in
       let p = start x .pre in
-      (omega (arith, p .0, span-a (fresh x), span-h (fresh x)), (p .1 .0, left-asks (fresh x) .0, left-asks (fresh x) .1))
+      (omega (arith, p .0, span-a (new-pair x), span-h (new-pair x)), (p .1 .0, left-asks (new-pair x) .0, left-asks (new-pair x) .1))
 
   enter-requires-2 : enter-lts.Need-enter-requires-2 (claims t) (enter-at t) enter.Post
   enter-requires-2 c κs =
       let l = c .before .before .before in
       let x = l .before .before in
-      let k = right-asks (fresh x) (l .enter .ensures) in
-      (omega (arith, start x .pre .0, span-b (fresh x), span-h (fresh x)), (l .enter .ensures .whole, k .0, k .1))
+      let k = right-asks (new-pair x) (l .enter .ensures) in
+      (omega (arith, start x .pre .0, span-b (new-pair x), span-h (new-pair x)), (l .enter .ensures .whole, k .0, k .1))
 
   join-requires : enter-lts.Need-join-requires (claims t) (enter-at t) enter.Post
   join-requires c κs =
       let r = c .before .before .before in
       let l = r .before .before .before .before in
-      let k = join-asks (fresh (l .before .before)) (l .enter .ensures) (r .enter2 .ensures) in
+      let k = join-asks (new-pair (l .before .before)) (l .enter .ensures) (r .enter2 .ensures) in
       ((r .enter2 .ensures .whole, k .0, k .1), (k .2, k .3, k .4))
 
   same-length-4 : enter-lts.Need-same-length-4 (claims t) (enter-at t) enter.Post
@@ -209,7 +209,7 @@ module _ (t : ℕ) where
   returns-4 c =
       let r = c .before .before .before .before .before .before in
       let l = r .before .before .before .before in
-      pair-entered (fresh (l .before .before)) (l .enter .ensures) (r .enter2 .ensures) (c .before .before .join .ensures)
+      pair-entered (new-pair (l .before .before)) (l .enter .ensures) (r .enter2 .ensures) (c .before .before .join .ensures)
 
 pub +enter-spec : {M : Type 1} → statement M
 +enter-spec =

@@ -7,8 +7,11 @@ use Rattle.write_turn.proofs.close_pairs.close_up.Statement.{statement}
 use Rattle.write_turn.proofs.close_pairs.close_up.Tie as tie
 
 -- The innermost open pair, after its number is read.
-inner : (x : tie.After-wide) → Innermost (x .before .before .before .before .before .args .work .now) (x .before .before .before .before .before .args .place) (x .before .innermost .result) (x .wide .result)
-inner x = record { stands = x .before .before .before .before .before .pre; opened = x .before .before .before .if1 .left; word = x .before .innermost .ensures; half = x .wide .ensures }
+abbrev start : tie.After-wide → tie.Start
+start x = x .before .before .before .before .before
+
+inner : (x : tie.After-wide) → Innermost (start x .args .work .now) (start x .args .place) (x .before .innermost .result) (x .wide .result)
+inner x = record { stands = start x .pre; opened = x .before .before .before .if1 .left; word = x .before .innermost .ensures; half = x .wide .ensures }
 
 returns : tie.Need-returns
 returns c = let s = c .before .before in done-turns (s .args .work .now) (s .args .place) (c .if1 .taken)

@@ -40,10 +40,14 @@ index-requires-2 : tie.Need-index-requires-2
 index-requires-2 c κs = search needs
 
 mul-work : tie.Need-mul-work
-mul-work c = let written = c .before .before .before .before .before .before .before .before .before .before in omega (arith, c .index2 .ensures, few (written .before .before .before .before .before))
+mul-work c =
+    let written = c .before .before .before .before .before .before .before .before .before .before in
+    omega (arith, c .index2 .ensures, few (written .before .before .before .before .before))
 
 add-work : tie.Need-add-work
-add-work c = let written = c .before .before .before .before .before .before .before .before .before .before in omega (arith, c .index2 .ensures, few (written .before .before .before .before .before))
+add-work c =
+    let written = c .before .before .before .before .before .before .before .before .before .before in
+    omega (arith, c .index2 .ensures, few (written .before .before .before .before .before))
 
 add-work-2 : tie.Need-add-work-2
 add-work-2 c = search needs
