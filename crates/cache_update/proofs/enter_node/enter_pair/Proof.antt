@@ -24,7 +24,8 @@ returns : tie.Need-returns
 returns c =
     let left = c .before .before .before .before .before .before .before in
     let p = left .before .before .before .pre in
-    pair-made (p .0) (p .1) (p .2) (left .length-of .ensures) (c .before .before .before .before .before .length-of2 .ensures) (c .before .before .before .before .pair-length .ensures) (c .before .before .find-or-add .ensures)
+    pair-made (p .0) (p .1) (p .2) (left .length-of .ensures) (c .before .before .before .before .before .length-of2 .ensures) (c .before .before .before .before .pair-length .ensures)
+    (c .before .before .find-or-add .ensures)
 
 pub enter-pair-spec : {M : Type 1} → statement M
 enter-pair-spec =

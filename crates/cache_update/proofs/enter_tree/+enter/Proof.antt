@@ -2,11 +2,11 @@
 -- Assumes nothing.
 use Prim.Native.Nat.{ℕ, _<_}
 use mathlib.Core.Path.{_≡_, sym, _∙_}
+use mathlib.Core.List.{List}
 use native.Mathlib.Omega.{arith}
 use borrow.Author.Needs.{needs}
 use borrow.Fn.Kinds.{In}
 use borrow.Fn.PlainCycle.{Measures, is, falls, and}
-use mathlib.Core.List.{List}
 use Rattle.words.specs.Words.{at}
 use Rattle.allocator.specs.Handle.{node-of, pair}
 use Rattle.work_layout.specs.Layout.{PAIR-COUNT, SENTINEL, USED, ENTRIES}
@@ -66,18 +66,8 @@ claims t = (
 )
 
 module _ (t : ℕ) where
-  -- The start; after the first test, where the handle is not the sentinel; after the pair's number is read; after both sides are read.
   abbrev Start : Type 0
   Start = enter-lts.Start (claims t) (enter-at t) enter.Post
-
-  abbrev Other : Type 0
-  Other = enter-lts.Else1 (claims t) (enter-at t) enter.Post
-
-  abbrev Numbered : Type 0
-  Numbered = enter-lts.After-wide (claims t) (enter-at t) enter.Post
-
-  abbrev Sides : Type 0
-  Sides = enter-lts.After-right-of (claims t) (enter-at t) enter.Post
 
   abbrev words : Start → List ℕ
   words s = s .args .work .now
@@ -88,27 +78,43 @@ module _ (t : ℕ) where
   one-more : (s : Start) → at (words s) USED < ENTRIES
   one-more s = room-one (words s) (handle s) (s .pre .1 .2)
 
-  not-sentinel : (x : Other) → at (words (x .before .before .before .before)) SENTINEL ≡ handle (x .before .before .before .before) → ⊥
+  -- After the first test, where the handle is not the sentinel.
+  abbrev Other : Type 0
+  Other = enter-lts.Else1 (claims t) (enter-at t) enter.Post
+
+  abbrev begin : Other → Start
+  begin x = x .before .before .before .before
+
+  not-sentinel : (x : Other) → at (words (begin x)) SENTINEL ≡ handle (begin x) → ⊥
   not-sentinel x = test-other (x .before .is-sentinel .ensures) (x .if1 .left)
 
-  is-pair : (x : Numbered) → node-of (handle (x .before .before .before .before .before .before .before .before)) ≡ pair (x .wide .result)
+  -- After the pair's number is read.
+  abbrev Numbered : Type 0
+  Numbered = enter-lts.After-wide (claims t) (enter-at t) enter.Post
+
+  abbrev other : Numbered → Other
+  other x = x .before .before .before .before
+
+  is-pair : (x : Numbered) → node-of (handle (begin (other x))) ≡ pair (x .wide .result)
   is-pair x =
-      let s = x .before .before .before .before .before .before .before .before in
+      let s = begin (other x) in
       test-pair (words s) (handle s) (s .pre .1 .1) (x .before .before .before .is-atom .ensures) (x .before .before .if2 .left) (x .wide .ensures ∙ x .before .index .ensures)
 
-  -- The pair's number is in range.
   low : (x : Numbered) → x .wide .result < 1024
   low x =
-      let s = x .before .before .before .before .before .before .before .before in
+      let s = begin (other x) in
       let l = pair-low (words s) (at (words s) PAIR-COUNT) (handle s) (x .wide .result) (s .pre .1 .1) (is-pair x) in
       omega (arith, l, s .pre .1 .0 .handles .few-pairs)
 
-  -- The start, and where the number is read, from where both sides are read.
+  -- After the handles of both sides are read.
+  abbrev Sides : Type 0
+  Sides = enter-lts.After-right-of (claims t) (enter-at t) enter.Post
+
   abbrev number : Sides → Numbered
   number x = x .before .before .before .before .before .before .before
 
   abbrev start : Sides → Start
-  start x = number x .before .before .before .before .before .before .before .before
+  start x = begin (other (number x))
 
   new-pair : (x : Sides) → NewPair (words (start x)) (handle (start x)) (number x .wide .result) (x .before .before .left-of .result .0) (x .right-of .result .0)
   new-pair x =
@@ -116,7 +122,7 @@ module _ (t : ℕ) where
       record {
         whole = p .0;
         names = p .1;
-        other = not-sentinel (number x .before .before .before .before);
+        other = not-sentinel (other (number x));
         is-pair = is-pair (number x);
         empty = sym (x .before .before .before .before .before .map-of .ensures) ∙ x .before .before .before .before .if3 .left;
         room = p .2;
@@ -162,7 +168,7 @@ module _ (t : ℕ) where
   wide-requires c κs = search needs
 
   map-of-requires : enter-lts.Need-map-of-requires (claims t) (enter-at t) enter.Post
-  map-of-requires c κs = (c .before .before .before .before .before .before .before .before .before .pre .1 .0 .sound .long, low (c .before))
+  map-of-requires c κs = let x = c .before in (begin (other x) .pre .1 .0 .sound .long, low x)
 
   sub-t21 : enter-lts.Need-sub-t21 (claims t) (enter-at t) enter.Post
   sub-t21 c = search needs
@@ -173,14 +179,14 @@ module _ (t : ℕ) where
   returns-3 : enter-lts.Need-returns-3 (claims t) (enter-at t) enter.Post
   returns-3 c =
       let x = c .before .before .before in
-      let s = x .before .before .before .before .before .before .before .before in
-      known-at (s .pre .1 .0) (s .pre .1 .1) (not-sentinel (x .before .before .before .before)) (is-pair x) (c .before .map-of .ensures) (c .if3 .taken)
+      let s = begin (other x) in
+      known-at (s .pre .1 .0) (s .pre .1 .1) (not-sentinel (other x)) (is-pair x) (c .before .map-of .ensures) (c .if3 .taken)
 
   left-of-requires : enter-lts.Need-left-of-requires (claims t) (enter-at t) enter.Post
-  left-of-requires c κs = let x = c .before .before .before .before in (x .before .before .before .before .before .before .before .before .pre .1 .0 .sound .long, low x)
+  left-of-requires c κs = let x = c .before .before .before .before in (begin (other x) .pre .1 .0 .sound .long, low x)
 
   right-of-requires : enter-lts.Need-right-of-requires (claims t) (enter-at t) enter.Post
-  right-of-requires c κs = let x = c .before .before .before .before .before .before in (x .before .before .before .before .before .before .before .before .pre .1 .0 .sound .long, low x)
+  right-of-requires c κs = let x = c .before .before .before .before .before .before in (begin (other x) .pre .1 .0 .sound .long, low x)
 
   enter-requires : enter-lts.Need-enter-requires (claims t) (enter-at t) enter.Post
   enter-requires c κs =
