@@ -8,7 +8,7 @@ use lib.Dec.{eqb}
 use lib.ListN.{length}
 use Rattle.words.specs.Words.{at, part}
 use Rattle.spec_session.specs.Cache.{later, add-parent, move-parents, no-parents}
-use Rattle.work_layout.specs.Layout.{MOVED, USED, LEFT, RIGHT, SEEN, ENTRIES}
+use Rattle.work_layout.specs.Layout.{MOVED, USED, LEFT, RIGHT, SEEN, ENTRIES, MAX-PARENTS}
 use Rattle.work_layout.specs.Rows.{Row, rows-of, new-row, adjust-row, parent-of, parents-of, Sound, all-counts}
 use Rattle.cache_entries.specs.declared.Found.{Found}
 use Rattle.cache_entries.specs.declared.Found.the-variants.{At, Nothing}
@@ -82,14 +82,14 @@ moved-of w n = map parent-of (part w MOVED n)
 pub record Taken (w w′ : List ℕ) (e n : ℕ) : Type 0 where
   pub sound : Sound w′
   pub used : at w′ USED ≡ at w USED
-  pub few : n ≤ 100
+  pub few : n ≤ MAX-PARENTS
   pub rows : rows-of w′ ≡ adjust-row e no-parents (rows-of w)
   pub keys : SameKeys w w′
   pub moved : moved-of w′ n ≡ parents-of w e
   pub links : (i : ℕ) → i < n → at w′ (MOVED + i) < 2 * at w USED
   pub counts : all-counts w′ ENTRIES + n ≡ all-counts w ENTRIES
   pub low : (k : ℕ) → k < MOVED → at w′ k ≡ at w k
-  pub maps : (k : ℕ) → MOVED + 100 ≤ k → k < USED → at w′ k ≡ at w k
+  pub maps : (k : ℕ) → MOVED + MAX-PARENTS ≤ k → k < USED → at w′ k ≡ at w k
   pub high : (k : ℕ) → SEEN ≤ k → at w′ k ≡ at w k
 
 -- The n parents in MOVED are entries.

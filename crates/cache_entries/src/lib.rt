@@ -6,7 +6,7 @@ use work_layout::EntryIndex;
 ghost use mathlib.Core.Path.{_≡_};
 ghost use Prim.Native.Nat.{_+_, _^_, _≤_, _<_};
 ghost use Rattle.words.specs.Words.{at};
-ghost use Rattle.work_layout.specs.Layout.{USED, COUNTS};
+ghost use Rattle.work_layout.specs.Layout.{USED, COUNTS, MAX-PARENTS};
 ghost use Rattle.work_layout.specs.Rows.{length-of, rows-of, slot-of, Sound};
 ghost use Rattle.cache_entries.specs.Contracts.{find-row, option-of};
 
@@ -20,7 +20,7 @@ fn long(x: u32) -> u64
 // How many parents entry e has.
 pub fn count_of(work: &[u32], e: EntryIndex) -> usize
     requires { ⌜ (Sound (now work)) × (e .0 < at (now work) USED) ⌝ }
-    ensures { λ n. ⌜ (n ≡ at (now (work .entry)) (COUNTS + e .0)) × (n ≤ 100) ⌝ }
+    ensures { λ n. ⌜ (n ≡ at (now (work .entry)) (COUNTS + e .0)) × (n ≤ MAX-PARENTS) ⌝ }
 {
     let i = wide(e.0);
     wide(work[work_layout::COUNTS + i])

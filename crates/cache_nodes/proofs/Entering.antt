@@ -122,8 +122,8 @@ made-entered a w w′ h x m is =
           };
     }
 
-pub sentinel-entered : (w w′ : List ℕ) (h x : ℕ) → Names w (at w PAIR-COUNT) h → at w SENTINEL ≡ h → Made sentinel-action w w′ x → Entered w w′ h x
-sentinel-entered w w′ h x n e m =
+pub sentinel-entered : {w w′ : List ℕ} {h x : ℕ} → Names w (at w PAIR-COUNT) h → at w SENTINEL ≡ h → Made sentinel-action w w′ x → Entered w w′ h x
+sentinel-entered {w} {w′} {h} {x} n e m =
     made-entered sentinel-action w w′ h x m
     (λ f c t ho. sym (ap (λ (u : Unfolded). enter u c) (unfolded-sentinel f h (sentinel-is f w h t n e)) ∙ enter-hole c))
 
@@ -138,8 +138,8 @@ is-leaf w h q a f t = go (node-of h) refl a
     go (small-atom v) e b = unfolded-small f h v (sentinel-not f w h t q) e ∙ ap (λ (m : Node). leaf h (bytes-named f m)) (sym e)
     go (unknown k i) e b = absurd (not-true b)
 
-pub atom-entered : (w w′ : List ℕ) (h x : ℕ) → (at w SENTINEL ≡ h → ⊥) → is-atom (node-of h) ≡ true → Made (atom-action h) w w′ x → Entered w w′ h x
-atom-entered w w′ h x q a m =
+pub atom-entered : {w w′ : List ℕ} {h x : ℕ} → (at w SENTINEL ≡ h → ⊥) → is-atom (node-of h) ≡ true → Made (atom-action h) w w′ x → Entered w w′ h x
+atom-entered {w} {w′} {h} {x} q a m =
     made-entered (atom-action h) w w′ h x m
     (λ f c t ho. sym (ap (λ (u : Unfolded). enter u c) (is-leaf w h q a f t) ∙ enter-leaf h (bytes-named f (node-of h)) c))
 
@@ -177,6 +177,14 @@ module _ (w : List ℕ) (h i : ℕ) (wh : Whole w) (n : Names w (at w PAIR-COUNT
   mapped-is : (f : File) (c : Cache) → Tables f w → Holds f w c → lookup i (c .mapped) ≡ entry-or-none (at w (MAPS + i))
   mapped-is f c t ho = let p = t .pair-count in ho .mapped i (omega (arith, low))
 
+  -- A pair that is not known: its sides are entered, and it is joined.
+  entering-sides : (f : File) (c : Cache) → Tables f w → Holds f w c → at w (MAPS + i) ≡ 0
+      → enter (unfolded f h) c ≡ join-pair i (enter (unfolded f left) c .1) (enter (unfolded f right) (enter (unfolded f left) c .0))
+  entering-sides f c t ho z =
+      entering f c t
+      ∙ ap (λ (o : Option ℕ). known-or o c (join-pair i (enter (unfolded f left) c .1) (enter (unfolded f right) (enter (unfolded f left) c .0))))
+      (mapped-is f c t ho ∙ ap entry-or-none z)
+
   -- A pair that is known stays as it is.
   pub known-entered : (at w (MAPS + i) ≡ 0 → ⊥) → Entered w w h (at w (MAPS + i) - 1)
   known-entered nz =
@@ -206,177 +214,189 @@ module _ (w : List ℕ) (h i : ℕ) (wh : Whole w) (n : Names w (at w PAIR-COUNT
       known zero f = absurd (f refl)
       known (suc k) f = ap {B = Option ℕ} some (omega arith)
 
-  -- ---- a pair that is not known: left, right, and the pair itself
+-- ---- a pair that is not known: left, right, and the pair itself
 
-  module _ (z : at w (MAPS + i) ≡ 0) (room : Room w h) (a b : ℕ) (ea : a ≡ at w (PAIRS + 2 * i)) (eb : b ≡ at w (PAIRS + 2 * i + 1)) where
-    few : at w PAIR-COUNT ≤ 1024
-    few = wh .handles .few-pairs
+-- Handle h names pair i, which has no entry yet, and whose sides are a and b. There is room for it.
+pub record NewPair (w : List ℕ) (h i a b : ℕ) : Type 0 where
+  pub whole : Whole w
+  pub names : Names w (at w PAIR-COUNT) h
+  pub other : at w SENTINEL ≡ h → ⊥
+  pub is-pair : node-of h ≡ pair i
+  pub empty : at w (MAPS + i) ≡ 0
+  pub room : Room w h
+  pub left : a ≡ at w (PAIRS + 2 * i)
+  pub right : b ≡ at w (PAIRS + 2 * i + 1)
 
-    names-a : Names w i a
-    names-a = subst (λ (g : ℕ). Names w i g) (sym ea) (wh .handles .lefts i low)
+module _ {w : List ℕ} {h i a b : ℕ} (d : NewPair w h i a b) where
+  here : i < at w PAIR-COUNT
+  here = pair-low w (at w PAIR-COUNT) h i (d .names) (d .is-pair)
 
-    names-b : Names w i b
-    names-b = subst (λ (g : ℕ). Names w i g) (sym eb) (wh .handles .rights i low)
+  few : at w PAIR-COUNT ≤ 1024
+  few = d .whole .handles .few-pairs
 
-    pub span-a : span (node-of a) ≤ i
-    span-a = names-span w i a names-a
+  names-a : Names w i a
+  names-a = subst (λ (g : ℕ). Names w i g) (sym (d .left)) (d .whole .handles .lefts i here)
 
-    pub span-b : span (node-of b) ≤ i
-    span-b = names-span w i b names-b
+  names-b : Names w i b
+  names-b = subst (λ (g : ℕ). Names w i g) (sym (d .right)) (d .whole .handles .rights i here)
 
-    pub span-h : span (node-of h) ≡ suc i
-    span-h = ap span e
+  pub span-a : span (node-of a) ≤ i
+  span-a = names-span w i a names-a
 
-    -- Two entries are kept for the pair, and none for its sides.
-    room-i : at w USED + 2 * unmapped w i + 2 < ENTRIES
-    room-i =
-        let r : at w USED + 2 * unmapped w (suc i) < ENTRIES = subst (λ (s : ℕ). at w USED + 2 * unmapped w s < ENTRIES) span-h room in
-        let u = unmapped-none w i z in
-        omega arith
+  pub span-b : span (node-of b) ≤ i
+  span-b = names-span w i b names-b
 
-    -- What the left side's call asks for.
-    pub left-asks : Names w (at w PAIR-COUNT) a × Room w a
-    left-asks =
-        let g = unmapped-grows w (span (node-of a)) i span-a in
+  pub span-h : span (node-of h) ≡ suc i
+  span-h = ap span (d .is-pair)
+
+  -- Two entries are kept for the pair, and none for its sides.
+  room-i : at w USED + 2 * unmapped w i + 2 < ENTRIES
+  room-i =
+      let r : at w USED + 2 * unmapped w (suc i) < ENTRIES = subst (λ (s : ℕ). at w USED + 2 * unmapped w s < ENTRIES) span-h (d .room) in
+      let u = unmapped-none w i (d .empty) in
+      omega arith
+
+  -- What the left side's call asks for.
+  pub left-asks : Names w (at w PAIR-COUNT) a × Room w a
+  left-asks =
+      let g = unmapped-grows w (span (node-of a)) i span-a in
+      let r = room-i in
+      let l = here in
+      (names-grow w i (at w PAIR-COUNT) a (omega arith) names-a, omega arith)
+
+  module _ {w₁ : List ℕ} {l : ℕ} (p : Entered w w₁ a l) where
+    zero₁ : at w₁ (MAPS + i) ≡ 0
+    zero₁ = p .maps i span-a (omega (arith, here, few)) ∙ d .empty
+
+    room₁ : at w₁ USED + 2 * unmapped w₁ i ≤ at w USED + 2 * unmapped w i + 1
+    room₁ = p .bounded i span-a (omega (arith, here, few)) .room
+
+    names-b₁ : Names w₁ i b
+    names-b₁ = subst (λ (k : ℕ). named k i (node-of b) ≡ true) (sym (p .outside .below ATOM-COUNT (omega arith))) names-b
+
+    pairs₁ : at w₁ PAIR-COUNT ≡ at w PAIR-COUNT
+    pairs₁ = p .outside .below PAIR-COUNT (omega arith)
+
+    -- What the right side's call asks for.
+    pub right-asks : Names w₁ (at w₁ PAIR-COUNT) b × Room w₁ b
+    right-asks =
+        let g = unmapped-grows w₁ (span (node-of b)) i span-b in
         let r = room-i in
-        let l = low in
-        (names-grow w i (at w PAIR-COUNT) a (omega arith) names-a, omega arith)
+        let s = room₁ in
+        let t = pairs₁ in
+        let k = here in
+        (names-grow w₁ i (at w₁ PAIR-COUNT) b (omega arith) names-b₁, omega arith)
 
-    module _ (w₁ : List ℕ) (l : ℕ) (p : Entered w w₁ a l) where
-      zero₁ : at w₁ (MAPS + i) ≡ 0
-      zero₁ = p .maps i span-a (omega (arith, low, few)) ∙ z
+    module _ {w₂ : List ℕ} {r : ℕ} (s : Entered w₁ w₂ b r) where
+      zero₂ : at w₂ (MAPS + i) ≡ 0
+      zero₂ = s .maps i span-b (omega (arith, here, few)) ∙ zero₁
 
-      room₁ : at w₁ USED + 2 * unmapped w₁ i ≤ at w USED + 2 * unmapped w i + 1
-      room₁ = p .bounded i span-a (omega (arith, low, few)) .room
+      room₂ : at w₂ USED + 2 * unmapped w₂ i ≤ at w₁ USED + 2 * unmapped w₁ i + 1
+      room₂ = s .bounded i span-b (omega (arith, here, few)) .room
 
-      names-b₁ : Names w₁ i b
-      names-b₁ = subst (λ (k : ℕ). named k i (node-of b) ≡ true) (sym (p .outside .below ATOM-COUNT (omega arith))) names-b
+      pairs₂ : at w₂ PAIR-COUNT ≡ at w PAIR-COUNT
+      pairs₂ = s .outside .below PAIR-COUNT (omega arith) ∙ pairs₁
 
-      pairs₁ : at w₁ PAIR-COUNT ≡ at w PAIR-COUNT
-      pairs₁ = p .outside .below PAIR-COUNT (omega arith)
+      -- What joining the pair asks for.
+      pub join-asks : (i < at w₂ PAIR-COUNT) × (at w₂ (MAPS + i) ≡ 0) × (l < at w₂ USED) × (r < at w₂ USED) × (at w₂ USED < ENTRIES)
+      join-asks =
+          let t = pairs₂ in
+          let k = here in
+          let lo = p .low in
+          let mo = s .more in
+          let c = room₂ in
+          let d = room₁ in
+          let g = room-i in
+          (omega arith, zero₂, omega arith, s .low, omega arith)
 
-      -- What the right side's call asks for.
-      pub right-asks : Names w₁ (at w₁ PAIR-COUNT) b × Room w₁ b
-      right-asks =
-          let g = unmapped-grows w₁ (span (node-of b)) i span-b in
-          let r = room-i in
-          let s = room₁ in
-          let t = pairs₁ in
-          let k = low in
-          (names-grow w₁ i (at w₁ PAIR-COUNT) b (omega arith) names-b₁, omega arith)
-
-      module _ (w₂ : List ℕ) (r : ℕ) (s : Entered w₁ w₂ b r) where
-        zero₂ : at w₂ (MAPS + i) ≡ 0
-        zero₂ = s .maps i span-b (omega (arith, low, few)) ∙ zero₁
-
-        room₂ : at w₂ USED + 2 * unmapped w₂ i ≤ at w₁ USED + 2 * unmapped w₁ i + 1
-        room₂ = s .bounded i span-b (omega (arith, low, few)) .room
-
-        pairs₂ : at w₂ PAIR-COUNT ≡ at w PAIR-COUNT
-        pairs₂ = s .outside .below PAIR-COUNT (omega arith) ∙ pairs₁
-
-        -- What joining the pair asks for.
-        pub join-asks : (i < at w₂ PAIR-COUNT) × (at w₂ (MAPS + i) ≡ 0) × (l < at w₂ USED) × (r < at w₂ USED) × (at w₂ USED < ENTRIES)
-        join-asks =
-            let t = pairs₂ in
-            let k = low in
-            let lo = p .low in
-            let mo = s .more in
+      module _ {w₃ : List ℕ} {x : ℕ} (j : Joined w₂ w₃ i l r x) where
+        bounded-here : Bounded w w₃ (suc i)
+        bounded-here =
+            let u = unmapped-none w i (d .empty) in
+            let v = unmapped-none w₂ i zero₂ in
+            let mp = j .mapped in
+            let y = unmapped-more w₂ w₃ i zero₂ (omega arith) (omega (arith, here, few)) (j .maps) in
             let c = room₂ in
             let d = room₁ in
-            let g = room-i in
-            (omega arith, zero₂, omega arith, s .low, omega arith)
+            let n₁ = p .bounded i span-a (omega (arith, here, few)) .counts in
+            let n₂ = s .bounded i span-b (omega (arith, here, few)) .counts in
+            record { room = omega (arith, j .few); counts = omega (arith, j .counts) }
 
-        module _ (w₃ : List ℕ) (x : ℕ) (j : Joined w₂ w₃ i l r x) where
-          bounded-here : Bounded w w₃ (suc i)
-          bounded-here =
-              let u = unmapped-none w i z in
-              let v = unmapped-none w₂ i zero₂ in
-              let mp = j .mapped in
-              let y = unmapped-more w₂ w₃ i zero₂ (omega arith) (omega (arith, low, few)) (j .maps) in
-              let c = room₂ in
-              let d = room₁ in
-              let n₁ = p .bounded i span-a (omega (arith, low, few)) .counts in
-              let n₂ = s .bounded i span-b (omega (arith, low, few)) .counts in
-              record { room = omega (arith, j .few); counts = omega (arith, j .counts) }
+        maps-above : (k : ℕ) → suc i ≤ k → k < 1024 → at w₃ (MAPS + k) ≡ at w (MAPS + k)
+        maps-above k g y =
+            j .maps k y (λ o. omega arith) ∙ s .maps k (omega (arith, span-b)) y ∙ p .maps k (omega (arith, span-a)) y
 
-          maps-above : (k : ℕ) → suc i ≤ k → k < 1024 → at w₃ (MAPS + k) ≡ at w (MAPS + k)
-          maps-above k g y =
-              j .maps k y (λ o. omega arith) ∙ s .maps k (omega (arith, span-b)) y ∙ p .maps k (omega (arith, span-a)) y
+        bounded : (m : ℕ) → suc i ≤ m → m ≤ 1024 → Bounded w w₃ m
+        bounded m g y =
+            let c = bounded-here in
+            let u = unmapped-above w w₃ (suc i) m g y maps-above in
+            record { room = omega (arith, c .room); counts = omega (arith, c .counts) }
 
-          bounded : (m : ℕ) → suc i ≤ m → m ≤ 1024 → Bounded w w₃ m
-          bounded m g y =
-              let c = bounded-here in
-              let u = unmapped-above w w₃ (suc i) m g y maps-above in
-              record { room = omega (arith, c .room); counts = omega (arith, c .counts) }
+        acts : (f : File) (c : Cache) → Tables f w → Holds f w c → Acts (enter-action h) w₃ x f c
+        acts f c t ho =
+            record {
+              holds = subst (λ (y : Cache × ℕ). Holds f w₃ (y .0)) (sym is) (dj .holds);
+              answer = dj .answer ∙ ap (λ (y : Cache × ℕ). y .1) (sym is);
+            }
+          where
+            t₁ : Tables f w₁
+            t₁ = tables-kept w w₁ (λ k y. p .outside .below k (omega arith)) f (d .whole .handles) t
 
-          acts : (f : File) (c : Cache) → Tables f w → Holds f w c → Acts (enter-action h) w₃ x f c
-          acts f c t ho =
-              record {
-                holds = subst (λ (y : Cache × ℕ). Holds f w₃ (y .0)) (sym is) (dj .holds);
-                answer = dj .answer ∙ ap (λ (y : Cache × ℕ). y .1) (sym is);
-              }
-            where
-              t₁ : Tables f w₁
-              t₁ = tables-kept w w₁ (λ k y. p .outside .below k (omega arith)) f (wh .handles) t
+            t₂ : Tables f w₂
+            t₂ = tables-kept w₁ w₂ (λ k y. s .outside .below k (omega arith)) f (p .whole .handles) t₁
 
-              t₂ : Tables f w₂
-              t₂ = tables-kept w₁ w₂ (λ k y. s .outside .below k (omega arith)) f (p .whole .handles) t₁
+            da : Acts (enter-action a) w₁ l f c
+            da = p .does f c t ho
 
-              da : Acts (enter-action a) w₁ l f c
-              da = p .does f c t ho
+            db : Acts (enter-action b) w₂ r f (enter (unfolded f a) c .0)
+            db = s .does f (enter (unfolded f a) c .0) t₁ (da .holds)
 
-              db : Acts (enter-action b) w₂ r f (enter (unfolded f a) c .0)
-              db = s .does f (enter (unfolded f a) c .0) t₁ (da .holds)
+            dj : Acts (join-action i l r) w₃ x f (enter (unfolded f b) (enter (unfolded f a) c .0) .0)
+            dj = j .does f (enter (unfolded f b) (enter (unfolded f a) c .0) .0) t₂ (db .holds)
 
-              dj : Acts (join-action i l r) w₃ x f (enter (unfolded f b) (enter (unfolded f a) c .0) .0)
-              dj = j .does f (enter (unfolded f b) (enter (unfolded f a) c .0) .0) t₂ (db .holds)
+            sides : join-pair i (enter (unfolded f a) c .1) (enter (unfolded f b) (enter (unfolded f a) c .0))
+                ≡ join-pair i l (enter (unfolded f b) (enter (unfolded f a) c .0) .0, r)
+            sides = λ k. join-pair i (sym (da .answer) k) (enter (unfolded f b) (enter (unfolded f a) c .0) .0, sym (db .answer) k)
 
-              sides : join-pair i (enter (unfolded f a) c .1) (enter (unfolded f b) (enter (unfolded f a) c .0))
-                  ≡ join-pair i l (enter (unfolded f b) (enter (unfolded f a) c .0) .0, r)
-              sides = λ k. join-pair i (sym (da .answer) k) (enter (unfolded f b) (enter (unfolded f a) c .0) .0, sym (db .answer) k)
+            is : enter (unfolded f h) c ≡ join-pair i l (enter (unfolded f b) (enter (unfolded f a) c .0) .0, r)
+            is =
+                entering-sides w h i (d .whole) (d .names) (d .other) (d .is-pair) f c t ho (d .empty)
+                ∙ (λ k. join-pair i (enter (unfolded f (sym (d .left) k)) c .1) (enter (unfolded f (sym (d .right) k)) (enter (unfolded f (sym (d .left) k)) c .0)))
+                ∙ sides
 
-              is : enter (unfolded f h) c ≡ join-pair i l (enter (unfolded f b) (enter (unfolded f a) c .0) .0, r)
-              is =
-                  entering f c t
-                  ∙ ap (λ (o : Option ℕ). known-or o c (join-pair i (enter (unfolded f left) c .1) (enter (unfolded f right) (enter (unfolded f left) c .0))))
-                  (mapped-is f c t ho ∙ ap entry-or-none z)
-                  ∙ (λ k. join-pair i (enter (unfolded f (sym ea k)) c .1) (enter (unfolded f (sym eb k)) (enter (unfolded f (sym ea k)) c .0)))
-                  ∙ sides
-
-          -- The pair is entered.
-          pub pair-entered : Entered w w₃ h x
-          pair-entered =
-              record {
-                whole = j .whole;
-                low = j .low;
-                more = omega (arith, p .more, s .more, j .more);
-                bounded = λ m g y. bounded m (subst (λ (k : ℕ). k ≤ m) span-h g) y;
-                maps = λ k g y. maps-above k (subst (λ (m : ℕ). m ≤ k) span-h g) y;
-                outside =
-                    record {
-                      below = λ k y. j .outside .below k y ∙ s .outside .below k y ∙ p .outside .below k y;
-                      above = λ k y. j .outside .above k y ∙ s .outside .above k y ∙ p .outside .above k y;
-                    };
-                does = acts;
-              }
+        -- The pair is entered.
+        pub pair-entered : Entered w w₃ h x
+        pair-entered =
+            record {
+              whole = j .whole;
+              low = j .low;
+              more = omega (arith, p .more, s .more, j .more);
+              bounded = λ m g y. bounded m (subst (λ (k : ℕ). k ≤ m) span-h g) y;
+              maps = λ k g y. maps-above k (subst (λ (m : ℕ). m ≤ k) span-h g) y;
+              outside =
+                  record {
+                    below = λ k y. j .outside .below k y ∙ s .outside .below k y ∙ p .outside .below k y;
+                    above = λ k y. j .outside .above k y ∙ s .outside .above k y ∙ p .outside .above k y;
+                  };
+              does = acts;
+            }
 
 -- ---- what the tests of the code say
 
-pub test-same : (r : Bool) (a b : ℕ) → r ≡ eqb a b → r ≡ true → a ≡ b
-test-same r a b e t = eqb-true a b (sym e ∙ t)
+pub test-same : {r : Bool} {a b : ℕ} → r ≡ eqb a b → r ≡ true → a ≡ b
+test-same {r} {a} {b} e t = eqb-true a b (sym e ∙ t)
 
-pub test-other : (r : Bool) (a b : ℕ) → r ≡ eqb a b → r ≡ false → a ≡ b → ⊥
-test-other r a b e t q = not-true (sym (sym e ∙ t) ∙ eq-eqb a b q)
+pub test-other : {r : Bool} {a b : ℕ} → r ≡ eqb a b → r ≡ false → a ≡ b → ⊥
+test-other {r} {a} {b} e t q = not-true (sym (sym e ∙ t) ∙ eq-eqb a b q)
 
 -- A handle that is no atom's names the pair of its index.
-pub test-pair : (w : List ℕ) (h i : ℕ) (r : Bool) → Names w (at w PAIR-COUNT) h → r ≡ is-atom (node-of h) → r ≡ false → i ≡ index-of (node-of h)
+pub test-pair : (w : List ℕ) (h : ℕ) {i : ℕ} {r : Bool} → Names w (at w PAIR-COUNT) h → r ≡ is-atom (node-of h) → r ≡ false → i ≡ index-of (node-of h)
     → node-of h ≡ pair i
-test-pair w h i r n e t q = names-pair w (at w PAIR-COUNT) h n (sym e ∙ t) ∙ ap pair (sym q)
+test-pair w h {i} {r} n e t q = names-pair w (at w PAIR-COUNT) h n (sym e ∙ t) ∙ ap pair (sym q)
 
-pub known-at : (w : List ℕ) (h i k : ℕ) → Whole w → Names w (at w PAIR-COUNT) h → (at w SENTINEL ≡ h → ⊥) → node-of h ≡ pair i
+pub known-at : {w : List ℕ} {h i k : ℕ} → Whole w → Names w (at w PAIR-COUNT) h → (at w SENTINEL ≡ h → ⊥) → node-of h ≡ pair i
     → k ≡ at w (MAPS + i) → (k ≡ 0 → ⊥) → Entered w w h (k - 1)
-known-at w h i k wh n q e m nz =
+known-at {w} {h} {i} {k} wh n q e m nz =
     subst (λ (j : ℕ). Entered w w h (j - 1)) (sym m) (known-entered w h i wh n q e (λ z. nz (m ∙ z)))
 
 -- There is room for one entry at least.

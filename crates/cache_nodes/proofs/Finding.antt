@@ -17,8 +17,8 @@ use Rattle.cache_nodes.proofs.Keys.{key-atom, key-pair, find-atom, find
 use Rattle.cache_nodes.proofs.Lift.{length-of-rows}
 use Rattle.cache_nodes.proofs.Making.{interned-made}
 
-pub atom-made : (w w′ : List ℕ) (h k n x : ℕ) → Whole w → Stands w h k → Measured w h n → Interned w w′ ATOM-KEY k n x → Made (atom-action h) w w′ x
-atom-made w w′ h k n x wh s m i =
+pub atom-made : {w w′ : List ℕ} {h k n x : ℕ} → Whole w → Stands w h k → Measured w h n → Interned w w′ ATOM-KEY k n x → Made (atom-action h) w w′ x
+atom-made {w} {w′} {h} {k} {n} {x} wh s m i =
     interned-made w w′ ATOM-KEY k n x i wh (atom-words refl (s .first)) (atom-action h)
     (λ f c t ho.
     record {
@@ -28,16 +28,16 @@ atom-made w w′ h k n x wh s m i =
       act = λ j. find-or-add (atom-key (sym (s .bytes f t) j)) (sym (m .measured f t) j) c;
     })
 
-module _ (w w′ : List ℕ) (l r a b n x : ℕ) (wh : Whole w) (hl : l < at w USED) (hr : r < at w USED) (ea : a ≡ length-of w l) (eb : b ≡ length-of w r)
-    (en : n ≡ pair-length a b) where
+module _ {w w′ : List ℕ} {l r a b n x : ℕ} (wh : Whole w) (hl : l < at w USED) (hr : r < at w USED) (ea : a ≡ length-of w l) (eb : b ≡ length-of w r)
+    (en : n ≡ pair-length a b) (i : Interned w w′ l r n x) where
   lengths : (f : File) (c : Cache) → Holds f w c → pair-length (length-at l (c .entries)) (length-at r (c .entries)) ≡ n
   lengths f c ho =
       let la : length-at l (c .entries) ≡ a = ap (length-at l) (ho .entries) ∙ length-of-rows f w l hl ∙ sym ea in
       let lb : length-at r (c .entries) ≡ b = ap (length-at r) (ho .entries) ∙ length-of-rows f w r hr ∙ sym eb in
       (λ j. pair-length (la j) (lb j)) ∙ sym en
 
-  pub pair-made : Interned w w′ l r n x → Made (pair-action l r) w w′ x
-  pair-made i =
+  pub pair-made : Made (pair-action l r) w w′ x
+  pair-made =
       interned-made w w′ l r n x i wh (pair-words hl hr) (pair-action l r)
       (λ f c t ho.
       record {

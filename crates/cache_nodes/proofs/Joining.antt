@@ -55,7 +55,7 @@ module _ (w w′ : List ℕ) (e p : ℕ) (side : Bool) (wh : Whole w) (a : Paren
 
 -- ---- the pair
 
-module _ (w w₁ w₂ w₃ : List ℕ) (i l r x : ℕ) (wh : Whole w) (named : i < at w PAIR-COUNT) (z : at w (MAPS + i) ≡ 0)
+module _ {w w₁ w₂ w₃ : List ℕ} (i : ℕ) {l r x : ℕ} (wh : Whole w) (named : i < at w PAIR-COUNT) (z : at w (MAPS + i) ≡ 0)
     (m : Made (pair-action l r) w w₁ x) (a : ParentAdded w₁ w₂ l x false) (b : ParentAdded w₂ w₃ r x true) where
   few : at w PAIR-COUNT ≤ 1024
   few = wh .handles .few-pairs

@@ -92,7 +92,7 @@ module _ (w w′ : List ℕ) (e n : ℕ) (wh : Whole w) (nz : at w SENTINEL-ENTR
 
 -- ---- the update
 
-module _ (w w₁ : List ℕ) (h n : ℕ) (wh : Whole w) (names : Names w (at w PAIR-COUNT) h) (room : at w USED + 2 * unmapped w (at w PAIR-COUNT) < ENTRIES)
+module _ {w w₁ : List ℕ} (h : ℕ) {n : ℕ} (wh : Whole w) (names : Names w (at w PAIR-COUNT) h) (room : at w USED + 2 * unmapped w (at w PAIR-COUNT) < ENTRIES)
     (c₁ : Cleared w w₁ n) where
   few : at w PAIR-COUNT ≤ 1024
   few = wh .handles .few-pairs
@@ -113,7 +113,7 @@ module _ (w w₁ : List ℕ) (h n : ℕ) (wh : Whole w) (names : Names w (at w P
       let g = unmapped-grows w (span (node-of h)) (at w PAIR-COUNT) s in
       (names₁, omega arith)
 
-  module _ (w₂ : List ℕ) (x : ℕ) (e₂ : Entered w₁ w₂ h x) where
+  module _ {w₂ : List ℕ} {x : ℕ} (e₂ : Entered w₁ w₂ h x) where
     -- What placing the parents asks for.
     pub place-asks : MovedLinks w₂ n
     place-asks i l =
@@ -123,7 +123,7 @@ module _ (w w₁ : List ℕ) (h n : ℕ) (wh : Whole w) (names : Names w (at w P
         let u = c₁ .used in
         omega (arith, e₂ .more)
 
-    module _ (len : length w₂ ≡ length w₁) (w₃ : List ℕ) (p : Placed w₂ w₃ x n) where
+    module _ (len : length w₂ ≡ length w₁) {w₃ : List ℕ} (p : Placed w₂ w₃ x n) where
       maps₃ : (k : ℕ) → k < 1024 → at w₃ (MAPS + k) ≡ at w₂ (MAPS + k)
       maps₃ k l = p .kept .low (MAPS + k) (omega arith)
 

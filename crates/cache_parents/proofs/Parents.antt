@@ -155,6 +155,6 @@ module _ (w : List ℕ) (e p b n : ℕ) (t : Bool) (s : Sound w) (h : e < at w U
   unfolding link
   pushed i q l = rw q (pushed-words l)
 
-  pub replaced : (i k : ℕ) → i ≡ e → k ≡ (p + b) % 100 → 100 ≤ n → ParentAdded w (set w (PARENTS + i * 100 + k) (p * 2 + b)) e p t
+  pub replaced : (i k : ℕ) → i ≡ e → k ≡ p + b → 100 ≤ n → ParentAdded w (set w (PARENTS + i * 100 + k % 100) (p * 2 + b)) e p t
   unfolding link
   replaced i k q x l = rw (q, x) (replaced-words l)

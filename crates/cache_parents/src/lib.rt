@@ -2,6 +2,7 @@
 pub mod moved_parents;
 
 use work_layout::EntryIndex;
+use work_layout::MAX_PARENTS;
 ghost use mathlib.Core.Path.{_≡_};
 ghost use mathlib.Core.Bool.{cond};
 ghost use Prim.Native.Nat.{_<_};
@@ -27,11 +28,11 @@ pub fn add_parent(work: &mut [u32], e: EntryIndex, parent: EntryIndex, right: bo
     let up = parent.0;
     let position = position_of(right);
     let link = up * 2 + position;
-    if n < 100 {
-        work[work_layout::PARENTS + i * 100 + n] = link;
+    if n < MAX_PARENTS {
+        work[work_layout::PARENTS + i * MAX_PARENTS + n] = link;
         work[work_layout::COUNTS + i] = (n + 1) as u32;
     } else {
-        let slot = words::wide((up + position) % 100);
-        work[work_layout::PARENTS + i * 100 + slot] = link;
+        let slot = words::wide(up + position) % MAX_PARENTS;
+        work[work_layout::PARENTS + i * MAX_PARENTS + slot] = link;
     }
 }

@@ -13,7 +13,7 @@ use Rattle.cache_stack.proofs.marks.Bits.{marked-same}
 use Rattle.cache_stack.specs.Contracts.{Pushed, PushedMarked}
 use Rattle.cache_stack.proofs.Stacks.{stacked-same, stack-same}
 
-module _ (w v : List ℕ) (d e len : ℕ) (p : Pushed w v d e) where
+module _ {w v : List ℕ} {d e len : ℕ} (p : Pushed w v d e) where
   pub push-only : len < 4 → PushedMarked w v d e len
   push-only h =
       record {
@@ -24,7 +24,7 @@ module _ (w v : List ℕ) (d e len : ℕ) (p : Pushed w v d e) where
         high = λ k l. p .only .high k (omega arith);
       }
 
-  module _ (w′ : List ℕ) (m : Marked v w′ e) where
+  module _ {w′ : List ℕ} (m : Marked v w′ e) where
     pub push-and-mark : 4 ≤ len → PushedMarked w w′ d e len
     push-and-mark h =
         record {

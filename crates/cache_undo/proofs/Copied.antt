@@ -12,7 +12,7 @@ use Rattle.cache_undo.specs.undo_state.Contracts.{copied-open, copied-st
 use Rattle.cache_undo.specs.Contracts.{PoppedAll, PushedAll, Restored}
 
 -- The present stack goes, the copy's is pushed, and open pairs and marks are copied back.
-module _ (w t u v w′ : List ℕ) (k opens d : ℕ) (short : opens ≤ 4096)
+module _ {w t u v w′ : List ℕ} (k : ℕ) {opens d : ℕ} (short : opens ≤ 4096)
     (gone : PoppedAll w t) (back : PushedAll t u (copied-stack k) d)
     (pairs : Copied u v (copied-open k) OPEN opens) (bits : Copied v w′ (copied-marks k) WRITTEN 96) where
   -- A word that no copy reaches.

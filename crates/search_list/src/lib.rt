@@ -10,7 +10,7 @@ ghost use mathlib.Core.Path.{_≡_};
 ghost use Prim.Native.Nat.{_+_, _*_, _≤_, _<_};
 ghost use lib.ListN.{length};
 ghost use Rattle.words.specs.Words.{at, WORK};
-ghost use Rattle.work_layout.specs.Layout.{ENTRIES, COUNTS, TOPS, PARENTS, LENS};
+ghost use Rattle.work_layout.specs.Layout.{ENTRIES, COUNTS, TOPS, PARENTS, MAX-PARENTS, LENS};
 ghost use Rattle.search_list.specs.State.{node-at, place-at, extra-at, seen-at};
 ghost use Rattle.search_list.specs.Steps.{Stored, Marked};
 
@@ -31,10 +31,10 @@ pub fn count_of(work: &[u32], e: usize) -> usize
 
 // Parent i of entry e, doubled, and its position.
 pub fn parent_at(work: &[u32], e: usize, i: usize) -> u32
-    requires { ⌜ (WORK ≤ length (now work)) × (e < ENTRIES) × (i < 100) ⌝ }
-    ensures { λ r. ⌜ r ≡ at (now (work .entry)) (PARENTS + e * 100 + i) ⌝ }
+    requires { ⌜ (WORK ≤ length (now work)) × (e < ENTRIES) × (i < MAX-PARENTS) ⌝ }
+    ensures { λ r. ⌜ r ≡ at (now (work .entry)) (PARENTS + e * MAX-PARENTS + i) ⌝ }
 {
-    work[work_layout::PARENTS + e * 100 + i]
+    work[work_layout::PARENTS + e * work_layout::MAX_PARENTS + i]
 }
 
 // One more than the highest place of entry e on the stack, or 0.

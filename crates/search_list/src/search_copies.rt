@@ -4,7 +4,7 @@ ghost use mathlib.Core.List.{_++_, _∷_, []};
 ghost use Prim.Native.Nat.{_+_, _-_, _*_, _≤_, _<_};
 ghost use lib.ListN.{length};
 ghost use Rattle.words.specs.Words.{at, WORK};
-ghost use Rattle.work_layout.specs.Layout.{ENTRIES, PARENTS};
+ghost use Rattle.work_layout.specs.Layout.{ENTRIES, PARENTS, MAX-PARENTS};
 ghost use Rattle.work_layout.specs.Rows.{parent-of, Tops};
 ghost use Rattle.spec_search.specs.Search.{upward};
 ghost use Rattle.search_list.specs.Steps.{PathsOK, copies, stacked, Links, Nodes, Relisted, Visited};
@@ -34,7 +34,7 @@ fn add_copy(work: &mut [u32], e: usize, i: usize, n: usize, m: usize) -> usize
         Relisted (now (work .entry)) (now (work .exit)) m r
         (trails-of (now (work .entry)) n
         ++ upward (seen-of (now (work .entry)) m) (node-bits (now (work .entry)) m)
-        (parent-of (at (now (work .entry)) (PARENTS + e * 100 + i)) ∷ [])) ⌝ }
+        (parent-of (at (now (work .entry)) (PARENTS + e * MAX-PARENTS + i)) ∷ [])) ⌝ }
 {
     let v = crate::parent_at(work, e, i);
     if crate::is_seen(work, words::wide(v) / 2) {

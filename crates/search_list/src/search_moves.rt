@@ -5,7 +5,7 @@ ghost use mathlib.Core.List.{_++_};
 ghost use Prim.Native.Nat.{_+_, _-_, _*_, _≤_, _<_};
 ghost use lib.ListN.{length, set};
 ghost use Rattle.words.specs.Words.{at, WORK};
-ghost use Rattle.work_layout.specs.Layout.{ENTRIES, PARENTS};
+ghost use Rattle.work_layout.specs.Layout.{ENTRIES, PARENTS, MAX-PARENTS};
 ghost use Rattle.work_layout.specs.Rows.{Tops};
 ghost use Rattle.spec_search.specs.Flat.{swap-remove};
 ghost use Rattle.search_list.specs.Steps.{PathsOK, copies, stacked, Links, Nodes, Relisted, FirstUnseen};
@@ -48,7 +48,7 @@ pub fn go_up(work: &mut [u32], c: usize, n: usize, m: usize, e: usize, k: usize,
     ensures { λ r. ⌜
         Relisted (now (work .entry)) (now (work .exit)) m r
         (set (trails-of (now (work .entry)) n) c
-        (trail 0 (node-bits (now (work .entry)) m) (at (now (work .entry)) (PARENTS + e * 100 + k)))
+        (trail 0 (node-bits (now (work .entry)) m) (at (now (work .entry)) (PARENTS + e * MAX-PARENTS + k)))
         ++ (copies (now (work .entry)) m e (k + 1) ++ stacked (now (work .entry)) m e d)) ⌝ }
 {
     let v = crate::parent_at(work, e, k);

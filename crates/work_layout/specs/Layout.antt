@@ -140,6 +140,10 @@ ENTRIES = 3072
 abbrev pub SLOTS : ℕ
 SLOTS = 4096
 
+-- The most parents of an entry.
+abbrev pub MAX-PARENTS : ℕ
+MAX-PARENTS = 100
+
 -- The most entries on the stack.
 abbrev pub DEPTH : ℕ
 DEPTH = 4097
@@ -169,7 +173,7 @@ regions =
     record { offset = BELOW; size = 4097 } ∷
     record { offset = TOPS; size = 3072 } ∷
     record { offset = WRITTEN; size = 96 } ∷
-    record { offset = MOVED; size = 100 } ∷
+    record { offset = MOVED; size = MAX-PARENTS } ∷
     record { offset = MAPS; size = 1024 } ∷
     record { offset = SENTINEL-ENTRY; size = 1 } ∷
     record { offset = USED; size = 1 } ∷

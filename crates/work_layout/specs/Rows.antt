@@ -6,7 +6,7 @@ use mathlib.Core.List.{List, [], _∷_, map}
 use lib.Dec.{eqb}
 use lib.ListN.{length}
 use Rattle.words.specs.Words.{at, part, tabulate, WORK}
-use Rattle.work_layout.specs.Layout.{TOPS, STACK, USED, COUNTS, LEFT, RIGHT, LOW, HIGH, NEXT, HEADS, PARENTS, ENTRIES, SLOTS, DEPTH}
+use Rattle.work_layout.specs.Layout.{TOPS, STACK, USED, COUNTS, LEFT, RIGHT, LOW, HIGH, NEXT, HEADS, PARENTS, ENTRIES, MAX-PARENTS, SLOTS, DEPTH}
 
 -- ---- entries
 
@@ -16,7 +16,7 @@ parent-of v = (v / 2, eqb (v % 2) 1)
 
 -- The parents of entry e.
 unfoldable pub parents-of : List ℕ → ℕ → List (ℕ × Bool)
-parents-of w e = map parent-of (part w (PARENTS + e * 100) (at w (COUNTS + e)))
+parents-of w e = map parent-of (part w (PARENTS + e * MAX-PARENTS) (at w (COUNTS + e)))
 
 -- The length of entry e, in two words.
 abbrev pub length-of : List ℕ → ℕ → ℕ
@@ -75,9 +75,9 @@ pub record Distinct (w : List ℕ) : Type 0 where
 pub record Sound (w : List ℕ) : Type 0 where
   pub long : WORK ≤ length w
   pub used : at w USED ≤ ENTRIES
-  pub counts : (e : ℕ) → e < ENTRIES → at w (COUNTS + e) ≤ 100
+  pub counts : (e : ℕ) → e < ENTRIES → at w (COUNTS + e) ≤ MAX-PARENTS
   pub unused : (e : ℕ) → at w USED ≤ e → e < ENTRIES → at w (COUNTS + e) ≡ 0
-  pub links : (e i : ℕ) → e < ENTRIES → i < at w (COUNTS + e) → at w (PARENTS + e * 100 + i) < 2 * at w USED
+  pub links : (e i : ℕ) → e < ENTRIES → i < at w (COUNTS + e) → at w (PARENTS + e * MAX-PARENTS + i) < 2 * at w USED
   pub chained : Chained w
   pub distinct : Distinct w
 

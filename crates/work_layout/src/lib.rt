@@ -103,5 +103,8 @@ pub struct EntryIndex(pub u32);
 // The most entries.
 pub const ENTRIES: usize = 3072;
 
+// The most parents of an entry.
+pub const MAX_PARENTS: usize = 100;
+
 // The words of one undo copy.
 pub const COPY: usize = 8289;

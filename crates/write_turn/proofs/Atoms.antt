@@ -56,7 +56,7 @@ pub part-is : (file w : List ℕ) (i a b : ℕ) (x : atom.Written) (out : List �
     → x ≡ put out size (some (item-bytes (atom-item (bytes-at file w i))))
 part-is file w i a b x out size p q e = rw (p, q) at e
 
-module _ (file w : List ℕ) (h : ℕ) (out out′ : List ℕ) (size : ℕ) (r : Put) (wh : Whole w) (n : Names w (at w PAIR-COUNT) h) where
+module _ {file w : List ℕ} {h : ℕ} {out out′ : List ℕ} {size : ℕ} {r : Put} (wh : Whole w) (n : Names w (at w PAIR-COUNT) h) where
   -- A listed atom, of number x.
   pub listed-put : (x : ℕ) → AtomPlaces file w → is-listed (node-of h) ≡ true → x ≡ index-of (node-of h)
       → written r out′ ≡ put out size (some (item-bytes (atom-item (bytes-at file w x)))) → AtomPut file w h out out′ size r

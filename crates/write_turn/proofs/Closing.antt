@@ -25,7 +25,8 @@ use Rattle.write_turn.specs.declared.writer_place.Place.{Place}
 use Rattle.write_turn.specs.declared.Next.the-variants.{Parse, Close, Done}
 use Rattle.write_turn.specs.State.{left-to-write, todo-of, rights-left, Standing, Writes, WriterOnly}
 use Rattle.write_turn.specs.Contracts.{Runs, goes-on, Turns, Falls, Closes}
-use Rattle.write_turn.proofs.Frames.{only-same, whole-stays, holds-stay, tables-stay, pairs-stay, names-stay, rights-few, rights-more, Beside, beside-only, beside-both, pairs-few, todo-stays, standing-stays}
+use Rattle.write_turn.proofs.Frames.{only-same, whole-stays, holds-stay, tables-stay, pairs-stay, names-stay, rights-few, rights-more}
+use Rattle.write_turn.proofs.Frames.{Beside, beside-only, beside-both, pairs-few, todo-stays, standing-stays}
 use Rattle.write_turn.proofs.Storing.{todo-none, todo-more, left-odd, left-even, store-only, store-standing, store-todo, store-writes}
 use Rattle.write_turn.proofs.Values.{push-beside, push-marks}
 
@@ -246,40 +247,48 @@ module _ (w : List ℕ) (p : Place) (st : Standing w (p .opens) (p .depth) 1) (n
 -- ---- as the code has it: the innermost word is v, of pair i
 
 -- There is a pair open.
-pub one-open : (n : ℕ) → (n ≡ 0 → ⊥) → n ≡ suc (n - 1)
+one-open : (n : ℕ) → (n ≡ 0 → ⊥) → n ≡ suc (n - 1)
 one-open n q = omega arith
 
-module _ (w : List ℕ) (p : Place) (st : Standing w (p .opens) (p .depth) 1) (q : p .opens ≡ 0 → ⊥) (v i : ℕ)
-    (word : v ≡ at w (OPEN + (p .opens - 1))) (half : i ≡ v / 2) where
+pub record Innermost (w : List ℕ) (p : Place) (v i : ℕ) : Type 0 where
+  pub stands : Standing w (p .opens) (p .depth) 1
+  pub opened : p .opens ≡ 0 → ⊥
+  pub word : v ≡ at w (OPEN + (p .opens - 1))
+  pub half : i ≡ v / 2
+
+module _ {w : List ℕ} {p : Place} {v i : ℕ} (o : Innermost w p v i) where
+  more : p .opens ≡ suc (p .opens - 1)
+  more = one-open (p .opens) (o .opened)
+
   number-is : at w (OPEN + (p .opens - 1)) / 2 ≡ i
-  number-is = ap (λ (x : ℕ). x / 2) (sym word) ∙ sym half
+  number-is = ap (λ (x : ℕ). x / 2) (sym (o .word)) ∙ sym (o .half)
 
   pub pair-low : i < at w PAIR-COUNT
-  pair-low = rw number-is at (innermost-low w p st (p .opens - 1) (one-open (p .opens) q))
+  pair-low = rw number-is at (innermost-low w p (o .stands) (p .opens - 1) more)
 
   pub pair-few : i < 1024
-  pair-few = rw number-is at (innermost-few w p st (p .opens - 1) (one-open (p .opens) q))
+  pair-few = rw number-is at (innermost-few w p (o .stands) (p .opens - 1) more)
 
   pub goes-right : v % 2 ≡ 1 → (right : NodePtr) → right .0 ≡ at w (PAIRS + 2 * i + 1) → (file out : List ℕ) → Runs w out p 1
       → (Turns file w (set w (OPEN + (p .opens - 1)) (v - 1)) out out (Close p) (Parse p right)) × Falls (length out) (Close p) (Parse p right)
   goes-right odd right there file out run =
       let n = p .opens - 1 in
-      subst (λ (x : ℕ). (Turns file w (set w (OPEN + n) (x - 1)) out out (Close p) (Parse p right)) × Falls (length out) (Close p) (Parse p right)) (sym word)
-      (right-turns w p st n (one-open (p .opens) q) (ap (λ (x : ℕ). x % 2) (sym word) ∙ odd) right
+      subst (λ (x : ℕ). (Turns file w (set w (OPEN + n) (x - 1)) out out (Close p) (Parse p right)) × Falls (length out) (Close p) (Parse p right)) (sym (o .word))
+      (right-turns w p (o .stands) n more (ap (λ (x : ℕ). x % 2) (sym (o .word)) ∙ odd) right
       (there ∙ ap (λ (x : ℕ). at w (PAIRS + 2 * x + 1)) (sym number-is)) file out run)
 
   module _ (even : v % 2 ≡ 1 → ⊥) where
     not-odd : at w (OPEN + (p .opens - 1)) % 2 ≡ 1 → ⊥
-    not-odd r = even (ap (λ (x : ℕ). x % 2) word ∙ r)
+    not-odd r = even (ap (λ (x : ℕ). x % 2) (o .word) ∙ r)
 
     pub values-there : 2 ≤ p .depth
-    values-there = two-there w p st (p .opens - 1) (one-open (p .opens) q) not-odd
+    values-there = two-there w p (o .stands) (p .opens - 1) more not-odd
 
-    pub closes-one : (w′ : List ℕ) → length w′ ≡ length w → Closes w w′ (p .depth) i → (file out : List ℕ) → Runs w out p 1
+    pub closes-one : {w′ : List ℕ} → length w′ ≡ length w → Closes w w′ (p .depth) i → (file out : List ℕ) → Runs w out p 1
         → (Turns file w w′ out out (Close p) (Close (record { opens = p .opens - 1; depth = p .depth - 1; size = p .size })))
         × Falls (length out) (Close p) (Close (record { opens = p .opens - 1; depth = p .depth - 1; size = p .size }))
-    closes-one w′ len cl file out run =
-        close-turns w p st (p .opens - 1) (one-open (p .opens) q) not-odd w′ len
+    closes-one {w′} len cl file out run =
+        close-turns w p (o .stands) (p .opens - 1) more not-odd w′ len
         (subst (λ (x : ℕ). Closes w w′ (p .depth) x) (sym number-is) cl) file out run
 
 -- Two entries popped leave the words whole.

@@ -24,15 +24,15 @@ pub record Looping (file w₀ out₀ : List ℕ) (first : Next) (w out : List �
   pub space : length out ≡ length out₀
   pub turns : Turns file w₀ w out₀ out first next
 
-pub loop-starts : (file w out : List ℕ) (p : Place) (h : NodePtr) → AtomPlaces file w → Runs w out p 0 → Names w (at w PAIR-COUNT) (h .0)
+pub loop-starts : {file w out : List ℕ} (p : Place) (h : NodePtr) → AtomPlaces file w → Runs w out p 0 → Names w (at w PAIR-COUNT) (h .0)
     → Looping file w out (Parse p h) w out (Parse p h)
-loop-starts file w out p h a run n =
+loop-starts {file} {w} {out} p h a run n =
     record { whole = run .stands .whole; places = a; long = refl; space = refl; turns = turns-none file w out (Parse p h) (run, n) }
 
-pub loop-turns : (file w₀ out₀ : List ℕ) (first : Next) (w out : List ℕ) (next b : Next) (w′ out′ : List ℕ) (r : Next)
+pub loop-turns : {file w₀ out₀ : List ℕ} {first : Next} {w out : List ℕ} {next b : Next} {w′ out′ : List ℕ} {r : Next}
     → next ≡ b → Looping file w₀ out₀ first w out next → length w′ ≡ length w → length out′ ≡ length out → Turns file w w′ out out′ b r
     → Looping file w₀ out₀ first w′ out′ r
-loop-turns file w₀ out₀ first w out next b w′ out′ r q k lw lo t =
+loop-turns {file} {w₀} {out₀} {first} {w} {out} {next} {b} {w′} {out′} {r} q k lw lo t =
     let x = subst (λ (y : Next). Turns file w₀ w out₀ out first y) q (k .turns) in
     let wh = k .whole in
     record {
@@ -40,11 +40,11 @@ loop-turns file w₀ out₀ first w out next b w′ out′ r q k lw lo t =
       places = k .places;
       long = lw ∙ k .long;
       space = lo ∙ k .space;
-      turns = turns-then file w₀ w w′ out₀ out out′ first b r wh (k .long) (k .space) x t;
+      turns = turns-then wh (k .long) (k .space) x t;
     }
 
 -- What the next turn may rely on.
-module _ (file w₀ out₀ : List ℕ) (first : Next) (w out : List ℕ) (next b : Next) (q : next ≡ b) (k : Looping file w₀ out₀ first w out next) where
+module _ {file w₀ out₀ : List ℕ} {first : Next} {w out : List ℕ} {next b : Next} (q : next ≡ b) (k : Looping file w₀ out₀ first w out next) where
   pub fine-now : Fine w out b
   fine-now = subst (Fine w out) q (k .turns .fine)
 
@@ -55,8 +55,8 @@ module _ (file w₀ out₀ : List ℕ) (first : Next) (w out : List ℕ) (next b
   loop-ends = subst (λ (y : Next). Turns file w₀ w out₀ out first y) q (k .turns)
 
 -- The loop falls.
-pub loop-falls : (next b r : Next) (out out′ : List ℕ) → next ≡ b → length out′ ≡ length out → Falls (length out) b r
+pub loop-falls : {next b : Next} (r : Next) (out out′ : List ℕ) → next ≡ b → length out′ ≡ length out → Falls (length out) b r
     → ahead (length out′) r < ahead (length out) next
-loop-falls next b r out out′ q lo f =
+loop-falls {next} {b} r out out′ q lo f =
     subst (λ (n : ℕ). ahead n r < ahead (length out) next) (sym lo)
     (subst (λ (y : Next). ahead (length out) r < ahead (length out) y) (sym q) f)

@@ -60,7 +60,7 @@ open-count f w (suc n) =
     (parse (unfolded f (at w (PAIRS + 2 * (v / 2) + 1))) ∷ close (v / 2) ∷ todo-of f w n) (close (v / 2) ∷ todo-of f w n)
     (λ q. ap suc (open-count f w n)) (λ q. ap suc (open-count f w n))
 
-module _ (w out : List ℕ) (p : Place) (h : NodePtr) (e : ℕ) (fo : Found w out p (h .0) e NoPath) (pr : is-pair (node-of (h .0)) ≡ true) where
+module _ {w out : List ℕ} {p : Place} (h : NodePtr) {e : ℕ} (fo : Found w out p (h .0) e NoPath) (pr : is-pair (node-of (h .0)) ≡ true) where
   number : ℕ
   number = index-of (node-of (h .0))
 

@@ -36,7 +36,7 @@ use Rattle.write_turn.proofs.Frames.{only-both, only-same, holds-stay, 
 
 -- ---- one after the other
 
-module _ (file w w₁ w₂ out out₁ out₂ : List ℕ) (a b r : Next) (wh : Whole w) (lw : length w₁ ≡ length w) (lo : length out₁ ≡ length out)
+module _ {file w w₁ w₂ out out₁ out₂ : List ℕ} {a b r : Next} (wh : Whole w) (lw : length w₁ ≡ length w) (lo : length out₁ ≡ length out)
     (x : Turns file w w₁ out out₁ a b) (y : Turns file w₁ w₂ out₁ out₂ b r) where
   then-leads : (f : File) (c : Cache) (s : Written) → Tables f w → AtomsThere file f w → Writes f w out (place-of a .depth) (place-of a .size) c s
       → Leads f c (length out) w₂ out₂ r (comes-to f c (length out) w a s)
@@ -72,9 +72,9 @@ turns-none file w out b g =
 
 -- ---- the open place
 
-pub turns-stop : (file w out : List ℕ) (p : Place) (h : NodePtr) → Runs w out p 0 → Names w (at w PAIR-COUNT) (h .0) → at w SENTINEL ≡ h .0
+pub turns-stop : {file w out : List ℕ} (p : Place) (h : NodePtr) → Runs w out p 0 → Names w (at w PAIR-COUNT) (h .0) → at w SENTINEL ≡ h .0
     → Turns file w w out out (Parse p h) (Stopped p)
-turns-stop file w out p h run n q =
+turns-stop {file} {w} {out} p h run n q =
     record {
       fine = run;
       only = only-same w;
@@ -92,7 +92,7 @@ turns-stop file w out p h run n q =
 
 -- ---- the search
 
-module _ (w w₁ : List ℕ) (len : length w₁ ≡ length w) (k : Kept w w₁) where
+module _ {w w₁ : List ℕ} (len : length w₁ ≡ length w) (k : Kept w w₁) where
   pub search-beside : Beside w w₁
   search-beside = record { len = len; low = λ j h. k .low j (omega arith); cache = λ j h l. k .low j l; high = k .high }
 
@@ -104,7 +104,7 @@ module _ (w w₁ : List ℕ) (len : length w₁ ≡ length w) (k : Kept w w₁) 
       let o = search-only in
       record { low = λ j h. sym (o .low j h); cache = λ j h l. sym (o .cache j h l); high = λ j h. sym (o .high j h) }
 
-  module _ (out : List ℕ) (p : Place) (run : Runs w out p 0) where
+  module _ {out : List ℕ} (p : Place) (run : Runs w out p 0) where
     stack-stays : stack-of w₁ (p .depth) ≡ stack-of w (p .depth)
     stack-stays = stack-same w w₁ (p .depth) (λ i h. k .low (STACK + i) (omega (arith, run .stands .stacked .deep)))
 
@@ -118,8 +118,8 @@ module _ (w w₁ : List ℕ) (len : length w₁ ≡ length w) (k : Kept w w₁) 
           short = run .short;
         }
 
-    pub search-places : (file : List ℕ) → AtomPlaces file w → AtomPlaces file w₁
-    search-places file a = places-stay w w₁ len search-only (run .stands .whole) file a
+    pub search-places : {file : List ℕ} → AtomPlaces file w → AtomPlaces file w₁
+    search-places {file} a = places-stay w w₁ len search-only (run .stands .whole) file a
 
     writes-stay : (f : File) (c : Cache) (s : Written) → Tables f w → Writes f w out (p .depth) (p .size) c s → Writes f w₁ out (p .depth) (p .size) c s
     writes-stay f c s t wr =
@@ -137,7 +137,7 @@ module _ (w w₁ : List ℕ) (len : length w₁ ≡ length w) (k : Kept w w₁) 
           names-stay w w₁ len search-only (run .stands .whole) (at w PAIR-COUNT) (at w₁ PAIR-COUNT) (h .0)
           (pairs-stay w w₁ len search-only (run .stands .whole)) n
 
-      pub turns-search : (file : List ℕ) → Turns file w w₁ out out (Parse p h) (Parse p h)
+      turns-search : (file : List ℕ) → Turns file w w₁ out out (Parse p h) (Parse p h)
       turns-search file =
           record {
             fine = (run-stays, names-there);
@@ -154,6 +154,10 @@ module _ (w w₁ : List ℕ) (len : length w₁ ≡ length w) (k : Kept w w₁) 
                 };
           }
 
+      -- The search, and what is made of it.
+      pub after-search : {file w₂ out₂ : List ℕ} {r : Next} → Turns file w₁ w₂ out out₂ (Parse p h) r → Turns file w w₂ out out₂ (Parse p h) r
+      after-search {file} y = turns-then (run .stands .whole) len refl (turns-search file) y
+
       back : (f : File) → Tables f w₁ → Tables f w
       back f t = tables-stay w₁ w (sym len) search-back (run-stays .stands .whole) f t
 
@@ -161,8 +165,8 @@ module _ (w w₁ : List ℕ) (len : length w₁ ≡ length w) (k : Kept w w₁) 
       holds-back f c t ho = holds-stay w₁ w (sym len) search-back (run-stays .stands .whole) f c t ho
 
       -- Where the search was made, the rest may forget how it was made.
-      pub found-there : (e : ℕ) (r : Path) → (at w SENTINEL ≡ h .0 → ⊥) → EntryOf w (h .0) e → FindsIn w w₁ (p .depth) (h .0) e r → Found w₁ out p (h .0) e r
-      found-there e r inner en fi =
+      pub found-there : {e : ℕ} {r : Path} → (at w SENTINEL ≡ h .0 → ⊥) → EntryOf w (h .0) e → FindsIn w w₁ (p .depth) (h .0) e r → Found w₁ out p (h .0) e r
+      found-there {e} {r} inner en fi =
           record {
             running = run-stays;
             names = names-there;

@@ -43,16 +43,16 @@ pair-some w i k wh h q z =
     }
 
 -- The entry that a lookup gives, and entry 0 where it gives none.
-module _ (w : List ℕ) (h key : ℕ) (wh : Whole w) (s : Stands w h key) (r : Found) (q : option-of r ≡ find-row ATOM-KEY key (rows-of w)) where
+module _ {w : List ℕ} {h key : ℕ} (wh : Whole w) (s : Stands w h key) (r : Found) (q : option-of r ≡ find-row ATOM-KEY key (rows-of w)) where
   looked-up : (f : File) (c : Cache) → Tables f w → Holds f w c → atom-entry c (bytes-named f (node-of h)) ≡ or-zero (option-of r)
   looked-up f c t ho =
       ap (λ (b : List ℕ). or-zero (find-key (atom-key b) (c .entries))) (sym (s .bytes f t))
       ∙ ap (λ (es : List Entry). or-zero (find-key (atom-key (bytes-named f (node-of key))) es)) (ho .entries)
       ∙ ap or-zero (find-atom f w t wh key (s .first) ∙ sym q)
 
-  pub atom-at : (e : ℕ) → option-of r ≡ some e → AtomEntry w h e
+  pub atom-at : {e : ℕ} → option-of r ≡ some e → AtomEntry w h e
   unfolding rows-of
-  atom-at e p =
+  atom-at {e} p =
       let l = find-low (at w USED) (row-of w) ATOM-KEY key e (sym q ∙ p) in
       record { low = omega (arith, wh .sound .used); is = λ f c t ho. looked-up f c t ho ∙ ap or-zero p }
 
@@ -64,12 +64,12 @@ module _ (w : List ℕ) (h key : ℕ) (wh : Whole w) (s : Stands w h key) (r : F
 not-true : _≡_ {A = Bool} false true → ⊥
 not-true q = let z : _≡_ {A = ℕ} 0 1 = cc in omega arith
 
-pub entry-of-atom : (w : List ℕ) (h e : ℕ) → is-atom (node-of h) ≡ true → AtomEntry w h e → EntryOf w h e
-entry-of-atom w h e a x =
+pub entry-of-atom : {w : List ℕ} {h e : ℕ} → is-atom (node-of h) ≡ true → AtomEntry w h e → EntryOf w h e
+entry-of-atom a x =
     record { low = x .low; of-pair = λ i q. absurd (not-true (sym (ap is-atom q) ∙ a)); of-atom = λ b. x }
 
-pub entry-of-pair : (w : List ℕ) (h e i : ℕ) → node-of h ≡ pair i → PairEntry w i e → EntryOf w h e
-entry-of-pair w h e i n x =
+pub entry-of-pair : {w : List ℕ} {h e i : ℕ} → node-of h ≡ pair i → PairEntry w i e → EntryOf w h e
+entry-of-pair {w} {h} {e} {i} n x =
     record {
       low = x .low;
       of-pair = λ j q. let z : i ≡ j = cc in rw (sym z) x;

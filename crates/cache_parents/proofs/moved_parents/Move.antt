@@ -114,7 +114,8 @@ module _ (w w₁ w₂ : List ℕ) (e n m d : ℕ) (s : Sound w) (h : e < at w US
   unfolding w₃
   away k p z =
       getD-set-other w₂ (COUNTS + e) k (n - d + m) 0 p
-      ∙ copied-away w₁ w₂ MOVED (PARENTS + e * 100 + (n - d)) m b k (λ j l q. z (n - d + j) (omega arith) (omega arith)) ∙ copied-away w w₁ (PARENTS + e * 100 + d) (PARENTS + e * 100) (n - d) a k (λ j l q. z j (omega arith) (omega arith))
+      ∙ copied-away w₁ w₂ MOVED (PARENTS + e * 100 + (n - d)) m b k (λ j l q. z (n - d + j) (omega arith) (omega arith))
+      ∙ copied-away w w₁ (PARENTS + e * 100 + d) (PARENTS + e * 100) (n - d) a k (λ j l q. z j (omega arith) (omega arith))
 
   in-row : (i : ℕ) → at w₃ (PARENTS + e * 100 + i) ≡ at w₂ (PARENTS + e * 100 + i)
   unfolding w₃

@@ -15,17 +15,13 @@ same-length : tie.Need-same-length
 same-length c = search needs
 
 returns : tie.Need-returns
-returns c =
-    let s = c .before .before .before .before .before .before .before .before .before .before in
-    push-and-mark _ _ (s .args .depth) (s .args .e .0) (s .args .len) (c .before .before .before .before .before .before .before .push .ensures) _ (c .before .before .mark .ensures) (c .before .before .before .before .if1 .taken)
+returns c = push-and-mark (c .before .before .before .before .before .before .before .push .ensures) (c .before .before .mark .ensures) (c .before .before .before .before .if1 .taken)
 
 same-length-2 : tie.Need-same-length-2
 same-length-2 c = search needs
 
 returns-2 : tie.Need-returns-2
-returns-2 c =
-    let s = c .before .before .before .before .before .before in
-    push-only _ _ (s .args .depth) (s .args .e .0) (s .args .len) (c .before .before .before .push .ensures) (c .if1 .left)
+returns-2 c = push-only (c .before .before .before .push .ensures) (c .if1 .left)
 
 pub push-marked-spec : {M : Type 1} → statement M
 push-marked-spec =

@@ -41,13 +41,14 @@ same-length c = search needs
 
 returns : tie.Need-returns
 returns c =
-    let s = c .before .before .before .before .before .before .before .before .before .before .before .before .before .before .before .before .before in
-    let p = c .before .before .before .before .before .before .before .before .before .before .before .before .before .before .pop-all in
-    let q = c .before .before .before .before .before .before .before .before .before .before .push-all in
-    let a = c .before .before .before .before .before .before .copy-within in
+    let opened = c .before .before .before .before .before .before in
+    let popped = opened .before .before .before .before .before .before .before .before in
+    let s = popped .before .before .before in
+    let p = popped .pop-all in
+    let q = opened .before .before .before .before .push-all in
+    let a = opened .copy-within in
     let m = c .before .before .copy-within2 in
-    restored (s .args .work .now) (p .last .0) (q .last .0) (a .last .0) (m .last .0) (s .args .k) (s .args .opens) (s .args .depth)
-    (s .pre .3)
+    restored (s .args .k) (s .pre .3)
     (p .ensures)
     (q .ensures)
     (copied _ (copied-open (s .args .k)) OPEN (s .args .opens) (omega (arith, p .kept .0, q .kept .0)) (omega (arith, p .kept .0, q .kept .0)) _ (a .ensures))

@@ -9,9 +9,9 @@ use Rattle.work_layout.specs.Layout.{OPEN, STACK, WRITTEN, DEPTH}
 use Rattle.cache_undo.specs.undo_state.Contracts.{copied-open, copied-stack, copied-marks, Saved}
 
 -- The three copies of a save.
-pub saved : (w u v w′ : List ℕ) (k opens d : ℕ) → opens ≤ 4096 → d ≤ DEPTH
+pub saved : {w u v w′ : List ℕ} (k : ℕ) {opens d : ℕ} → opens ≤ 4096 → d ≤ DEPTH
     → Copied w u OPEN (copied-open k) opens → Copied u v STACK (copied-stack k) d → Copied v w′ WRITTEN (copied-marks k) 96 → Saved w w′ k opens d
-saved w u v w′ k opens d short deep a b c =
+saved k short deep a b c =
     record {
       open-pairs = λ i l. c .other (copied-open k + i) (λ q. omega arith) ∙ b .other (copied-open k + i) (λ q. omega arith) ∙ a .here i l;
       places = λ i l.

@@ -1,6 +1,6 @@
 -- `write_item::write_cons` meets its contract.
 -- Assumes nothing.
-use Prim.Native.Nat.{_+_}
+use Prim.Native.Nat.{_+_, _≤_}
 use mathlib.Core.List.{[], _∷_}
 use mathlib.Core.Path.{sym}
 use native.Mathlib.Omega.{arith}
@@ -11,23 +11,29 @@ use Rattle.write_item.proofs.Puts.{no-room, has-room, put-byte}
 use Rattle.write_item.proofs.write_cons.Statement.{statement}
 use Rattle.write_item.proofs.write_cons.Tie as tie
 
+-- There is room for the byte, after the test.
+room : (x : tie.Else1) → x .before .before .before .args .size + 1 ≤ length (x .before .before .before .args .output .now)
+room x = has-room (length (x .before .before .before .args .output .now)) _ _ (x .before .fits2 .ensures) (x .if1 .left)
+
 fits-requires : tie.Need-fits-requires
 fits-requires c κs = search needs
 
 returns : tie.Need-returns
-returns c = let a = c .before .before .before .args in sym (put-full (a .output .now) (a .size) (0xff ∷ []) (no-room (length (a .output .now)) (a .size + 1) _ (c .before .fits2 .ensures) (c .if1 .taken)))
+returns c =
+    let a = c .before .before .before .args in
+    sym (put-full (a .output .now) (a .size) (0xff ∷ []) (no-room (length (a .output .now)) (a .size + 1) _ (c .before .fits2 .ensures) (c .if1 .taken)))
 
 slice-write-output : tie.Need-slice-write-output
-slice-write-output c = let a = c .before .before .before .args in omega (arith, has-room (length (a .output .now)) (a .size + 1) _ (c .before .fits2 .ensures) (c .if1 .left))
+slice-write-output c = omega (arith, room c)
 
 add-t4 : tie.Need-add-t4
-add-t4 c = let s = c .before .before .before in record { fits = omega (arith, has-room (length (s .args .output .now)) (s .args .size + 1) _ (c .before .fits2 .ensures) (c .if1 .left)) }
+add-t4 c = record { fits = omega (arith, room c) }
 
 same-length : tie.Need-same-length
 same-length c = search needs
 
 returns-2 : tie.Need-returns-2
-returns-2 c = let a = c .before .before .before .args in put-byte (a .output .now) (a .size) 0xff (omega (arith, has-room (length (a .output .now)) (a .size + 1) _ (c .before .fits2 .ensures) (c .if1 .left)))
+returns-2 c = let a = c .before .before .before .args in put-byte (a .output .now) (a .size) 0xff (omega (arith, room c))
 
 pub write-cons-spec : {M : Type 1} → statement M
 write-cons-spec =

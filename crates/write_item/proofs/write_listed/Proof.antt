@@ -23,19 +23,32 @@ same-length : tie.Need-same-length
 same-length c = search needs
 
 returns : tie.Need-returns
-returns c = let s = c .before .before .before .before .before .before .before .before .before in let w = c .before .before .before .before .before .write-atom in put-atom (s .args .output .now) (s .args .size) (s .args .blob .now) (s .pre) _ (sym (ap (λ r. answers.written r (w .last .0)) (c .before .next .given .1)) ∙ w .ensures)
+returns c =
+    let put = c .before .before .before .before .before in
+    let s = put .before .before .before .before in
+    let w = put .write-atom in
+    put-atom (s .args .output .now) (s .args .size) (s .args .blob .now) (s .pre) _ (sym (ap (λ r. answers.written r (w .last .0)) (c .before .next .given .1)) ∙ w .ensures)
 
 same-length-2 : tie.Need-same-length-2
 same-length-2 c = search needs
 
 returns-2 : tie.Need-returns-2
-returns-2 c = let s = c .before .before .before .before .before .before .before .before in let w = c .before .before .before .before .write-atom in put-atom (s .args .output .now) (s .args .size) (s .args .blob .now) (s .pre) _ (sym (ap (λ r. answers.written r (w .last .0)) (c .enum-told .given .1)) ∙ w .ensures)
+returns-2 c =
+    let put = c .before .before .before .before in
+    let s = put .before .before .before .before in
+    let w = put .write-atom in
+    put-atom (s .args .output .now) (s .args .size) (s .args .blob .now) (s .pre) _ (sym (ap (λ r. answers.written r (w .last .0)) (c .enum-told .given .1)) ∙ w .ensures)
 
 same-length-3 : tie.Need-same-length-3
 same-length-3 c = search needs
 
 returns-3 : tie.Need-returns-3
-returns-3 c = let s = c .before .before .before .before .before .before .before .before in let w = c .before .before .before .before .write-atom in put-atom-there (s .args .output .now) (s .args .size) (s .args .blob .now) (s .pre) (w .last .0) (sym (ap (λ r. answers.written r (w .last .0)) (c .enum-told2 .given .1)) ∙ w .ensures)
+returns-3 c =
+    let put = c .before .before .before .before in
+    let s = put .before .before .before .before in
+    let w = put .write-atom in
+    put-atom-there (s .args .output .now) (s .args .size) (s .args .blob .now) (s .pre) (w .last .0)
+    (sym (ap (λ r. answers.written r (w .last .0)) (c .enum-told2 .given .1)) ∙ w .ensures)
 
 pub write-listed-spec : {M : Type 1} → statement M
 write-listed-spec =

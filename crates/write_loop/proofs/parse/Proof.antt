@@ -1,15 +1,40 @@
 -- `write_loop::parse` meets its contract: the open place, a reference, or the node in full.
 -- Assumes nothing.
 use borrow.Author.Tests.{eqb-true, eqb-false}
+use Prim.Native.Nat.{ℕ}
 use native.Mathlib.Omega.{arith}
-use mathlib.Core.Path.{refl, sym, _∙_}
-use Rattle.work_layout.specs.Layout.{SENTINEL}
-use Rattle.words.specs.Words.{at}
-use Rattle.write_turn.proofs.Turning.{search-places}
-use Rattle.write_turn.proofs.Turning.{turns-then, turns-stop, turns-search, found-there}
+use mathlib.Core.Path.{_≡_, sym, _∙_}
+use mathlib.Core.List.{List}
+use Rattle.search_find.specs.declared.find_path.Path.{Path}
+use Rattle.write_turn.specs.declared.Next.{Next}
+use Rattle.write_turn.specs.declared.Next.the-variants.{Parse}
+use Rattle.write_turn.specs.Contracts.{Turns, Found}
+use Rattle.write_turn.proofs.Turning.{turns-stop, search-places, after-search, found-there}
 use borrow.Author.Needs.{needs}
 use Rattle.write_loop.proofs.parse.Statement.{statement}
 use Rattle.write_loop.proofs.parse.Tie as tie
+
+-- After the search, which keeps what is meant. What it answers is found there; a turn from there is one from the start.
+abbrev Searched : Type 0
+Searched = tie.After-find
+
+abbrev start : Searched → tie.Start
+start x = x .before .before .before .before .before .before .before .before .before .before
+
+found : (x : Searched) (r : Path) → x .find .result ≡ r
+    → Found (x .find .last .0) (start x .args .output .now) (start x .args .place) (start x .args .node .0) (x .before .before .entry-of .result .0) r
+found x r q =
+    let s = start x in
+    let f = rw q at (x .find .ensures) in
+    found-there (x .find .kept .0) (f .kept) (s .args .place) (s .pre .1) (s .args .node) (s .pre .2)
+    (eqb-false _ (s .args .node .0) (sym (x .before .before .before .before .before .is-sentinel .ensures) ∙ x .before .before .before .before .if1 .left)) (x .before .before .entry-of .ensures) f
+
+turns : (x : Searched) {w₂ out₂ : List ℕ} {r : Next}
+    → Turns (start x .args .file .now) (x .find .last .0) w₂ (start x .args .output .now) out₂ (Parse (start x .args .place) (start x .args .node)) r
+    → Turns (start x .args .file .now) (start x .args .work .now) w₂ (start x .args .output .now) out₂ (Parse (start x .args .place) (start x .args .node)) r
+turns x y =
+    let s = start x in
+    after-search (x .find .kept .0) (x .find .ensures .kept) (s .args .place) (s .pre .1) (s .args .node) (s .pre .2) y
 
 is-sentinel-requires : tie.Need-is-sentinel-requires
 is-sentinel-requires c κs = search needs
@@ -19,8 +44,7 @@ same-length c = search needs
 
 returns : tie.Need-returns
 returns c = let s = c .before .before .before .before .before .before in (
-  turns-stop (s .args .file .now) (s .args .work .now) (s .args .output .now) (s .args .place) (s .args .node) (s .pre .1) (s .pre .2)
-      (eqb-true (at (s .args .work .now) SENTINEL) (s .args .node .0) (sym (c .before .is-sentinel .ensures) ∙ c .if1 .taken)),
+  turns-stop (s .args .place) (s .args .node) (s .pre .1) (s .pre .2) (eqb-true _ (s .args .node .0) (sym (c .before .is-sentinel .ensures) ∙ c .if1 .taken)),
   omega arith,
 )
 
@@ -34,23 +58,16 @@ enum-known-slot : tie.Need-enum-known-slot
 enum-known-slot c = search needs
 
 refer-requires : tie.Need-refer-requires
-refer-requires c κs = let s = c .before .before .before .before .before .before .before .before .before .before .before .before .before .before .before .before .before in
-    let g = c .before .before .before .before .before .before .before .find in
-    let f = rw (c .before .before .before .slot .given .1) at (g .ensures) in
-    found-there (s .args .work .now) (g .last .0) (g .kept .0) (f .kept) (s .args .output .now) (s .args .place) (s .pre .1) (s .args .node) (s .pre .2) _ _
-    (eqb-false (at (s .args .work .now) SENTINEL) (s .args .node .0) (sym (c .before .before .before .before .before .before .before .before .before .before .before .before .is-sentinel .ensures) ∙ c .before .before .before .before .before .before .before .before .before .before .before .if1 .left)) (c .before .before .before .before .before .before .before .before .before .entry-of .ensures) f
+refer-requires c κs = found (c .before .before .before .before .before .before .before) _ (c .before .before .before .slot .given .1)
 
 enum-told : tie.Need-enum-told
 enum-told c = search needs
 
 write-full-requires : tie.Need-write-full-requires
-write-full-requires c κs = let s = c .before .before .before .before .before .before .before .before .before .before .before .before .before .before .before .before in
-    let g = c .before .before .before .before .before .before .find in
-    let f = rw (c .before .before .enum-told .given .1) at (g .ensures) in (
-      search-places (s .args .work .now) (g .last .0) (g .kept .0) (f .kept) (s .args .output .now) (s .args .place) (s .pre .1) (s .args .file .now) (s .pre .0),
-      found-there (s .args .work .now) (g .last .0) (g .kept .0) (f .kept) (s .args .output .now) (s .args .place) (s .pre .1) (s .args .node) (s .pre .2) _ _
-          (eqb-false (at (s .args .work .now) SENTINEL) (s .args .node .0) (sym (c .before .before .before .before .before .before .before .before .before .before .before .is-sentinel .ensures) ∙ c .before .before .before .before .before .before .before .before .before .before .if1 .left)) (c .before .before .before .before .before .before .before .before .entry-of .ensures) f,
-    )
+write-full-requires c κs =
+    let x = c .before .before .before .before .before .before in
+    let s = start x in
+    (search-places (x .find .kept .0) (x .find .ensures .kept) (s .args .place) (s .pre .1) (s .pre .0), found x _ (c .before .before .enum-told .given .1))
 
 same-length-2 : tie.Need-same-length-2
 same-length-2 c = search needs
@@ -59,13 +76,11 @@ same-length-3 : tie.Need-same-length-3
 same-length-3 c = search needs
 
 returns-2 : tie.Need-returns-2
-returns-2 c = let s = c .before .before .before .before .before .before .before .before .before .before .before .before .before .before .before .before .before .before .before .before .before .before in
-    let g = c .before .before .before .before .before .before .before .before .before .before .before .before .find in
-    let r = c .before .before .before .before .refer .ensures (s .args .file .now) in (
-      turns-then (s .args .file .now) (s .args .work .now) (g .last .0) _ (s .args .output .now) (s .args .output .now) _ _ _ _ (s .pre .1 .stands .whole) (g .kept .0) refl
-          (turns-search (s .args .work .now) (g .last .0) (g .kept .0) (g .ensures .kept) (s .args .output .now) (s .args .place) (s .pre .1) (s .args .node) (s .pre .2) (s .args .file .now)) (r .0),
-      r .1,
-    )
+returns-2 c =
+    let after = c .before .before .before .before in
+    let x = after .before .before .before .before .before .before .before .before in
+    let r = after .refer .ensures (start x .args .file .now) in
+    (turns x (r .0), r .1)
 
 same-length-4 : tie.Need-same-length-4
 same-length-4 c = search needs
@@ -74,13 +89,10 @@ same-length-5 : tie.Need-same-length-5
 same-length-5 c = search needs
 
 returns-3 : tie.Need-returns-3
-returns-3 c = let s = c .before .before .before .before .before .before .before .before .before .before .before .before .before .before .before .before .before .before .before .before .before in
-    let g = c .before .before .before .before .before .before .before .before .before .before .before .find in
-    let r = c .before .before .before .before .write-full .ensures in (
-      turns-then (s .args .file .now) (s .args .work .now) (g .last .0) _ (s .args .output .now) (s .args .output .now) _ _ _ _ (s .pre .1 .stands .whole) (g .kept .0) refl
-          (turns-search (s .args .work .now) (g .last .0) (g .kept .0) (g .ensures .kept) (s .args .output .now) (s .args .place) (s .pre .1) (s .args .node) (s .pre .2) (s .args .file .now)) (r .0),
-      r .1,
-    )
+returns-3 c =
+    let after = c .before .before .before .before in
+    let r = after .write-full .ensures in
+    (turns (after .before .before .before .before .before .before .before) (r .0), r .1)
 
 pub parse-spec : {M : Type 1} → statement M
 parse-spec =

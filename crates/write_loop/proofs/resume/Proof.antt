@@ -15,42 +15,55 @@ abbrev μ-loop : tie.MeasureT-loop
 μ-loop work₀ file output₀ next₀ work output next = ahead (length output) next
 
 loop-holds : tie.Need-loop-holds Inv-loop μ-loop
-loop-holds c = let s = c .before .before .before in loop-starts (s .args .file .now) (s .args .work .now) (s .args .output .now) (s .args .place) (s .args .node) (s .pre .0) (s .pre .1) (s .pre .2)
+loop-holds c = let s = c .before .before .before in loop-starts (s .args .place) (s .args .node) (s .pre .0) (s .pre .1) (s .pre .2)
 
 enum-known-next : tie.Need-enum-known-next Inv-loop μ-loop
 enum-known-next c = search needs
 
 parse-requires : tie.Need-parse-requires Inv-loop μ-loop
-parse-requires c κs = let k = c .before .before .before .before .before .loop in
-    let f = fine-now _ _ _ _ (k .work) (k .output) (k .next) _ (c .before .before .before .next .given .1) (k .inv) in
-    (places-now _ _ _ _ (k .work) (k .output) (k .next) _ (c .before .before .before .next .given .1) (k .inv), f .0, f .1)
+parse-requires c κs =
+    let at-parse = c .before .before .before in
+    let k = at-parse .before .before .loop .inv in
+    let f = fine-now (at-parse .next .given .1) k in
+    (places-now (at-parse .next .given .1) k, f .0, f .1)
 
 loop-less : tie.Need-loop-less Inv-loop μ-loop
-loop-less c = let k = c .before .before .before .before .before .before .before .before .before .before .loop in
-    loop-falls (k .next) _ (c .before .before .before .before .parse .result) (k .output) (c .before .before .before .before .parse .last .1 .1 .0) (c .before .before .before .before .before .before .before .before .next .given .1) (c .before .before .before .before .parse .kept .1 .1 .0) (c .before .before .before .before .parse .ensures .1)
+loop-less c =
+    let parsed = c .before .before .before .before in
+    let at-parse = parsed .before .before .before .before in
+    let p = parsed .parse in
+    loop-falls (p .result) (at-parse .before .before .loop .output) (p .last .1 .1 .0) (at-parse .next .given .1) (p .kept .1 .1 .0) (p .ensures .1)
 
 loop-again : tie.Need-loop-again Inv-loop μ-loop
-loop-again c = let k = c .before .before .before .before .before .before .before .before .before .before .loop in
-    loop-turns _ _ _ _ (k .work) (k .output) (k .next) _ _ _ (c .before .before .before .before .parse .result) (c .before .before .before .before .before .before .before .before .next .given .1) (k .inv) (c .before .before .before .before .parse .kept .0) (c .before .before .before .before .parse .kept .1 .1 .0) (c .before .before .before .before .parse .ensures .0)
+loop-again c =
+    let parsed = c .before .before .before .before in
+    let at-parse = parsed .before .before .before .before in
+    let p = parsed .parse in
+    loop-turns (at-parse .next .given .1) (at-parse .before .before .loop .inv) (p .kept .0) (p .kept .1 .1 .0) (p .ensures .0)
 
 enum-known-next-2 : tie.Need-enum-known-next-2 Inv-loop μ-loop
 enum-known-next-2 c = search needs
 
 close-up-requires : tie.Need-close-up-requires Inv-loop μ-loop
-close-up-requires c κs = let k = c .before .before .before .before .loop in
-    fine-now _ _ _ _ (k .work) (k .output) (k .next) _ (c .before .before .next2 .given .1) (k .inv) .stands
+close-up-requires c κs = let at-close = c .before .before in fine-now (at-close .next2 .given .1) (at-close .before .before .loop .inv) .stands
 
 loop-less-2 : tie.Need-loop-less-2 Inv-loop μ-loop
-loop-less-2 c = let k = c .before .before .before .before .before .before .before .loop in
-    let s = c .before .before .before .before .before .before .before .before .before .before .before in
-    let f = fine-now _ _ _ _ (k .work) (k .output) (k .next) _ (c .before .before .before .before .before .next2 .given .1) (k .inv) in
-    loop-falls (k .next) _ (c .before .before .close-up .result) (k .output) (k .output) (c .before .before .before .before .before .next2 .given .1) refl (c .before .before .close-up .ensures (s .args .file .now) (k .output) f .1)
+loop-less-2 c =
+    let closed = c .before .before in
+    let at-close = closed .before .before .before in
+    let k = at-close .before .before .loop in
+    let s = at-close .before .before .before .before .before .before in
+    let f = fine-now (at-close .next2 .given .1) (k .inv) in
+    loop-falls (closed .close-up .result) (k .output) (k .output) (at-close .next2 .given .1) refl (closed .close-up .ensures (s .args .file .now) (k .output) f .1)
 
 loop-again-2 : tie.Need-loop-again-2 Inv-loop μ-loop
-loop-again-2 c = let k = c .before .before .before .before .before .before .before .loop in
-    let s = c .before .before .before .before .before .before .before .before .before .before .before in
-    let f = fine-now _ _ _ _ (k .work) (k .output) (k .next) _ (c .before .before .before .before .before .next2 .given .1) (k .inv) in
-    loop-turns _ _ _ _ (k .work) (k .output) (k .next) _ _ (k .output) (c .before .before .close-up .result) (c .before .before .before .before .before .next2 .given .1) (k .inv) (c .before .before .close-up .kept .0) refl (c .before .before .close-up .ensures (s .args .file .now) (k .output) f .0)
+loop-again-2 c =
+    let closed = c .before .before in
+    let at-close = closed .before .before .before in
+    let k = at-close .before .before .loop in
+    let s = at-close .before .before .before .before .before .before in
+    let f = fine-now (at-close .next2 .given .1) (k .inv) in
+    loop-turns (at-close .next2 .given .1) (k .inv) (closed .close-up .kept .0) refl (closed .close-up .ensures (s .args .file .now) (k .output) f .0)
 
 enum-known-next-3 : tie.Need-enum-known-next-3 Inv-loop μ-loop
 enum-known-next-3 c = search needs
@@ -62,7 +75,7 @@ same-length-2 : tie.Need-same-length-2 Inv-loop μ-loop
 same-length-2 c = c .before .before .before .loop .inv .space
 
 returns : tie.Need-returns Inv-loop μ-loop
-returns c = let k = c .before .before .before .loop in loop-ends _ _ _ _ (k .work) (k .output) (k .next) _ (c .before .next3 .given .1) (k .inv)
+returns c = loop-ends (c .before .next3 .given .1) (c .before .before .before .loop .inv)
 
 enum-known-next-4 : tie.Need-enum-known-next-4 Inv-loop μ-loop
 enum-known-next-4 c = search needs
@@ -74,7 +87,7 @@ same-length-4 : tie.Need-same-length-4 Inv-loop μ-loop
 same-length-4 c = c .before .before .before .loop .inv .space
 
 returns-2 : tie.Need-returns-2 Inv-loop μ-loop
-returns-2 c = let k = c .before .before .before .loop in loop-ends _ _ _ _ (k .work) (k .output) (k .next) _ (c .before .next4 .given .1) (k .inv)
+returns-2 c = loop-ends (c .before .next4 .given .1) (c .before .before .before .loop .inv)
 
 enum-known-next-5 : tie.Need-enum-known-next-5 Inv-loop μ-loop
 enum-known-next-5 c = search needs
@@ -86,7 +99,7 @@ same-length-6 : tie.Need-same-length-6 Inv-loop μ-loop
 same-length-6 c = c .before .before .before .loop .inv .space
 
 returns-3 : tie.Need-returns-3 Inv-loop μ-loop
-returns-3 c = let k = c .before .before .before .loop in loop-ends _ _ _ _ (k .work) (k .output) (k .next) _ (c .before .next5 .given .1) (k .inv)
+returns-3 c = loop-ends (c .before .next5 .given .1) (c .before .before .before .loop .inv)
 
 pub resume-spec : {M : Type 1} → statement M
 resume-spec =

@@ -18,9 +18,12 @@ same-length-2 : tie.Need-same-length-2
 same-length-2 c = search needs
 
 returns : tie.Need-returns
-returns c = let s = c .before .before .before .before .before .before .before .before .before .before .before in
-    refer-turns (s .args .work .now) _ (s .args .output .now) _ (s .args .place) (s .args .node) (s .args .e .0) (c .before .before .push-value .kept .0) (c .before .before .before .before .before .before .write-reference .result) (c .before .before .push-value .result) (c .before .before .push-value .ensures)
-    (s .args .slot) (s .pre) (s .pre .finds .ready .1) (c .before .before .before .before .before .before .write-reference .ensures)
+returns c =
+    let pushed = c .before .before .push-value in
+    let put = c .before .before .before .before .before .before in
+    let s = put .before .before .before .before .before in
+    refer-turns (s .args .work .now) _ (s .args .output .now) _ (s .args .place) (s .args .node) (s .args .e .0) (pushed .kept .0) (put .write-reference .result)
+    (pushed .result) (pushed .ensures) (s .args .slot) (s .pre) (s .pre .finds .ready .1) (put .write-reference .ensures)
 
 pub refer-spec : {M : Type 1} → statement M
 refer-spec =

@@ -1,12 +1,19 @@
 -- `write_turn::write_atom` meets its contract: a listed atom from the file, a small one from its value.
 -- Assumes nothing.
 use native.Mathlib.Omega.{arith}
-use mathlib.Core.Path.{sym, _∙_}
+use mathlib.Core.Path.{_≡_, sym, _∙_}
+use mathlib.Core.Bool.{true}
+use Rattle.allocator.specs.Handle.{node-of}
+use Rattle.cache_nodes.specs.Contracts.{is-listed}
 use Rattle.cache_nodes.proofs.Atoms.{index-low, listed-low}
 use Rattle.write_turn.proofs.Atoms.{listed-put, small-put}
 use borrow.Author.Needs.{needs}
 use Rattle.write_turn.proofs.write_atom.Statement.{statement}
 use Rattle.write_turn.proofs.write_atom.Tie as tie
+
+-- The first test holds: the atom is a listed one.
+listed : (x : tie.After-wide) → is-listed (node-of (x .before .before .before .before .before .before .before .before .args .node .0)) ≡ true
+listed x = sym (x .before .before .before .before .is-listed .ensures) ∙ x .before .before .before .if1 .taken
 
 is-listed-requires : tie.Need-is-listed-requires
 is-listed-requires c κs = search needs
@@ -18,24 +25,19 @@ wide-requires : tie.Need-wide-requires
 wide-requires c κs = search needs
 
 write-listed-requires : tie.Need-write-listed-requires
-write-listed-requires c κs = let s = c .before .before .before .before .before .before .before .before in (
-  s .pre .0,
-  s .pre .1,
-  omega (
-    arith,
-    c .wide .ensures,
-    c .before .index .ensures,
-    listed-low (s .args .work .now) (s .args .node .0) (s .pre .0) (s .pre .2) (sym (c .before .before .before .before .is-listed .ensures) ∙ c .before .before .before .if1 .taken),
-  ),
-)
+write-listed-requires c κs =
+    let s = c .before .before .before .before .before .before .before .before in
+    let low = listed-low (s .args .work .now) (s .args .node .0) (s .pre .0) (s .pre .2) (listed c) in
+    (s .pre .0, s .pre .1, omega (arith, c .wide .ensures, c .before .index .ensures, low))
 
 same-length : tie.Need-same-length
 same-length c = search needs
 
 returns : tie.Need-returns
-returns c = let s = c .before .before .before .before .before .before .before .before .before .before .before in
-    listed-put (s .args .file .now) (s .args .work .now) (s .args .node .0) (s .args .output .now) _ (s .args .size) (c .before .before .write-listed .result) (s .pre .0) (s .pre .2) (c .before .before .before .wide .result) (s .pre .1)
-    (sym (c .before .before .before .before .before .before .before .is-listed .ensures) ∙ c .before .before .before .before .before .before .if1 .taken) (c .before .before .before .wide .ensures ∙ c .before .before .before .before .index .ensures) (c .before .before .write-listed .ensures)
+returns c =
+    let x = c .before .before .before in
+    let s = x .before .before .before .before .before .before .before .before in
+    listed-put (s .pre .0) (s .pre .2) (x .wide .result) (s .pre .1) (listed x) (x .wide .ensures ∙ x .before .index .ensures) (c .before .before .write-listed .ensures)
 
 index-requires-2 : tie.Need-index-requires-2
 index-requires-2 c κs = search needs
@@ -47,9 +49,11 @@ same-length-2 : tie.Need-same-length-2
 same-length-2 c = search needs
 
 returns-2 : tie.Need-returns-2
-returns-2 c = let s = c .before .before .before .before .before .before .before .before .before .before in
-    small-put (s .args .file .now) (s .args .work .now) (s .args .node .0) (s .args .output .now) _ (s .args .size) (c .before .before .write-small .result) (s .pre .0) (s .pre .2) (c .before .before .before .index2 .result)
-    (sym (c .before .before .before .before .before .before .is-listed .ensures) ∙ c .before .before .before .before .before .if1 .left) (s .pre .3) (c .before .before .before .index2 .ensures) (c .before .before .write-small .ensures)
+returns-2 c =
+    let x = c .before .before .before in
+    let s = x .before .before .before .before .before .before .before in
+    small-put (s .pre .0) (s .pre .2) (x .index2 .result) (sym (x .before .before .before .is-listed .ensures) ∙ x .before .before .if1 .left) (s .pre .3) (x .index2 .ensures)
+    (c .before .before .write-small .ensures)
 
 pub write-atom-spec : {M : Type 1} → statement M
 write-atom-spec =

@@ -26,14 +26,21 @@ part-write-listed-end c = let s = c .before .before .before .before .before .bef
     omega (arith, s .pre .1 .ordered (s .args .i) (s .pre .2), s .pre .1 .inside (s .args .i) (s .pre .2), c .before .before .start-of .ensures, c .before .end-of .ensures)
 
 write-listed-requires : tie.Need-write-listed-requires
-write-listed-requires c κs = let s = c .before .before .before .before .before .before .before in part-short (s .args .file .now) (c .before .before .before .start-of .result) (c .before .before .end-of .result - c .before .before .before .start-of .result) (s .pre .1 .short)
+write-listed-requires c κs =
+    let start = c .before .before .before .start-of .result in
+    let s = c .before .before .before .before .before .before .before in
+    part-short (s .args .file .now) start (c .before .before .end-of .result - start) (s .pre .1 .short)
 
 same-length : tie.Need-same-length
 same-length c = search needs
 
 returns : tie.Need-returns
-returns c = let s = c .before .before .before .before .before .before .before .before .before .before in
-    part-is (s .args .file .now) (s .args .work .now) (s .args .i) (c .before .before .before .before .before .before .start-of .result) (c .before .before .before .before .before .end-of .result) _ (s .args .output .now) (s .args .size) (c .before .before .before .before .before .before .start-of .ensures) (c .before .before .before .before .before .end-of .ensures) (c .before .before .write-listed .ensures)
+returns c =
+    let e = c .before .before .before .before .before in
+    let b = e .before .start-of in
+    let a = e .before .before .before .before .before .args in
+    part-is (a .file .now) (a .work .now) (a .i) (b .result) (e .end-of .result) _ (a .output .now) (a .size) (b .ensures) (e .end-of .ensures)
+    (c .before .before .write-listed .ensures)
 
 pub write-listed-spec : {M : Type 1} → statement M
 write-listed-spec =

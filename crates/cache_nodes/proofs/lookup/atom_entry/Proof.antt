@@ -20,14 +20,16 @@ enum-told : tie.Need-enum-told
 enum-told c = search needs
 
 returns : tie.Need-returns
-returns c = let s = c .before .before .before .before .before .before in
-    atom-at (s .args .work .now) (s .args .node .0) (c .before .before .before .before .atom-key .result) (s .pre .0) (c .before .before .before .before .atom-key .ensures) (c .before .before .before .find-key .result) (c .before .before .before .find-key .ensures)
-    (c .before .e .given .0 .0 .0) (ap option-of (c .before .e .given .1))
+returns c =
+    let found = c .before .before .before in
+    let keyed = found .before in
+    atom-at (keyed .before .before .pre .0) (keyed .atom-key .ensures) (found .find-key .result) (found .find-key .ensures) (ap option-of (c .before .e .given .1))
 
 returns-2 : tie.Need-returns-2
-returns-2 c = let s = c .before .before .before .before .before in
-    atom-none (s .args .work .now) (s .args .node .0) (c .before .before .before .atom-key .result) (s .pre .0) (c .before .before .before .atom-key .ensures) (c .before .before .find-key .result) (c .before .before .find-key .ensures)
-    (ap option-of (c .enum-told .given .1))
+returns-2 c =
+    let found = c .before .before in
+    let keyed = found .before in
+    atom-none (keyed .before .before .pre .0) (keyed .atom-key .ensures) (found .find-key .result) (found .find-key .ensures) (ap option-of (c .enum-told .given .1))
 
 pub atom-entry-spec : {M : Type 1} → statement M
 atom-entry-spec =

@@ -15,7 +15,7 @@ atom-entry-requires : tie.Need-atom-entry-requires
 atom-entry-requires c κs = let s = c .before .before .before in (s .pre .0, s .pre .1, sym (c .before .is-atom .ensures) ∙ c .if1 .taken)
 
 returns : tie.Need-returns
-returns c = let s = c .before .before .before .before in entry-of-atom (s .args .work .now) (s .args .node .0) (c .atom-entry .result .0) (sym (c .before .before .is-atom .ensures) ∙ c .before .if1 .taken) (c .atom-entry .ensures)
+returns c = entry-of-atom (sym (c .before .before .is-atom .ensures) ∙ c .before .if1 .taken) (c .atom-entry .ensures)
 
 index-requires : tie.Need-index-requires
 index-requires c κs = search needs
@@ -24,14 +24,17 @@ wide-requires : tie.Need-wide-requires
 wide-requires c κs = search needs
 
 pair-entry-requires : tie.Need-pair-entry-requires
-pair-entry-requires c κs = let s = c .before .before .before .before .before in
+pair-entry-requires c κs =
+    let s = c .before .before .before .before .before in
     let n = named-pair _ _ (node-of (s .args .node .0)) (s .pre .1) (sym (c .before .before .before .is-atom .ensures) ∙ c .before .before .if1 .left) in
     (s .pre .0, omega (arith, c .wide .ensures, c .before .index .ensures, n .1))
 
 returns-2 : tie.Need-returns-2
-returns-2 c = let s = c .before .before .before .before .before .before in
-    let n = named-pair _ _ (node-of (s .args .node .0)) (s .pre .1) (sym (c .before .before .before .before .is-atom .ensures) ∙ c .before .before .before .if1 .left) in
-    entry-of-pair (s .args .work .now) (s .args .node .0) (c .pair-entry .result .0) (c .before .wide .result) (n .0 ∙ ap pair (sym (c .before .wide .ensures ∙ c .before .before .index .ensures))) (c .pair-entry .ensures)
+returns-2 c =
+    let x = c .before in
+    let s = x .before .before .before .before .before in
+    let n = named-pair _ _ (node-of (s .args .node .0)) (s .pre .1) (sym (x .before .before .before .is-atom .ensures) ∙ x .before .before .if1 .left) in
+    entry-of-pair (n .0 ∙ ap pair (sym (x .wide .ensures ∙ x .before .index .ensures))) (c .pair-entry .ensures)
 
 pub entry-of-spec : {M : Type 1} → statement M
 entry-of-spec =

@@ -35,11 +35,12 @@ same-length c = search needs
 
 returns : tie.Need-returns
 returns c =
-    let s = c .before .before .before .before .before .before .before .before .before .before .before .before .before in
-    let a = c .before .before .before .before .before .before .before .before .before .before .copy-within in
+    let opened = c .before .before .before .before .before .before .before .before .before .before in
+    let s = opened .before .before .before in
+    let a = opened .copy-within in
     let b = c .before .before .before .before .before .before .copy-within2 in
     let m = c .before .before .copy-within3 in
-    saved (s .args .work .now) (a .last .0) (b .last .0) (m .last .0) (s .args .k) (s .args .opens) (s .args .depth) (s .pre .2) (s .pre .3)
+    saved (s .args .k) (s .pre .2) (s .pre .3)
     (copied _ OPEN (copied-open (s .args .k)) (s .args .opens) (omega arith) (omega arith) _ (a .ensures))
     (copied _ STACK (copied-stack (s .args .k)) (s .args .depth) (omega (arith, a .kept .0)) (omega (arith, a .kept .0)) _ (b .ensures))
     (copied _ WRITTEN (copied-marks (s .args .k)) 96 (omega (arith, a .kept .0, b .kept .0)) (omega (arith, a .kept .0, b .kept .0)) _ (m .ensures))

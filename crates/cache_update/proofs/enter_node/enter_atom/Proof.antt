@@ -19,9 +19,8 @@ same-length c = search needs
 
 returns : tie.Need-returns
 returns c =
-    let s = c .before .before .before .before .before .before .before .before .before in
-    let i = c .before .before .find-or-add in
-    atom-made (s .args .work .now) (i .last .0) (s .args .h .0) (c .before .before .before .before .before .before .atom-key .result) (c .before .before .before .before .atom-length .result) (i .result .0) (s .pre .0 .0) (c .before .before .before .before .before .before .atom-key .ensures) (c .before .before .before .before .atom-length .ensures) (i .ensures)
+    let keyed = c .before .before .before .before .before .before in
+    atom-made (keyed .before .before .before .pre .0 .0) (keyed .atom-key .ensures) (c .before .before .before .before .atom-length .ensures) (c .before .before .find-or-add .ensures)
 
 pub enter-atom-spec : {M : Type 1} → statement M
 enter-atom-spec =

@@ -22,10 +22,10 @@ same-length c = search needs
 
 returns : tie.Need-returns
 returns c =
-    let s = c .before .before .before .before .before .before .before .before .before .before in
-    let i = c .before .before .find-or-add in
-    pair-made (s .args .work .now) (i .last .0) (s .args .l .0) (s .args .r .0) (c .before .before .before .before .before .before .before .length-of .result) (c .before .before .before .before .before .length-of2 .result) (c .before .before .before .before .pair-length .result) (i .result .0)
-    (s .pre .0) (s .pre .1) (s .pre .2) (c .before .before .before .before .before .before .before .length-of .ensures) (c .before .before .before .before .before .length-of2 .ensures) (c .before .before .before .before .pair-length .ensures) (i .ensures)
+    let left = c .before .before .before .before .before .before .before in
+    let p = left .before .before .before .pre in
+    pair-made (p .0) (p .1) (p .2) (left .length-of .ensures) (c .before .before .before .before .before .length-of2 .ensures) (c .before .before .before .before .pair-length .ensures)
+    (c .before .before .find-or-add .ensures)
 
 pub enter-pair-spec : {M : Type 1} → statement M
 enter-pair-spec =

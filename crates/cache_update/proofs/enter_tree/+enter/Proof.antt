@@ -1,18 +1,20 @@
 -- `cache_update::enter_tree::enter` meets its contract. The measure: one more than the number of the pair, or 0 for an atom.
 -- Assumes nothing.
 use Prim.Native.Nat.{ℕ, _<_}
-use mathlib.Core.Path.{sym, _∙_}
+use mathlib.Core.Path.{_≡_, sym, _∙_}
+use mathlib.Core.List.{List}
 use native.Mathlib.Omega.{arith}
 use borrow.Author.Needs.{needs}
 use borrow.Fn.Kinds.{In}
 use borrow.Fn.PlainCycle.{Measures, is, falls, and}
 use Rattle.words.specs.Words.{at}
-use Rattle.allocator.specs.Handle.{node-of}
-use Rattle.work_layout.specs.Layout.{PAIR-COUNT, SENTINEL}
+use Rattle.allocator.specs.Handle.{node-of, pair}
+use Rattle.work_layout.specs.Layout.{PAIR-COUNT, SENTINEL, USED, ENTRIES}
 use Rattle.allocator.proofs.NodePtr.index.Reads as index-reads
 use Rattle.allocator.proofs.NodePtr.is_atom.Reads as is-atom-reads
 use Rattle.cache_nodes.specs.Contracts.{span}
-use Rattle.cache_nodes.proofs.Entering.{pair-low, sentinel-entered, atom-entered, span-a, span-b, span-h, left-asks, right-asks, join-asks, pair-entered, test-same, test-other, test-pair, known-at, room-one}
+use Rattle.cache_nodes.proofs.Entering.{NewPair, pair-low, sentinel-entered, atom-entered, span-a, span-b, span-h, left-asks, right-asks, join-asks, pair-entered}
+use Rattle.cache_nodes.proofs.Entering.{test-same, test-other, test-pair, known-at, room-one}
 use Rattle.cache_update.proofs.enter_tree.enter.Reads as enter
 use Rattle.cache_update.proofs.enter_tree.enter.Kinds as enter-kinds
 use Rattle.cache_update.proofs.enter_tree.+enter.Lts-enter as enter-lts
@@ -36,666 +38,9 @@ enter-at t = and 1 enter-kinds.ps (is 1 enter-kinds.ps μ-enter t) enter.Pre
 abbrev enter-below : ℕ → In 1 enter-kinds.ps
 enter-below t = and 1 enter-kinds.ps (falls 1 enter-kinds.ps _<_ μ-enter t) enter.Pre
 
-enter-is-sentinel-requires : (t : ℕ) → enter-lts.Need-is-sentinel-requires (
-  is-sentinel-reads.Asked,
-  is-sentinel-reads.Learnt,
-  meet-sentinel-reads.Asked,
-  meet-sentinel-reads.Learnt,
-  is-atom-reads.Asked,
-  is-atom-reads.Learnt,
-  enter-atom-reads.Asked,
-  enter-atom-reads.Learnt,
-  index-reads.Asked,
-  index-reads.Learnt,
-  wide-reads.Asked,
-  wide-reads.Learnt,
-  map-of-reads.Asked,
-  map-of-reads.Learnt,
-  left-of-reads.Asked,
-  left-of-reads.Learnt,
-  right-of-reads.Asked,
-  right-of-reads.Learnt,
-  enter-below t,
-  enter.Post,
-  join-reads.Asked,
-  join-reads.Learnt,
-) (enter-at t) enter.Post
-enter-is-sentinel-requires t c κs = c .before .before .pre .1 .0 .sound .long
-
-enter-meet-sentinel-requires : (t : ℕ) → enter-lts.Need-meet-sentinel-requires (
-  is-sentinel-reads.Asked,
-  is-sentinel-reads.Learnt,
-  meet-sentinel-reads.Asked,
-  meet-sentinel-reads.Learnt,
-  is-atom-reads.Asked,
-  is-atom-reads.Learnt,
-  enter-atom-reads.Asked,
-  enter-atom-reads.Learnt,
-  index-reads.Asked,
-  index-reads.Learnt,
-  wide-reads.Asked,
-  wide-reads.Learnt,
-  map-of-reads.Asked,
-  map-of-reads.Learnt,
-  left-of-reads.Asked,
-  left-of-reads.Learnt,
-  right-of-reads.Asked,
-  right-of-reads.Learnt,
-  enter-below t,
-  enter.Post,
-  join-reads.Asked,
-  join-reads.Learnt,
-) (enter-at t) enter.Post
-enter-meet-sentinel-requires t c κs =
-    let s = c .before .before .before .before .before in
-    (s .pre .1 .0, room-one (s .args .work .now) (s .args .h .0) (s .pre .1 .2))
-
-enter-same-length : (t : ℕ) → enter-lts.Need-same-length (
-  is-sentinel-reads.Asked,
-  is-sentinel-reads.Learnt,
-  meet-sentinel-reads.Asked,
-  meet-sentinel-reads.Learnt,
-  is-atom-reads.Asked,
-  is-atom-reads.Learnt,
-  enter-atom-reads.Asked,
-  enter-atom-reads.Learnt,
-  index-reads.Asked,
-  index-reads.Learnt,
-  wide-reads.Asked,
-  wide-reads.Learnt,
-  map-of-reads.Asked,
-  map-of-reads.Learnt,
-  left-of-reads.Asked,
-  left-of-reads.Learnt,
-  right-of-reads.Asked,
-  right-of-reads.Learnt,
-  enter-below t,
-  enter.Post,
-  join-reads.Asked,
-  join-reads.Learnt,
-) (enter-at t) enter.Post
-enter-same-length t c = c .before .before .meet-sentinel .kept .0
-
-enter-returns : (t : ℕ) → enter-lts.Need-returns (
-  is-sentinel-reads.Asked,
-  is-sentinel-reads.Learnt,
-  meet-sentinel-reads.Asked,
-  meet-sentinel-reads.Learnt,
-  is-atom-reads.Asked,
-  is-atom-reads.Learnt,
-  enter-atom-reads.Asked,
-  enter-atom-reads.Learnt,
-  index-reads.Asked,
-  index-reads.Learnt,
-  wide-reads.Asked,
-  wide-reads.Learnt,
-  map-of-reads.Asked,
-  map-of-reads.Learnt,
-  left-of-reads.Asked,
-  left-of-reads.Learnt,
-  right-of-reads.Asked,
-  right-of-reads.Learnt,
-  enter-below t,
-  enter.Post,
-  join-reads.Asked,
-  join-reads.Learnt,
-) (enter-at t) enter.Post
-enter-returns t c =
-    let s = c .before .before .before .before .before .before .before .before in
-    let m = c .before .before .meet-sentinel in
-    sentinel-entered (s .args .work .now) (m .last .0) (s .args .h .0) (m .result .0) (s .pre .1 .1) (test-same (c .before .before .before .before .before .is-sentinel .result) (at (s .args .work .now) SENTINEL) (s .args .h .0) (c .before .before .before .before .before .is-sentinel .ensures) (c .before .before .before .before .if1 .taken)) (m .ensures)
-
-enter-is-atom-requires : (t : ℕ) → enter-lts.Need-is-atom-requires (
-  is-sentinel-reads.Asked,
-  is-sentinel-reads.Learnt,
-  meet-sentinel-reads.Asked,
-  meet-sentinel-reads.Learnt,
-  is-atom-reads.Asked,
-  is-atom-reads.Learnt,
-  enter-atom-reads.Asked,
-  enter-atom-reads.Learnt,
-  index-reads.Asked,
-  index-reads.Learnt,
-  wide-reads.Asked,
-  wide-reads.Learnt,
-  map-of-reads.Asked,
-  map-of-reads.Learnt,
-  left-of-reads.Asked,
-  left-of-reads.Learnt,
-  right-of-reads.Asked,
-  right-of-reads.Learnt,
-  enter-below t,
-  enter.Post,
-  join-reads.Asked,
-  join-reads.Learnt,
-) (enter-at t) enter.Post
-enter-is-atom-requires t c κs = search needs
-
-enter-enter-atom-requires : (t : ℕ) → enter-lts.Need-enter-atom-requires (
-  is-sentinel-reads.Asked,
-  is-sentinel-reads.Learnt,
-  meet-sentinel-reads.Asked,
-  meet-sentinel-reads.Learnt,
-  is-atom-reads.Asked,
-  is-atom-reads.Learnt,
-  enter-atom-reads.Asked,
-  enter-atom-reads.Learnt,
-  index-reads.Asked,
-  index-reads.Learnt,
-  wide-reads.Asked,
-  wide-reads.Learnt,
-  map-of-reads.Asked,
-  map-of-reads.Learnt,
-  left-of-reads.Asked,
-  left-of-reads.Learnt,
-  right-of-reads.Asked,
-  right-of-reads.Learnt,
-  enter-below t,
-  enter.Post,
-  join-reads.Asked,
-  join-reads.Learnt,
-) (enter-at t) enter.Post
-enter-enter-atom-requires t c κs =
-    let s = c .before .before .before .before .before .before .before in
-    ((s .pre .1 .0, s .pre .1 .1, sym (c .before .before .is-atom .ensures) ∙ c .before .if2 .taken), room-one (s .args .work .now) (s .args .h .0) (s .pre .1 .2))
-
-enter-same-length-2 : (t : ℕ) → enter-lts.Need-same-length-2 (
-  is-sentinel-reads.Asked,
-  is-sentinel-reads.Learnt,
-  meet-sentinel-reads.Asked,
-  meet-sentinel-reads.Learnt,
-  is-atom-reads.Asked,
-  is-atom-reads.Learnt,
-  enter-atom-reads.Asked,
-  enter-atom-reads.Learnt,
-  index-reads.Asked,
-  index-reads.Learnt,
-  wide-reads.Asked,
-  wide-reads.Learnt,
-  map-of-reads.Asked,
-  map-of-reads.Learnt,
-  left-of-reads.Asked,
-  left-of-reads.Learnt,
-  right-of-reads.Asked,
-  right-of-reads.Learnt,
-  enter-below t,
-  enter.Post,
-  join-reads.Asked,
-  join-reads.Learnt,
-) (enter-at t) enter.Post
-enter-same-length-2 t c = c .before .before .enter-atom .kept .0
-
-enter-returns-2 : (t : ℕ) → enter-lts.Need-returns-2 (
-  is-sentinel-reads.Asked,
-  is-sentinel-reads.Learnt,
-  meet-sentinel-reads.Asked,
-  meet-sentinel-reads.Learnt,
-  is-atom-reads.Asked,
-  is-atom-reads.Learnt,
-  enter-atom-reads.Asked,
-  enter-atom-reads.Learnt,
-  index-reads.Asked,
-  index-reads.Learnt,
-  wide-reads.Asked,
-  wide-reads.Learnt,
-  map-of-reads.Asked,
-  map-of-reads.Learnt,
-  left-of-reads.Asked,
-  left-of-reads.Learnt,
-  right-of-reads.Asked,
-  right-of-reads.Learnt,
-  enter-below t,
-  enter.Post,
-  join-reads.Asked,
-  join-reads.Learnt,
-) (enter-at t) enter.Post
-enter-returns-2 t c =
-    let s = c .before .before .before .before .before .before .before .before .before .before in
-    let m = c .before .before .enter-atom in
-    atom-entered (s .args .work .now) (m .last .0) (s .args .h .0) (m .result .0) (test-other (c .before .before .before .before .before .before .before .is-sentinel .result) (at (s .args .work .now) SENTINEL) (s .args .h .0) (c .before .before .before .before .before .before .before .is-sentinel .ensures) (c .before .before .before .before .before .before .if1 .left)) (sym (c .before .before .before .before .before .is-atom .ensures) ∙ c .before .before .before .before .if2 .taken) (m .ensures)
-
-enter-index-requires : (t : ℕ) → enter-lts.Need-index-requires (
-  is-sentinel-reads.Asked,
-  is-sentinel-reads.Learnt,
-  meet-sentinel-reads.Asked,
-  meet-sentinel-reads.Learnt,
-  is-atom-reads.Asked,
-  is-atom-reads.Learnt,
-  enter-atom-reads.Asked,
-  enter-atom-reads.Learnt,
-  index-reads.Asked,
-  index-reads.Learnt,
-  wide-reads.Asked,
-  wide-reads.Learnt,
-  map-of-reads.Asked,
-  map-of-reads.Learnt,
-  left-of-reads.Asked,
-  left-of-reads.Learnt,
-  right-of-reads.Asked,
-  right-of-reads.Learnt,
-  enter-below t,
-  enter.Post,
-  join-reads.Asked,
-  join-reads.Learnt,
-) (enter-at t) enter.Post
-enter-index-requires t c κs = search needs
-
-enter-wide-requires : (t : ℕ) → enter-lts.Need-wide-requires (
-  is-sentinel-reads.Asked,
-  is-sentinel-reads.Learnt,
-  meet-sentinel-reads.Asked,
-  meet-sentinel-reads.Learnt,
-  is-atom-reads.Asked,
-  is-atom-reads.Learnt,
-  enter-atom-reads.Asked,
-  enter-atom-reads.Learnt,
-  index-reads.Asked,
-  index-reads.Learnt,
-  wide-reads.Asked,
-  wide-reads.Learnt,
-  map-of-reads.Asked,
-  map-of-reads.Learnt,
-  left-of-reads.Asked,
-  left-of-reads.Learnt,
-  right-of-reads.Asked,
-  right-of-reads.Learnt,
-  enter-below t,
-  enter.Post,
-  join-reads.Asked,
-  join-reads.Learnt,
-) (enter-at t) enter.Post
-enter-wide-requires t c κs = search needs
-
-enter-map-of-requires : (t : ℕ) → enter-lts.Need-map-of-requires (
-  is-sentinel-reads.Asked,
-  is-sentinel-reads.Learnt,
-  meet-sentinel-reads.Asked,
-  meet-sentinel-reads.Learnt,
-  is-atom-reads.Asked,
-  is-atom-reads.Learnt,
-  enter-atom-reads.Asked,
-  enter-atom-reads.Learnt,
-  index-reads.Asked,
-  index-reads.Learnt,
-  wide-reads.Asked,
-  wide-reads.Learnt,
-  map-of-reads.Asked,
-  map-of-reads.Learnt,
-  left-of-reads.Asked,
-  left-of-reads.Learnt,
-  right-of-reads.Asked,
-  right-of-reads.Learnt,
-  enter-below t,
-  enter.Post,
-  join-reads.Asked,
-  join-reads.Learnt,
-) (enter-at t) enter.Post
-enter-map-of-requires t c κs =
-    let s = c .before .before .before .before .before .before .before .before .before in
-    let w = s .args .work .now in
-    let h = s .args .h .0 in
-    let wh = s .pre .1 .0 in
-    let n = s .pre .1 .1 in
-    let i = c .before .wide .result in
-    let e = test-pair w h i (c .before .before .before .before .is-atom .result) n (c .before .before .before .before .is-atom .ensures) (c .before .before .before .if2 .left) (c .before .wide .ensures ∙ c .before .before .index .ensures) in
-    let l = pair-low w (at w PAIR-COUNT) h i n e in
-    let f = wh .handles .few-pairs in
-    (wh .sound .long, omega arith)
-
-enter-sub-t21 : (t : ℕ) → enter-lts.Need-sub-t21 (
-  is-sentinel-reads.Asked,
-  is-sentinel-reads.Learnt,
-  meet-sentinel-reads.Asked,
-  meet-sentinel-reads.Learnt,
-  is-atom-reads.Asked,
-  is-atom-reads.Learnt,
-  enter-atom-reads.Asked,
-  enter-atom-reads.Learnt,
-  index-reads.Asked,
-  index-reads.Learnt,
-  wide-reads.Asked,
-  wide-reads.Learnt,
-  map-of-reads.Asked,
-  map-of-reads.Learnt,
-  left-of-reads.Asked,
-  left-of-reads.Learnt,
-  right-of-reads.Asked,
-  right-of-reads.Learnt,
-  enter-below t,
-  enter.Post,
-  join-reads.Asked,
-  join-reads.Learnt,
-) (enter-at t) enter.Post
-enter-sub-t21 t c = search needs
-
-enter-same-length-3 : (t : ℕ) → enter-lts.Need-same-length-3 (
-  is-sentinel-reads.Asked,
-  is-sentinel-reads.Learnt,
-  meet-sentinel-reads.Asked,
-  meet-sentinel-reads.Learnt,
-  is-atom-reads.Asked,
-  is-atom-reads.Learnt,
-  enter-atom-reads.Asked,
-  enter-atom-reads.Learnt,
-  index-reads.Asked,
-  index-reads.Learnt,
-  wide-reads.Asked,
-  wide-reads.Learnt,
-  map-of-reads.Asked,
-  map-of-reads.Learnt,
-  left-of-reads.Asked,
-  left-of-reads.Learnt,
-  right-of-reads.Asked,
-  right-of-reads.Learnt,
-  enter-below t,
-  enter.Post,
-  join-reads.Asked,
-  join-reads.Learnt,
-) (enter-at t) enter.Post
-enter-same-length-3 t c = search needs
-
-enter-returns-3 : (t : ℕ) → enter-lts.Need-returns-3 (
-  is-sentinel-reads.Asked,
-  is-sentinel-reads.Learnt,
-  meet-sentinel-reads.Asked,
-  meet-sentinel-reads.Learnt,
-  is-atom-reads.Asked,
-  is-atom-reads.Learnt,
-  enter-atom-reads.Asked,
-  enter-atom-reads.Learnt,
-  index-reads.Asked,
-  index-reads.Learnt,
-  wide-reads.Asked,
-  wide-reads.Learnt,
-  map-of-reads.Asked,
-  map-of-reads.Learnt,
-  left-of-reads.Asked,
-  left-of-reads.Learnt,
-  right-of-reads.Asked,
-  right-of-reads.Learnt,
-  enter-below t,
-  enter.Post,
-  join-reads.Asked,
-  join-reads.Learnt,
-) (enter-at t) enter.Post
-enter-returns-3 t c =
-    let s = c .before .before .before .before .before .before .before .before .before .before .before in
-    let w = s .args .work .now in
-    let h = s .args .h .0 in
-    let wh = s .pre .1 .0 in
-    let n = s .pre .1 .1 in
-    let i = c .before .before .before .wide .result in
-    let e = test-pair w h i (c .before .before .before .before .before .before .is-atom .result) n (c .before .before .before .before .before .before .is-atom .ensures) (c .before .before .before .before .before .if2 .left) (c .before .before .before .wide .ensures ∙ c .before .before .before .before .index .ensures) in
-    let q = test-other (c .before .before .before .before .before .before .before .before .is-sentinel .result) (at w SENTINEL) h (c .before .before .before .before .before .before .before .before .is-sentinel .ensures) (c .before .before .before .before .before .before .before .if1 .left) in
-    known-at w h i (c .before .map-of .result) wh n q e (c .before .map-of .ensures) (c .if3 .taken)
-
-enter-left-of-requires : (t : ℕ) → enter-lts.Need-left-of-requires (
-  is-sentinel-reads.Asked,
-  is-sentinel-reads.Learnt,
-  meet-sentinel-reads.Asked,
-  meet-sentinel-reads.Learnt,
-  is-atom-reads.Asked,
-  is-atom-reads.Learnt,
-  enter-atom-reads.Asked,
-  enter-atom-reads.Learnt,
-  index-reads.Asked,
-  index-reads.Learnt,
-  wide-reads.Asked,
-  wide-reads.Learnt,
-  map-of-reads.Asked,
-  map-of-reads.Learnt,
-  left-of-reads.Asked,
-  left-of-reads.Learnt,
-  right-of-reads.Asked,
-  right-of-reads.Learnt,
-  enter-below t,
-  enter.Post,
-  join-reads.Asked,
-  join-reads.Learnt,
-) (enter-at t) enter.Post
-enter-left-of-requires t c κs =
-    let s = c .before .before .before .before .before .before .before .before .before .before .before .before in
-    let w = s .args .work .now in
-    let h = s .args .h .0 in
-    let wh = s .pre .1 .0 in
-    let n = s .pre .1 .1 in
-    let i = c .before .before .before .before .wide .result in
-    let e = test-pair w h i (c .before .before .before .before .before .before .before .is-atom .result) n (c .before .before .before .before .before .before .before .is-atom .ensures) (c .before .before .before .before .before .before .if2 .left) (c .before .before .before .before .wide .ensures ∙ c .before .before .before .before .before .index .ensures) in
-    let l = pair-low w (at w PAIR-COUNT) h i n e in
-    let f = wh .handles .few-pairs in
-    (wh .sound .long, omega arith)
-
-enter-right-of-requires : (t : ℕ) → enter-lts.Need-right-of-requires (
-  is-sentinel-reads.Asked,
-  is-sentinel-reads.Learnt,
-  meet-sentinel-reads.Asked,
-  meet-sentinel-reads.Learnt,
-  is-atom-reads.Asked,
-  is-atom-reads.Learnt,
-  enter-atom-reads.Asked,
-  enter-atom-reads.Learnt,
-  index-reads.Asked,
-  index-reads.Learnt,
-  wide-reads.Asked,
-  wide-reads.Learnt,
-  map-of-reads.Asked,
-  map-of-reads.Learnt,
-  left-of-reads.Asked,
-  left-of-reads.Learnt,
-  right-of-reads.Asked,
-  right-of-reads.Learnt,
-  enter-below t,
-  enter.Post,
-  join-reads.Asked,
-  join-reads.Learnt,
-) (enter-at t) enter.Post
-enter-right-of-requires t c κs =
-    let s = c .before .before .before .before .before .before .before .before .before .before .before .before .before .before in
-    let w = s .args .work .now in
-    let h = s .args .h .0 in
-    let wh = s .pre .1 .0 in
-    let n = s .pre .1 .1 in
-    let i = c .before .before .before .before .before .before .wide .result in
-    let e = test-pair w h i (c .before .before .before .before .before .before .before .before .before .is-atom .result) n (c .before .before .before .before .before .before .before .before .before .is-atom .ensures) (c .before .before .before .before .before .before .before .before .if2 .left) (c .before .before .before .before .before .before .wide .ensures ∙ c .before .before .before .before .before .before .before .index .ensures) in
-    let l = pair-low w (at w PAIR-COUNT) h i n e in
-    let f = wh .handles .few-pairs in
-    (wh .sound .long, omega arith)
-
-enter-enter-requires : (t : ℕ) → enter-lts.Need-enter-requires (
-  is-sentinel-reads.Asked,
-  is-sentinel-reads.Learnt,
-  meet-sentinel-reads.Asked,
-  meet-sentinel-reads.Learnt,
-  is-atom-reads.Asked,
-  is-atom-reads.Learnt,
-  enter-atom-reads.Asked,
-  enter-atom-reads.Learnt,
-  index-reads.Asked,
-  index-reads.Learnt,
-  wide-reads.Asked,
-  wide-reads.Learnt,
-  map-of-reads.Asked,
-  map-of-reads.Learnt,
-  left-of-reads.Asked,
-  left-of-reads.Learnt,
-  right-of-reads.Asked,
-  right-of-reads.Learnt,
-  enter-below t,
-  enter.Post,
-  join-reads.Asked,
-  join-reads.Learnt,
-) (enter-at t) enter.Post
-enter-enter-requires t c κs =
-    let s = c .before .before .before .before .before .before .before .before .before .before .before .before .before .before .before .before in
-    let w = s .args .work .now in
-    let h = s .args .h .0 in
-    let wh = s .pre .1 .0 in
-    let n = s .pre .1 .1 in
-    let i = c .before .before .before .before .before .before .before .before .wide .result in
-    let e = test-pair w h i (c .before .before .before .before .before .before .before .before .before .before .before .is-atom .result) n (c .before .before .before .before .before .before .before .before .before .before .before .is-atom .ensures) (c .before .before .before .before .before .before .before .before .before .before .if2 .left) (c .before .before .before .before .before .before .before .before .wide .ensures ∙ c .before .before .before .before .before .before .before .before .before .index .ensures) in
-    let q = test-other (c .before .before .before .before .before .before .before .before .before .before .before .before .before .is-sentinel .result) (at w SENTINEL) h (c .before .before .before .before .before .before .before .before .before .before .before .before .before .is-sentinel .ensures) (c .before .before .before .before .before .before .before .before .before .before .before .before .if1 .left) in
-    let z = sym (c .before .before .before .before .before .before .map-of .ensures) ∙ c .before .before .before .before .before .if3 .left in
-    let a = c .before .before .before .left-of .result .0 in
-    let b = c .before .right-of .result .0 in
-    let ea = c .before .before .before .left-of .ensures in
-    let eb = c .before .right-of .ensures in
-    let k = left-asks w h i wh n q e z (s .pre .1 .2) a b ea eb in
-    let m = span-a w h i wh n q e z (s .pre .1 .2) a b ea eb in
-    let o = span-h w h i wh n q e z (s .pre .1 .2) a b ea eb in
-    (omega (arith, s .pre .0), (wh, k .0, k .1))
-
-enter-enter-requires-2 : (t : ℕ) → enter-lts.Need-enter-requires-2 (
-  is-sentinel-reads.Asked,
-  is-sentinel-reads.Learnt,
-  meet-sentinel-reads.Asked,
-  meet-sentinel-reads.Learnt,
-  is-atom-reads.Asked,
-  is-atom-reads.Learnt,
-  enter-atom-reads.Asked,
-  enter-atom-reads.Learnt,
-  index-reads.Asked,
-  index-reads.Learnt,
-  wide-reads.Asked,
-  wide-reads.Learnt,
-  map-of-reads.Asked,
-  map-of-reads.Learnt,
-  left-of-reads.Asked,
-  left-of-reads.Learnt,
-  right-of-reads.Asked,
-  right-of-reads.Learnt,
-  enter-below t,
-  enter.Post,
-  join-reads.Asked,
-  join-reads.Learnt,
-) (enter-at t) enter.Post
-enter-enter-requires-2 t c κs =
-    let s = c .before .before .before .before .before .before .before .before .before .before .before .before .before .before .before .before .before .before .before .before in
-    let w = s .args .work .now in
-    let h = s .args .h .0 in
-    let wh = s .pre .1 .0 in
-    let n = s .pre .1 .1 in
-    let i = c .before .before .before .before .before .before .before .before .before .before .before .before .wide .result in
-    let e = test-pair w h i (c .before .before .before .before .before .before .before .before .before .before .before .before .before .before .before .is-atom .result) n (c .before .before .before .before .before .before .before .before .before .before .before .before .before .before .before .is-atom .ensures) (c .before .before .before .before .before .before .before .before .before .before .before .before .before .before .if2 .left) (c .before .before .before .before .before .before .before .before .before .before .before .before .wide .ensures ∙ c .before .before .before .before .before .before .before .before .before .before .before .before .before .index .ensures) in
-    let q = test-other (c .before .before .before .before .before .before .before .before .before .before .before .before .before .before .before .before .before .is-sentinel .result) (at w SENTINEL) h (c .before .before .before .before .before .before .before .before .before .before .before .before .before .before .before .before .before .is-sentinel .ensures) (c .before .before .before .before .before .before .before .before .before .before .before .before .before .before .before .before .if1 .left) in
-    let z = sym (c .before .before .before .before .before .before .before .before .before .before .map-of .ensures) ∙ c .before .before .before .before .before .before .before .before .before .if3 .left in
-    let a = c .before .before .before .before .before .before .before .left-of .result .0 in
-    let b = c .before .before .before .before .before .right-of .result .0 in
-    let ea = c .before .before .before .before .before .before .before .left-of .ensures in
-    let eb = c .before .before .before .before .before .right-of .ensures in
-    let k = right-asks w h i wh n q e z (s .pre .1 .2) a b ea eb (c .before .before .before .enter .last .0) (c .before .before .before .enter .result .0) (c .before .before .before .enter .ensures) in
-    let m = span-b w h i wh n q e z (s .pre .1 .2) a b ea eb in
-    let o = span-h w h i wh n q e z (s .pre .1 .2) a b ea eb in
-    (omega (arith, s .pre .0), (c .before .before .before .enter .ensures .whole, k .0, k .1))
-
-enter-join-requires : (t : ℕ) → enter-lts.Need-join-requires (
-  is-sentinel-reads.Asked,
-  is-sentinel-reads.Learnt,
-  meet-sentinel-reads.Asked,
-  meet-sentinel-reads.Learnt,
-  is-atom-reads.Asked,
-  is-atom-reads.Learnt,
-  enter-atom-reads.Asked,
-  enter-atom-reads.Learnt,
-  index-reads.Asked,
-  index-reads.Learnt,
-  wide-reads.Asked,
-  wide-reads.Learnt,
-  map-of-reads.Asked,
-  map-of-reads.Learnt,
-  left-of-reads.Asked,
-  left-of-reads.Learnt,
-  right-of-reads.Asked,
-  right-of-reads.Learnt,
-  enter-below t,
-  enter.Post,
-  join-reads.Asked,
-  join-reads.Learnt,
-) (enter-at t) enter.Post
-enter-join-requires t c κs =
-    let s = c .before .before .before .before .before .before .before .before .before .before .before .before .before .before .before .before .before .before .before .before .before .before .before .before in
-    let w = s .args .work .now in
-    let h = s .args .h .0 in
-    let wh = s .pre .1 .0 in
-    let n = s .pre .1 .1 in
-    let i = c .before .before .before .before .before .before .before .before .before .before .before .before .before .before .before .before .wide .result in
-    let e = test-pair w h i (c .before .before .before .before .before .before .before .before .before .before .before .before .before .before .before .before .before .before .before .is-atom .result) n (c .before .before .before .before .before .before .before .before .before .before .before .before .before .before .before .before .before .before .before .is-atom .ensures) (c .before .before .before .before .before .before .before .before .before .before .before .before .before .before .before .before .before .before .if2 .left) (c .before .before .before .before .before .before .before .before .before .before .before .before .before .before .before .before .wide .ensures ∙ c .before .before .before .before .before .before .before .before .before .before .before .before .before .before .before .before .before .index .ensures) in
-    let q = test-other (c .before .before .before .before .before .before .before .before .before .before .before .before .before .before .before .before .before .before .before .before .before .is-sentinel .result) (at w SENTINEL) h (c .before .before .before .before .before .before .before .before .before .before .before .before .before .before .before .before .before .before .before .before .before .is-sentinel .ensures) (c .before .before .before .before .before .before .before .before .before .before .before .before .before .before .before .before .before .before .before .before .if1 .left) in
-    let z = sym (c .before .before .before .before .before .before .before .before .before .before .before .before .before .before .map-of .ensures) ∙ c .before .before .before .before .before .before .before .before .before .before .before .before .before .if3 .left in
-    let a = c .before .before .before .before .before .before .before .before .before .before .before .left-of .result .0 in
-    let b = c .before .before .before .before .before .before .before .before .before .right-of .result .0 in
-    let ea = c .before .before .before .before .before .before .before .before .before .before .before .left-of .ensures in
-    let eb = c .before .before .before .before .before .before .before .before .before .right-of .ensures in
-    let k = join-asks w h i wh n q e z (s .pre .1 .2) a b ea eb (c .before .before .before .before .before .before .before .enter .last .0) (c .before .before .before .before .before .before .before .enter .result .0) (c .before .before .before .before .before .before .before .enter .ensures) (c .before .before .before .enter2 .last .0) (c .before .before .before .enter2 .result .0) (c .before .before .before .enter2 .ensures) in
-    ((c .before .before .before .enter2 .ensures .whole, k .0, k .1), (k .2, k .3, k .4))
-
-enter-same-length-4 : (t : ℕ) → enter-lts.Need-same-length-4 (
-  is-sentinel-reads.Asked,
-  is-sentinel-reads.Learnt,
-  meet-sentinel-reads.Asked,
-  meet-sentinel-reads.Learnt,
-  is-atom-reads.Asked,
-  is-atom-reads.Learnt,
-  enter-atom-reads.Asked,
-  enter-atom-reads.Learnt,
-  index-reads.Asked,
-  index-reads.Learnt,
-  wide-reads.Asked,
-  wide-reads.Learnt,
-  map-of-reads.Asked,
-  map-of-reads.Learnt,
-  left-of-reads.Asked,
-  left-of-reads.Learnt,
-  right-of-reads.Asked,
-  right-of-reads.Learnt,
-  enter-below t,
-  enter.Post,
-  join-reads.Asked,
-  join-reads.Learnt,
-) (enter-at t) enter.Post
-enter-same-length-4 t c = c .before .before .join .kept .0 ∙ c .before .before .before .before .before .before .enter2 .kept .0 ∙ c .before .before .before .before .before .before .before .before .before .before .enter .kept .0
-
-enter-returns-4 : (t : ℕ) → enter-lts.Need-returns-4 (
-  is-sentinel-reads.Asked,
-  is-sentinel-reads.Learnt,
-  meet-sentinel-reads.Asked,
-  meet-sentinel-reads.Learnt,
-  is-atom-reads.Asked,
-  is-atom-reads.Learnt,
-  enter-atom-reads.Asked,
-  enter-atom-reads.Learnt,
-  index-reads.Asked,
-  index-reads.Learnt,
-  wide-reads.Asked,
-  wide-reads.Learnt,
-  map-of-reads.Asked,
-  map-of-reads.Learnt,
-  left-of-reads.Asked,
-  left-of-reads.Learnt,
-  right-of-reads.Asked,
-  right-of-reads.Learnt,
-  enter-below t,
-  enter.Post,
-  join-reads.Asked,
-  join-reads.Learnt,
-) (enter-at t) enter.Post
-enter-returns-4 t c =
-    let s = c .before .before .before .before .before .before .before .before .before .before .before .before .before .before .before .before .before .before .before .before .before .before .before .before .before .before .before in
-    let w = s .args .work .now in
-    let h = s .args .h .0 in
-    let wh = s .pre .1 .0 in
-    let n = s .pre .1 .1 in
-    let i = c .before .before .before .before .before .before .before .before .before .before .before .before .before .before .before .before .before .before .before .wide .result in
-    let e = test-pair w h i (c .before .before .before .before .before .before .before .before .before .before .before .before .before .before .before .before .before .before .before .before .before .before .is-atom .result) n (c .before .before .before .before .before .before .before .before .before .before .before .before .before .before .before .before .before .before .before .before .before .before .is-atom .ensures) (c .before .before .before .before .before .before .before .before .before .before .before .before .before .before .before .before .before .before .before .before .before .if2 .left) (c .before .before .before .before .before .before .before .before .before .before .before .before .before .before .before .before .before .before .before .wide .ensures ∙ c .before .before .before .before .before .before .before .before .before .before .before .before .before .before .before .before .before .before .before .before .index .ensures) in
-    let q = test-other (c .before .before .before .before .before .before .before .before .before .before .before .before .before .before .before .before .before .before .before .before .before .before .before .before .is-sentinel .result) (at w SENTINEL) h (c .before .before .before .before .before .before .before .before .before .before .before .before .before .before .before .before .before .before .before .before .before .before .before .before .is-sentinel .ensures) (c .before .before .before .before .before .before .before .before .before .before .before .before .before .before .before .before .before .before .before .before .before .before .before .if1 .left) in
-    let z = sym (c .before .before .before .before .before .before .before .before .before .before .before .before .before .before .before .before .before .map-of .ensures) ∙ c .before .before .before .before .before .before .before .before .before .before .before .before .before .before .before .before .if3 .left in
-    let a = c .before .before .before .before .before .before .before .before .before .before .before .before .before .before .left-of .result .0 in
-    let b = c .before .before .before .before .before .before .before .before .before .before .before .before .right-of .result .0 in
-    let ea = c .before .before .before .before .before .before .before .before .before .before .before .before .before .before .left-of .ensures in
-    let eb = c .before .before .before .before .before .before .before .before .before .before .before .before .right-of .ensures in
-    pair-entered w h i wh n q e z (s .pre .1 .2) a b ea eb (c .before .before .before .before .before .before .before .before .before .before .enter .last .0) (c .before .before .before .before .before .before .before .before .before .before .enter .result .0) (c .before .before .before .before .before .before .before .before .before .before .enter .ensures) (c .before .before .before .before .before .before .enter2 .last .0) (c .before .before .before .before .before .before .enter2 .result .0) (c .before .before .before .before .before .before .enter2 .ensures) (c .before .before .join .last .0) (c .before .before .join .result .0) (c .before .before .join .ensures)
-
-pub +enter-spec : {M : Type 1} → statement M
-+enter-spec = close μ-enter λ t. enter-lts.spec (
+-- What each callee asks for and ensures; the call of itself, for a tree of a smaller measure than t.
+abbrev claims : ℕ → enter-lts.Claims
+claims t = (
   is-sentinel-reads.Asked,
   is-sentinel-reads.Learnt,
   meet-sentinel-reads.Asked,
@@ -719,26 +64,180 @@ pub +enter-spec : {M : Type 1} → statement M
   join-reads.Asked,
   join-reads.Learnt,
 )
-    (enter-at t)
-    enter.Post
-    (enter-is-sentinel-requires t)
-    (enter-meet-sentinel-requires t)
-    (enter-same-length t)
-    (enter-returns t)
-    (enter-is-atom-requires t)
-    (enter-enter-atom-requires t)
-    (enter-same-length-2 t)
-    (enter-returns-2 t)
-    (enter-index-requires t)
-    (enter-wide-requires t)
-    (enter-map-of-requires t)
-    (enter-sub-t21 t)
-    (enter-same-length-3 t)
-    (enter-returns-3 t)
-    (enter-left-of-requires t)
-    (enter-right-of-requires t)
-    (enter-enter-requires t)
-    (enter-enter-requires-2 t)
-    (enter-join-requires t)
-    (enter-same-length-4 t)
-    (enter-returns-4 t)
+
+module _ (t : ℕ) where
+  abbrev Start : Type 0
+  Start = enter-lts.Start (claims t) (enter-at t) enter.Post
+
+  abbrev words : Start → List ℕ
+  words s = s .args .work .now
+
+  abbrev handle : Start → ℕ
+  handle s = s .args .h .0
+
+  one-more : (s : Start) → at (words s) USED < ENTRIES
+  one-more s = room-one (words s) (handle s) (s .pre .1 .2)
+
+  -- After the first test, where the handle is not the sentinel.
+  abbrev Other : Type 0
+  Other = enter-lts.Else1 (claims t) (enter-at t) enter.Post
+
+  abbrev begin : Other → Start
+  begin x = x .before .before .before .before
+
+  not-sentinel : (x : Other) → at (words (begin x)) SENTINEL ≡ handle (begin x) → ⊥
+  not-sentinel x = test-other (x .before .is-sentinel .ensures) (x .if1 .left)
+
+  -- After the pair's number is read.
+  abbrev Numbered : Type 0
+  Numbered = enter-lts.After-wide (claims t) (enter-at t) enter.Post
+
+  abbrev other : Numbered → Other
+  other x = x .before .before .before .before
+
+  is-pair : (x : Numbered) → node-of (handle (begin (other x))) ≡ pair (x .wide .result)
+  is-pair x =
+      let s = begin (other x) in
+      test-pair (words s) (handle s) (s .pre .1 .1) (x .before .before .before .is-atom .ensures) (x .before .before .if2 .left) (x .wide .ensures ∙ x .before .index .ensures)
+
+  low : (x : Numbered) → x .wide .result < 1024
+  low x =
+      let s = begin (other x) in
+      let l = pair-low (words s) (at (words s) PAIR-COUNT) (handle s) (x .wide .result) (s .pre .1 .1) (is-pair x) in
+      omega (arith, l, s .pre .1 .0 .handles .few-pairs)
+
+  -- After the handles of both sides are read.
+  abbrev Sides : Type 0
+  Sides = enter-lts.After-right-of (claims t) (enter-at t) enter.Post
+
+  abbrev number : Sides → Numbered
+  number x = x .before .before .before .before .before .before .before
+
+  abbrev start : Sides → Start
+  start x = begin (other (number x))
+
+  new-pair : (x : Sides) → NewPair (words (start x)) (handle (start x)) (number x .wide .result) (x .before .before .left-of .result .0) (x .right-of .result .0)
+  new-pair x =
+      let p = start x .pre .1 in
+      record {
+        whole = p .0;
+        names = p .1;
+        other = not-sentinel (other (number x));
+        is-pair = is-pair (number x);
+        empty = sym (x .before .before .before .before .before .map-of .ensures) ∙ x .before .before .before .before .if3 .left;
+        room = p .2;
+        left = x .before .before .left-of .ensures;
+        right = x .right-of .ensures;
+      }
+
+  is-sentinel-requires : enter-lts.Need-is-sentinel-requires (claims t) (enter-at t) enter.Post
+  is-sentinel-requires c κs = c .before .before .pre .1 .0 .sound .long
+
+  meet-sentinel-requires : enter-lts.Need-meet-sentinel-requires (claims t) (enter-at t) enter.Post
+  meet-sentinel-requires c κs = let s = c .before .before .before .before .before in (s .pre .1 .0, one-more s)
+
+  same-length : enter-lts.Need-same-length (claims t) (enter-at t) enter.Post
+  same-length c = c .before .before .meet-sentinel .kept .0
+
+  returns : enter-lts.Need-returns (claims t) (enter-at t) enter.Post
+  returns c =
+      let x = c .before .before .before .before in
+      sentinel-entered (x .before .before .before .before .pre .1 .1) (test-same (x .before .is-sentinel .ensures) (x .if1 .taken))
+      (c .before .before .meet-sentinel .ensures)
+
+  is-atom-requires : enter-lts.Need-is-atom-requires (claims t) (enter-at t) enter.Post
+  is-atom-requires c κs = search needs
+
+  enter-atom-requires : enter-lts.Need-enter-atom-requires (claims t) (enter-at t) enter.Post
+  enter-atom-requires c κs =
+      let s = c .before .before .before .before .before .before .before in
+      ((s .pre .1 .0, s .pre .1 .1, sym (c .before .before .is-atom .ensures) ∙ c .before .if2 .taken), one-more s)
+
+  same-length-2 : enter-lts.Need-same-length-2 (claims t) (enter-at t) enter.Post
+  same-length-2 c = c .before .before .enter-atom .kept .0
+
+  returns-2 : enter-lts.Need-returns-2 (claims t) (enter-at t) enter.Post
+  returns-2 c =
+      let x = c .before .before .before .before in
+      atom-entered (not-sentinel (x .before .before)) (sym (x .before .is-atom .ensures) ∙ x .if2 .taken) (c .before .before .enter-atom .ensures)
+
+  index-requires : enter-lts.Need-index-requires (claims t) (enter-at t) enter.Post
+  index-requires c κs = search needs
+
+  wide-requires : enter-lts.Need-wide-requires (claims t) (enter-at t) enter.Post
+  wide-requires c κs = search needs
+
+  map-of-requires : enter-lts.Need-map-of-requires (claims t) (enter-at t) enter.Post
+  map-of-requires c κs = let x = c .before in (begin (other x) .pre .1 .0 .sound .long, low x)
+
+  sub-t21 : enter-lts.Need-sub-t21 (claims t) (enter-at t) enter.Post
+  sub-t21 c = search needs
+
+  same-length-3 : enter-lts.Need-same-length-3 (claims t) (enter-at t) enter.Post
+  same-length-3 c = search needs
+
+  returns-3 : enter-lts.Need-returns-3 (claims t) (enter-at t) enter.Post
+  returns-3 c =
+      let x = c .before .before .before in
+      let s = begin (other x) in
+      known-at (s .pre .1 .0) (s .pre .1 .1) (not-sentinel (other x)) (is-pair x) (c .before .map-of .ensures) (c .if3 .taken)
+
+  left-of-requires : enter-lts.Need-left-of-requires (claims t) (enter-at t) enter.Post
+  left-of-requires c κs = let x = c .before .before .before .before in (begin (other x) .pre .1 .0 .sound .long, low x)
+
+  right-of-requires : enter-lts.Need-right-of-requires (claims t) (enter-at t) enter.Post
+  right-of-requires c κs = let x = c .before .before .before .before .before .before in (begin (other x) .pre .1 .0 .sound .long, low x)
+
+  enter-requires : enter-lts.Need-enter-requires (claims t) (enter-at t) enter.Post
+  enter-requires c κs =
+      let x = c .before in
+      let p = start x .pre in
+      (omega (arith, p .0, span-a (new-pair x), span-h (new-pair x)), (p .1 .0, left-asks (new-pair x) .0, left-asks (new-pair x) .1))
+
+  enter-requires-2 : enter-lts.Need-enter-requires-2 (claims t) (enter-at t) enter.Post
+  enter-requires-2 c κs =
+      let l = c .before .before .before in
+      let x = l .before .before in
+      let k = right-asks (new-pair x) (l .enter .ensures) in
+      (omega (arith, start x .pre .0, span-b (new-pair x), span-h (new-pair x)), (l .enter .ensures .whole, k .0, k .1))
+
+  join-requires : enter-lts.Need-join-requires (claims t) (enter-at t) enter.Post
+  join-requires c κs =
+      let r = c .before .before .before in
+      let l = r .before .before .before .before in
+      let k = join-asks (new-pair (l .before .before)) (l .enter .ensures) (r .enter2 .ensures) in
+      ((r .enter2 .ensures .whole, k .0, k .1), (k .2, k .3, k .4))
+
+  same-length-4 : enter-lts.Need-same-length-4 (claims t) (enter-at t) enter.Post
+  same-length-4 c = let r = c .before .before .before .before .before .before in c .before .before .join .kept .0 ∙ r .enter2 .kept .0 ∙ r .before .before .before .before .enter .kept .0
+
+  returns-4 : enter-lts.Need-returns-4 (claims t) (enter-at t) enter.Post
+  returns-4 c =
+      let r = c .before .before .before .before .before .before in
+      let l = r .before .before .before .before in
+      pair-entered (new-pair (l .before .before)) (l .enter .ensures) (r .enter2 .ensures) (c .before .before .join .ensures)
+
+pub +enter-spec : {M : Type 1} → statement M
++enter-spec =
+    close μ-enter λ t. enter-lts.spec (claims t) (enter-at t) enter.Post
+    (is-sentinel-requires t)
+    (meet-sentinel-requires t)
+    (same-length t)
+    (returns t)
+    (is-atom-requires t)
+    (enter-atom-requires t)
+    (same-length-2 t)
+    (returns-2 t)
+    (index-requires t)
+    (wide-requires t)
+    (map-of-requires t)
+    (sub-t21 t)
+    (same-length-3 t)
+    (returns-3 t)
+    (left-of-requires t)
+    (right-of-requires t)
+    (enter-requires t)
+    (enter-requires-2 t)
+    (join-requires t)
+    (same-length-4 t)
+    (returns-4 t)

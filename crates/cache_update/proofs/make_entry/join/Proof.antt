@@ -29,16 +29,18 @@ slice-write-work : tie.Need-slice-write-work
 slice-write-work c = search needs
 
 same-length : tie.Need-same-length
-same-length c = simp length-set (c .before .before .before .add-parent2 .kept .0 ∙ c .before .before .before .before .before .before .before .add-parent .kept .0 ∙ c .before .before .before .before .before .before .before .before .before .before .before .enter-pair .kept .0)
+same-length c =
+    let right = c .before .before .before in
+    let left = right .before .before .before .before in
+    simp length-set (right .add-parent2 .kept .0 ∙ left .add-parent .kept .0 ∙ left .before .before .before .before .enter-pair .kept .0)
 
 returns : tie.Need-returns
 returns c =
-    let s = c .before .before .before .before .before .before .before .before .before .before .before .before .before .before in
-    let m = c .before .before .before .before .before .before .before .before .before .before .before .enter-pair in
-    let a = c .before .before .before .before .before .before .before .add-parent in
-    let b = c .before .before .before .add-parent2 in
-    joins (s .args .work .now) (m .last .0) (a .last .0) (b .last .0) (s .args .i) (s .args .l .0) (s .args .r .0) (m .result .0)
-    (s .pre .0 .0) (s .pre .0 .1) (s .pre .0 .2) (m .ensures) (a .ensures) (b .ensures)
+    let right = c .before .before .before in
+    let left = right .before .before .before .before in
+    let entered = left .before .before .before .before in
+    let s = entered .before .before .before in
+    joins (s .args .i) (s .pre .0 .0) (s .pre .0 .1) (s .pre .0 .2) (entered .enter-pair .ensures) (left .add-parent .ensures) (right .add-parent2 .ensures)
 
 pub join-spec : {M : Type 1} → statement M
 join-spec =

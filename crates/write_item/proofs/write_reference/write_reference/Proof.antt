@@ -30,32 +30,42 @@ fits-requires : tie.Need-fits-requires
 fits-requires c κs = search needs
 
 returns : tie.Need-returns
-returns c = let s = c .before .before .before .before .before .before in
-    let w = c .before .before .path-width in
-    let b = c .before .before .before .path-bits in
-    λ path e. reference-full (s .args .output .now) (s .args .size) (b .result) (w .result) (path-at (s .args .work .now) (s .args .slot)) path e (b .ensures .0) (w .ensures .1)
-    (no-room _ _ _ (c .before .fits2 .ensures) (c .if1 .taken))
+returns c =
+    let w = c .before .before in
+    let b = w .before .path-bits in
+    let a = w .before .before .before .before .args in
+    λ path e. reference-full (a .output .now) (a .size) (b .result) (w .path-width .result) (path-at (a .work .now) (a .slot)) path e (b .ensures .0)
+    (w .path-width .ensures .1) (no-room _ _ _ (c .before .fits2 .ensures) (c .if1 .taken))
 
 put-reference-requires : tie.Need-put-reference-requires
-put-reference-requires c κs = let s = c .before .before .before .before .before .before .before in
-    let w = c .before .before .before .path-width in
-    let b = c .before .before .before .before .path-bits in
-    ((s .pre .0, s .pre .1, ap (λ (k : ℕ). (k + 7) / 8) (b .ensures .0), omega (arith, b .ensures .1)), (w .ensures .0, has-room _ _ _ (c .before .before .fits2 .ensures) (c .before .if1 .left)))
+put-reference-requires c κs =
+    let w = c .before .before .before in
+    let b = w .before .path-bits .ensures in
+    let s = w .before .before .before .before in (
+      (s .pre .0, s .pre .1, ap (λ (k : ℕ). (k + 7) / 8) (b .0), omega (arith, b .1)),
+      (w .path-width .ensures .0, has-room _ _ _ (c .before .before .fits2 .ensures) (c .before .if1 .left)),
+    )
 
 add-t9 : tie.Need-add-t9
-add-t9 c = let s = c .before .before .before .before .before .before .before .before .before .before in
-    let total = 1 + (c .before .before .before .before .before .before .path-width .result + (c .before .before .before .before .before .before .before .path-bits .result + 7) / 8) in
-    record { fits = omega (arith, has-room (length (s .args .output .now)) (s .args .size + total) _ (c .before .before .before .before .before .fits2 .ensures) (c .before .before .before .before .if1 .left)) }
+add-t9 c =
+    let t = c .before .before .before .before in
+    let w = t .before .before in
+    let a = w .before .before .before .before .args in
+    let total = 1 + (w .path-width .result + (w .before .path-bits .result + 7) / 8) in
+    record { fits = omega (arith, has-room (length (a .output .now)) (a .size + total) _ (t .before .fits2 .ensures) (t .if1 .left)) }
 
 same-length : tie.Need-same-length
 same-length c = search needs
 
 returns-2 : tie.Need-returns-2
-returns-2 c = let s = c .before .before .before .before .before .before .before .before .before .before in
-    let w = c .before .before .before .before .before .before .path-width in
-    let b = c .before .before .before .before .before .before .before .path-bits in
-    λ path e. reference-next (s .args .output .now) (s .args .size) (b .result) (w .result) (path-at (s .args .work .now) (s .args .slot)) path e (b .ensures .0) (w .ensures .1)
-    (c .before .before .put-reference .last .1 .1 .0) (has-room _ _ _ (c .before .before .before .before .before .fits2 .ensures) (c .before .before .before .before .if1 .left)) (c .before .before .put-reference .ensures)
+returns-2 c =
+    let t = c .before .before .before .before in
+    let w = t .before .before in
+    let b = w .before .path-bits in
+    let a = w .before .before .before .before .args in
+    let r = c .before .before .put-reference in
+    λ path e. reference-next (a .output .now) (a .size) (b .result) (w .path-width .result) (path-at (a .work .now) (a .slot)) path e (b .ensures .0)
+    (w .path-width .ensures .1) (r .last .1 .1 .0) (has-room _ _ _ (t .before .fits2 .ensures) (t .if1 .left)) (r .ensures)
 
 pub write-reference-spec : {M : Type 1} → statement M
 write-reference-spec =

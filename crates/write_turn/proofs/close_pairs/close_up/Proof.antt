@@ -1,10 +1,17 @@
 -- `write_turn::close_pairs::close_up` meets its contract: the end, the right side, or a close.
 -- Assumes nothing.
 use native.Mathlib.Omega.{arith}
-use Rattle.write_turn.proofs.Closing.{done-turns, pair-low, pair-few, goes-right, values-there, closes-one}
+use Rattle.write_turn.proofs.Closing.{Innermost, done-turns, pair-low, pair-few, goes-right, values-there, closes-one}
 use borrow.Author.Needs.{needs}
 use Rattle.write_turn.proofs.close_pairs.close_up.Statement.{statement}
 use Rattle.write_turn.proofs.close_pairs.close_up.Tie as tie
+
+-- The innermost open pair, after its number is read.
+abbrev start : tie.After-wide → tie.Start
+start x = x .before .before .before .before .before
+
+inner : (x : tie.After-wide) → Innermost (start x .args .work .now) (start x .args .place) (x .before .innermost .result) (x .wide .result)
+inner x = record { stands = start x .pre; opened = x .before .before .before .if1 .left; word = x .before .innermost .ensures; half = x .wide .ensures }
 
 returns : tie.Need-returns
 returns c = let s = c .before .before in done-turns (s .args .work .now) (s .args .place) (c .if1 .taken)
@@ -16,8 +23,7 @@ wide-requires : tie.Need-wide-requires
 wide-requires c κs = search needs
 
 right-of-requires : tie.Need-right-of-requires
-right-of-requires c κs = let s = c .before .before .before .before .before .before .before in
-    (s .pre .whole .sound .long, pair-few (s .args .work .now) (s .args .place) (s .pre) (c .before .before .before .before .before .if1 .left) (c .before .before .before .innermost .result) (c .before .before .wide .result) (c .before .before .before .innermost .ensures) (c .before .before .wide .ensures))
+right-of-requires c κs = (c .before .before .before .before .before .before .before .pre .whole .sound .long, pair-few (inner (c .before .before)))
 
 sub-work : tie.Need-sub-work
 sub-work c = search needs
@@ -38,32 +44,27 @@ same-length : tie.Need-same-length
 same-length c = search needs
 
 returns-2 : tie.Need-returns-2
-returns-2 c = let s = c .before .before .before .before .before .before .before .before in
-    goes-right (s .args .work .now) (s .args .place) (s .pre) (c .before .before .before .before .before .before .if1 .left) (c .before .before .before .before .innermost .result) (c .before .before .before .wide .result) (c .before .before .before .before .innermost .ensures) (c .before .before .before .wide .ensures) (c .before .before .if2 .taken)
-    (c .right-of .result) (c .right-of .ensures)
+returns-2 c = goes-right (inner (c .before .before .before)) (c .before .before .if2 .taken) (c .right-of .result) (c .right-of .ensures)
 
 close-pair-requires : tie.Need-close-pair-requires
-close-pair-requires c κs = let s = c .before .before .before .before .before .before .before in (
-  s .pre .whole,
-  s .pre .stacked,
-  values-there (s .args .work .now) (s .args .place) (s .pre) (c .before .before .before .before .before .if1 .left) (c .before .before .before .innermost .result) (c .before .before .wide .result) (c .before .before .before .innermost .ensures) (c .before .before .wide .ensures) (c .before .if2 .left),
-  pair-low (s .args .work .now) (s .args .place) (s .pre) (c .before .before .before .before .before .if1 .left) (c .before .before .before .innermost .result) (c .before .before .wide .result) (c .before .before .before .innermost .ensures) (c .before .before .wide .ensures),
-)
+close-pair-requires c κs =
+    let s = c .before .before .before .before .before .before .before in
+    let o = inner (c .before .before) in
+    (s .pre .whole, s .pre .stacked, values-there o (c .before .if2 .left), pair-low o)
 
 sub-t21 : tie.Need-sub-t21
 sub-t21 c = search needs
 
 sub-t22 : tie.Need-sub-t22
-sub-t22 c = let s = c .before .before .before .before .before .before .before .before .before .before .before in
-    omega (arith, values-there (s .args .work .now) (s .args .place) (s .pre) (c .before .before .before .before .before .before .before .before .before .if1 .left) (c .before .before .before .before .before .before .before .innermost .result) (c .before .before .before .before .before .before .wide .result) (c .before .before .before .before .before .before .before .innermost .ensures) (c .before .before .before .before .before .before .wide .ensures) (c .before .before .before .before .before .if2 .left))
+sub-t22 c = omega (arith, values-there (inner (c .before .before .before .before .before .before)) (c .before .before .before .before .before .if2 .left))
 
 same-length-2 : tie.Need-same-length-2
 same-length-2 c = search needs
 
 returns-3 : tie.Need-returns-3
-returns-3 c = let s = c .before .before .before .before .before .before .before .before .before .before .before in
-    closes-one (s .args .work .now) (s .args .place) (s .pre) (c .before .before .before .before .before .before .before .before .before .if1 .left) (c .before .before .before .before .before .before .before .innermost .result) (c .before .before .before .before .before .before .wide .result) (c .before .before .before .before .before .before .before .innermost .ensures) (c .before .before .before .before .before .before .wide .ensures) (c .before .before .before .before .before .if2 .left)
-    (c .before .before .before .close-pair .last .0) (c .before .before .before .close-pair .kept .0) (c .before .before .before .close-pair .ensures)
+returns-3 c =
+    let closed = c .before .before .before .close-pair in
+    closes-one (inner (c .before .before .before .before .before .before)) (c .before .before .before .before .before .if2 .left) (closed .kept .0) (closed .ensures)
 
 pub close-up-spec : {M : Type 1} → statement M
 close-up-spec =
