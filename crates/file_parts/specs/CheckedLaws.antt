@@ -34,11 +34,11 @@ rejected input c (refused n) h z = ap {B = Got File} refused (sym (ap (λ (x : C
 
 -- ---- the loaders can be called
 
-pub atoms-to-load : (input : List ℕ) (f : File) (c : Checked) → Passed input f c → AtomsThere input (c .atoms)
-atoms-to-load input f c p = record { atoms = f .atoms; long = sym (p .atoms-are); there = p .atoms-there; short = p .short }
+pub atoms-to-load : {input : List ℕ} {f : File} {c : Checked} → Passed input f c → AtomsThere input (c .atoms)
+atoms-to-load {input} {f} p = record { atoms = f .atoms; long = sym (p .atoms-are); there = p .atoms-there; short = p .short }
 
-pub pairs-to-load : (input : List ℕ) (f : File) (c : Checked) → Passed input f c → PairsThere input (c .«pairs_at») (c .pairs)
-pairs-to-load input f c p = record { pairs = f .pairs; long = sym (p .pairs-are); there = p .pairs-there }
+pub pairs-to-load : {input : List ℕ} {f : File} {c : Checked} → Passed input f c → PairsThere input (c .«pairs_at») (c .pairs)
+pairs-to-load {input} {f} p = record { pairs = f .pairs; long = sym (p .pairs-are); there = p .pairs-there }
 
 -- ---- handles
 

@@ -48,23 +48,20 @@ module _ (input w : List ℕ) (ws cs : ℕ) where
   asked-file : are-long n ws cs ≡ true → asked input n ws cs ≡ file version-1 input
   asked-file e = ap (λ (x : Bool). cond x (file version-1 input) (refused 1)) e
 
-  refuses : (k : ℕ) → asked input n ws cs ≡ refused k → (b : Begun) → b ≡ record { start = refused-with k; records = 0 }
+  refuses : (k : ℕ) → asked input n ws cs ≡ refused k → {b : Begun} → b ≡ record { start = refused-with k; records = 0 }
       → Begins input w ws cs w b (asked input n ws cs)
-  refuses k e b q = subst (λ (g : Got File). Begins input w ws cs w b g) (sym e) (q, refl)
+  refuses k e {b} q = subst (λ (g : Got File). Begins input w ws cs w b g) (sym e) (q, refl)
 
   -- The slices are too short.
-  pub begin-short : (l : Bool) → l ≡ are-long n ws cs → l ≡ false → (b : Begun) → b ≡ record { start = refused-with 1; records = 0 }
+  pub begin-short : are-long n ws cs ≡ false → {b : Begun} → b ≡ record { start = refused-with 1; records = 0 }
       → Begins input w ws cs w b (asked input n ws cs)
-  begin-short l e z b q = refuses 1 (asked-short (sym e ∙ z)) b q
+  begin-short z q = refuses 1 (asked-short z) q
 
-  module _ (l : Bool) (long-is : l ≡ are-long n ws cs) (long : l ≡ true) (c : Checked) (checks : Checks input c (file version-1 input)) where
-    is-long : are-long n ws cs ≡ true
-    is-long = sym long-is ∙ long
-
+  module _ (is-long : are-long n ws cs ≡ true) (c : Checked) (checks : Checks input c (file version-1 input)) where
     -- The file is turned down.
-    pub begin-refused : (c .number ≡ 0 → ⊥) → (b : Begun) → b ≡ record { start = refused-with (c .number); records = 0 }
+    pub begin-refused : (c .number ≡ 0 → ⊥) → {b : Begun} → b ≡ record { start = refused-with (c .number); records = 0 }
         → Begins input w ws cs w b (asked input n ws cs)
-    begin-refused z b q = refuses (c .number) (asked-file is-long ∙ rejected input c (file version-1 input) checks z) b q
+    begin-refused z q = refuses (c .number) (asked-file is-long ∙ rejected input c (file version-1 input) checks z) q
 
     module _ (z : c .number ≡ 0) where
       accepted-file : Accepted input c (file version-1 input)
@@ -81,9 +78,9 @@ module _ (input w : List ℕ) (ws cs : ℕ) where
       open-asks = (passed, lengths n ws cs is-long .work)
 
       -- The tables are loaded, and the run can start.
-      pub begin-run : (w′ : List ℕ) → length w′ ≡ n → Opened input (the-file input) w′ → (b : Begun) → b ≡ record { start = start-at (c .«steps_at»); records = cs }
+      pub begin-run : (w′ : List ℕ) → length w′ ≡ n → Opened input (the-file input) w′ → {b : Begun} → b ≡ record { start = start-at (c .«steps_at»); records = cs }
           → Begins input w ws cs w′ b (asked input n ws cs)
-      begin-run w′ e o b q =
+      begin-run w′ e o {b} q =
           subst (λ (g : Got File). Begins input w ws cs w′ b g) (sym (asked-file is-long ∙ accepted-file .is))
           (subst (λ (x : Begun). Starts input w′ ws cs x) (sym q)
           record {

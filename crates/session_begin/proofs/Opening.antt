@@ -31,19 +31,20 @@ front-cleared n w t rest long e k l =
     go (suc m) zero h = refl
     go (suc m) (suc j) h = go m j (omega arith)
 
-pub few-twice : (input : List ℕ) (f : File) (c : Checked) → Passed input f c → (2 * c .atoms ≤ 2048) × (2 * c .pairs ≤ 2048)
-few-twice input f c p =
+pub few-twice : {input : List ℕ} {f : File} {c : Checked} → Passed input f c → (2 * c .atoms ≤ 2048) × (2 * c .pairs ≤ 2048)
+few-twice p =
     (omega (arith, p .atoms-are, p .contents .few-atoms), omega (arith, p .pairs-are, p .contents .few-pairs))
 
 -- The part that is lent for the pairs.
-pub pairs-room : (n : ℕ) → WORK ≤ n → (w₀ r₁ : List ℕ) → length w₀ ≡ n → length r₁ ≡ length (part w₀ 0 2048) → length (part (putMid 0 2048 w₀ r₁) 2048 2048) ≡ 2048
-pairs-room n long w₀ r₁ e len₁ =
+pub pairs-room : {n : ℕ} → WORK ≤ n → (w₀ r₁ : List ℕ) → length w₀ ≡ n → length r₁ ≡ length (part w₀ 0 2048)
+    → length (part (putMid 0 2048 w₀ r₁) 2048 2048) ≡ 2048
+pairs-room long w₀ r₁ e len₁ =
     let have = len₁ ∙ part-length w₀ 0 2048 (omega arith) in
     part-length (putMid 0 2048 w₀ r₁) 2048 2048 (omega (arith, put-length 0 2048 w₀ r₁ (omega arith) have))
 
 -- ---- the places of the atoms and the handles of the pairs
 
-module _ (input : List ℕ) (f : File) (c : Checked) (p : Passed input f c) (n : ℕ) (long : WORK ≤ n) (w₀ r₁ r₂ : List ℕ) (long₀ : length w₀ ≡ n)
+module _ {input : List ℕ} {f : File} {c : Checked} (p : Passed input f c) {n : ℕ} (long : WORK ≤ n) (w₀ r₁ r₂ : List ℕ) (long₀ : length w₀ ≡ n)
     (clear : TablesClear w₀)
     (len₁ : length r₁ ≡ length (part w₀ 0 2048)) (l₁ : AtomsLoaded input (f .atoms) (part w₀ 0 2048) r₁)
     (len₂ : length r₂ ≡ length (part (putMid 0 2048 w₀ r₁) 2048 2048)) (l₂ : PairsLoaded (f .pairs) (part (putMid 0 2048 w₀ r₁) 2048 2048) r₂) where
@@ -91,7 +92,7 @@ module _ (input : List ℕ) (f : File) (c : Checked) (p : Passed input f c) (n :
 
 -- ---- the other tables
 
-module _ (input : List ℕ) (f : File) (c : Checked) (p : Passed input f c) (w : List ℕ) (long : WORK ≤ length w) (pl : Placed input f w) where
+module _ {input : List ℕ} {f : File} {c : Checked} (p : Passed input f c) {w : List ℕ} (long : WORK ≤ length w) (pl : Placed input f w) where
   pub firsts-ask : (n : ℕ) → n ≡ c .atoms → Ready input w n
   firsts-ask n e =
       record {

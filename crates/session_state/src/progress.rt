@@ -31,17 +31,10 @@ pub struct StepAnswer {
 fn refuse(p: Progress, number: u32) -> Progress
     ensures { λ r. ⌜ r ≡ refused-at p number ⌝ }
 {
-    Progress {
-        at: p.at,
-        steps: p.steps,
-        adds: p.adds,
-        opens: p.opens,
-        depth: p.depth,
-        size: p.size,
-        finished: p.finished,
-        number,
-        done: true,
-    }
+    let mut next = p;
+    next.number = number;
+    next.done = true;
+    next
 }
 
 // Where the writer stands after an add.

@@ -59,17 +59,10 @@ pub fn note(words: &mut [u32], p: Progress, next: usize) -> Progress
 {
     let steps = p.steps;
     words[steps] = word_of(p.size, p.finished);
-    Progress {
-        at: next,
-        steps: steps + 1,
-        adds: p.adds,
-        opens: p.opens,
-        depth: p.depth,
-        size: p.size,
-        finished: p.finished,
-        number: p.number,
-        done: p.done,
-    }
+    let mut noted = p;
+    noted.at = next;
+    noted.steps = steps + 1;
+    noted
 }
 
 // The sentinel's entry of a checkpoint record. One that was not there stays as it is.

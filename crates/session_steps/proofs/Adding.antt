@@ -48,9 +48,9 @@ use Rattle.session_state.proofs.States.{at-kept, history-more, go-on}
 
 -- ---- what an add takes
 
-pub adding : (input : List ℕ) (f : File) (w words : List ℕ) (rows : List Checkpoint) (out : List ℕ) (p : Progress) (h : ℕ) (rest : List Step)
+pub adding : {input : List ℕ} {f : File} {w words : List ℕ} {rows : List Checkpoint} {out : List ℕ} {p : Progress} {h : ℕ} {rest : List Step}
     (u : Underway input f w words rows out p) → u .left ≡ add h ∷ rest → p .finished ≡ false → p .adds < 16 → Adding input w out p h
-adding input f w words rows out p h rest u e fin few =
+adding {input} {f} {w} {words} {rows} {out} {p} {h} {rest} u e fin few =
     let left : length (u .left) ≡ suc (length rest) = ap length e in
     record {
       places = u .stocked .places;
@@ -65,7 +65,7 @@ adding input f w words rows out p h rest u e fin few =
         → named (length (f .atoms)) (length (f .pairs)) (node-of h) ≡ true
     first ss q a = subst (λ (x : List Step). All (StepNamed (length (f .atoms)) (length (f .pairs))) x) q a .0
 
-module _ (input w out : List ℕ) (p : Progress) (h : ℕ) (ad : Adding input w out p h) (w₁ : List ℕ) (len₁ : length w₁ ≡ length w)
+module _ {input w out : List ℕ} {p : Progress} {h : ℕ} (ad : Adding input w out p h) {w₁ : List ℕ} (len₁ : length w₁ ≡ length w)
     (sv : Saved w w₁ (p .adds) (p .opens) (p .depth)) where
   -- ---- the state is saved
 
@@ -97,7 +97,7 @@ module _ (input w out : List ℕ) (p : Progress) (h : ℕ) (ad : Adding input w 
   pub update-asks : (Whole w₁ × Names w₁ (at w₁ PAIR-COUNT) h) × (at w₁ USED + 2 * unmapped w₁ (at w₁ PAIR-COUNT) < ENTRIES)
   update-asks = ((whole₁, names₁), omega (arith, room₁, ad .room))
 
-  module _ (w₂ : List ℕ) (len₂ : length w₂ ≡ length w) (up : Updated w₁ w₂ h) where
+  module _ {w₂ : List ℕ} (up : Updated w₁ w₂ h) where
     same₂ : (k : ℕ) → k < MOVED → at w₂ k ≡ at w k
     same₂ k l = up .below k l ∙ same₁ k (omega arith)
 
@@ -120,7 +120,7 @@ module _ (input w out : List ℕ) (p : Progress) (h : ℕ) (ad : Adding input w 
         let c = unmapped-kept w w₁ len₁ low₁ maps₁ cache₁ (ad .running .stands .whole) in
         omega (arith, up .bounded .counts)
 
-    pub running₂ : Running w₂ out (p .opens) (p .depth) (p .size) 0
+    running₂ : Running w₂ out (p .opens) (p .depth) (p .size) 0
     running₂ =
         let r = ad .running .stands in
         record {
@@ -137,11 +137,14 @@ module _ (input w out : List ℕ) (p : Progress) (h : ℕ) (ad : Adding input w 
           short = ad .running .short;
         }
 
-    pub places₂ : AtomPlaces input w₂
+    places₂ : AtomPlaces input w₂
     places₂ = places-kept w w₂ low₂ (ad .running .stands .whole .handles .few-atoms) input (ad .places)
 
-    pub names₂ : Names w₂ (at w₂ PAIR-COUNT) h
+    names₂ : Names w₂ (at w₂ PAIR-COUNT) h
     names₂ = rw (low₂ ATOM-COUNT (omega arith), pairs₂) (ad .names)
+
+    pub resume-asks : AtomPlaces input w₂ × Running w₂ out (p .opens) (p .depth) (p .size) 0 × Names w₂ (at w₂ PAIR-COUNT) h
+    resume-asks = (places₂, running₂, names₂)
 
     pub todo₂ : (f : File) → todo-of f w₂ (p .opens) ≡ todo-of f w (p .opens)
     todo₂ f =
@@ -170,9 +173,9 @@ module _ (input w out : List ℕ) (p : Progress) (h : ℕ) (ad : Adding input w 
 
 -- ---- what an add leaves
 
-module _ (input : List ℕ) (f : File) (w words : List ℕ) (rows : List Checkpoint) (out : List ℕ) (p : Progress) (node : NodePtr) (next : ℕ) (rest : List Step)
+module _ {input : List ℕ} {f : File} {w words : List ℕ} {rows : List Checkpoint} {out : List ℕ} {p : Progress} {node : NodePtr} (next : ℕ) {rest : List Step}
     (u : Underway input f w words rows out p) (e : u .left ≡ add (node .0) ∷ rest) (there : StepsAt input next rest) (fin : p .finished ≡ false) (few : p .adds < 16)
-    (w′ out′ : List ℕ) (q : Progress) (a : Added input w out w′ out′ p node q) where
+    {w′ out′ : List ℕ} {q : Progress} (a : Added input w out w′ out′ p node q) where
   abbrev h : ℕ
   h = node .0
 
@@ -189,28 +192,28 @@ module _ (input : List ℕ) (f : File) (w words : List ℕ) (rows : List Checkpo
   w₂ = a .updated-words
 
   ad : Adding input w out p h
-  ad = adding input f w words rows out p h rest u e fin few
+  ad = adding u e fin few
 
   tables₂ : Tables f w₂
-  tables₂ = tables-kept w w₂ (low₂ input w out p h ad w₁ (a .saved-long) (a .saved) w₂ (a .updated-long) (a .updated)) f (ad .running .stands .whole .handles) (u .stocked .tables)
+  tables₂ = tables-kept w w₂ (low₂ ad (a .saved-long) (a .saved) (a .updated)) f (ad .running .stands .whole .handles) (u .stocked .tables)
 
   few-atoms : at w ATOM-COUNT ≤ 1024
   few-atoms = ad .running .stands .whole .handles .few-atoms
 
   atoms₂ : AtomsThere input f w₂
-  atoms₂ = atoms-kept w w₂ (low₂ input w out p h ad w₁ (a .saved-long) (a .saved) w₂ (a .updated-long) (a .updated)) few-atoms input f (u .stocked .tables) (u .stocked .atoms-there)
+  atoms₂ = atoms-kept w w₂ (low₂ ad (a .saved-long) (a .saved) (a .updated)) few-atoms input f (u .stocked .tables) (u .stocked .atoms-there)
 
   meant : Leads f c₂ (length out) w′ out′ (ended (a .outcome)) (goes-on c₂ (length out) (writer.parse (unfolded f h) ∷ todo-of f w₂ (p .opens)) (s .written))
   meant =
       a .resumed .leads f c₂ (s .written) tables₂ atoms₂
-      (writes₂ input w out p h ad w₁ (a .saved-long) (a .saved) w₂ (a .updated-long) (a .updated) f (s .cache) (s .written) (u .stocked .tables) (u .present .writes))
+      (writes₂ ad (a .saved-long) (a .saved) (a .updated) f (s .cache) (s .written) (u .stocked .tables) (u .present .writes))
 
   waiting : s .waiting ≡ some (todo-of f w (p .opens))
   waiting = u .present .waiting ∙ ap (λ (b : Bool). waits b (todo-of f w (p .opens))) fin
 
   -- The words and the output that stay.
   low : (k : ℕ) → k < OPEN → at w′ k ≡ at w k
-  low k l = a .resumed .only .low k l ∙ low₂ input w out p h ad w₁ (a .saved-long) (a .saved) w₂ (a .updated-long) (a .updated) k l
+  low k l = a .resumed .only .low k l ∙ low₂ ad (a .saved-long) (a .saved) (a .updated) k l
 
   cached : (k : ℕ) → MOVED ≤ k → k < SEEN → at w′ k ≡ at w₂ k
   cached k l m = a .resumed .only .cache k l m
@@ -267,7 +270,7 @@ module _ (input : List ℕ) (f : File) (w words : List ℕ) (rows : List Checkpo
           ≡ comes-to f c₂ (length out) w′ (ended (a .outcome)) (meant .last)
       resumes =
           ap (λ (k : List Todo). writer.resume (find-in counted) (room-in (length out)) c₂ (writer.parse (unfolded f h) ∷ k) (s .written))
-          (sym (todo₂ input w out p h ad w₁ (a .saved-long) (a .saved) w₂ (a .updated-long) (a .updated) f))
+          (sym (todo₂ ad (a .saved-long) (a .saved) (a .updated) f))
           ∙ meant .same
 
   long₂ : length w′ ≡ length w₂
@@ -284,8 +287,8 @@ module _ (input : List ℕ) (f : File) (w words : List ℕ) (rows : List Checkpo
       let un = unmapped-kept w₂ w′ long₂ (a .resumed .only .low) maps₂ cache₂ (a .updated .whole) in
       let us = cached USED (omega arith) (omega arith) in
       let co = all-counts-kept w₂ w′ long₂ (a .resumed .only .low) maps₂ cache₂ (a .updated .whole) in
-      let r = room₂ input w out p h ad w₁ (a .saved-long) (a .saved) w₂ (a .updated-long) (a .updated) in
-      let c = counts₂ input w out p h ad w₁ (a .saved-long) (a .saved) w₂ (a .updated-long) (a .updated) in
+      let r = room₂ ad (a .saved-long) (a .saved) (a .updated) in
+      let c = counts₂ ad (a .saved-long) (a .saved) (a .updated) in
       record {
         places = places-kept w w′ low few-atoms input (u .stocked .places);
         tables = tables-kept w w′ low f (ad .running .stands .whole .handles) (u .stocked .tables);
@@ -349,9 +352,9 @@ module _ (input : List ℕ) (f : File) (w words : List ℕ) (rows : List Checkpo
       }
 
   -- An add that is not refused: its word is noted, and the run goes on.
-  pub added-on : (words′ : List ℕ) (t : Progress) → q .done ≡ false → words′ ≡ set words (q .steps) (q .size * 2 + bit (q .finished)) → t ≡ noted-at q next
+  pub added-on : {words′ : List ℕ} {t : Progress} → q .done ≡ false → words′ ≡ set words (q .steps) (q .size * 2 + bit (q .finished)) → t ≡ noted-at q next
       → Underway input f w′ words′ (set rows (slot-for (u .left) (p .adds)) (record-of w p)) out′ t
-  added-on words′ t d ws is =
+  added-on {words′} {t} d ws is =
       subst (λ (k : ℕ). Underway input f w′ words′ (set rows k (record-of w p)) out′ t) (sym slot)
       (subst (λ (x : Progress). Underway input f w′ words′ rows′ out′ x) (sym is)
       (subst (λ (x : Progress). x .done ≡ false → words′ ≡ set words (x .steps) (x .size * 2 + bit (x .finished))

@@ -23,16 +23,25 @@ use Rattle.session_state.specs.declared.progress.StepAnswer.{StepAnswer}
 use Rattle.session_state.specs.Stored.{bit, record-of}
 use Rattle.session_state.specs.Moves.{noted-at, after-outcome, stopped-at}
 use Rattle.session_state.specs.Questions.{question-of}
-use Rattle.session_state.specs.State.{waits, Underway, Ended, slot-for}
+use Rattle.session_state.specs.State.{waits, Underway, slot-for}
 use Rattle.session_state.specs.Steps.{Comes, Ready, Onward}
 use Rattle.session_steps.specs.Contracts.{Adding, Added}
 use Rattle.session_state.proofs.Runs.{run-ends, run-finished, run-full}
 use Rattle.session_steps.proofs.Adding.{adding, added-on, added-off}
 use Rattle.session_state.proofs.Answers.{stands-on, stands-off, stops}
 
-module _ (input : List ℕ) (f : File) (w words out : List ℕ) (p : Progress) (c : Checkpoint) where
-  pub stops-at-end : (a : StepAnswer) → a ≡ stopped-at p 0 c → Comes input (p .at) next-step.End → Onward input f w words out p c w words out a
-  stops-at-end a is comes =
+-- Neither question gets no.
+pub not-asked : (p : Progress) {n : ℕ} → n ≡ question-of (p .finished) (p .adds) → n ≡ 0 → (p .finished ≡ false) × (p .adds < 16)
+not-asked p {n} e z = go (p .finished) refl (ltb (p .adds) 16) refl (sym z ∙ e)
+  where
+    go : (b : Bool) → p .finished ≡ b → (d : Bool) → ltb (p .adds) 16 ≡ d → _≡_ {A = ℕ} 0 (cond b 9 (cond d 0 10)) → (p .finished ≡ false) × (p .adds < 16)
+    go true fin d m q = absurd (omega (arith, q))
+    go false fin true m q = (fin, ltb-true (p .adds) 16 m)
+    go false fin false m q = absurd (omega (arith, q))
+
+module _ {input : List ℕ} {f : File} {w words out : List ℕ} {p : Progress} {c : Checkpoint} (ready : Ready input f w words out p c) where
+  pub stops-at-end : {a : StepAnswer} → a ≡ stopped-at p 0 c → Comes input (p .at) next-step.End → Onward input f w words out p c w words out a
+  stops-at-end {a} is comes =
       stops input f w words out p c 0 a is (λ rows u.
       let e = comes (u .left) (u .steps-there) in
       ap (λ (ss : List Step). run-steps counted (length out) f ss (u .past) (u .session)) e ∙ run-ends (length out) f (u .past) (u .session))
@@ -57,73 +66,61 @@ module _ (input : List ℕ) (f : File) (w words out : List ℕ) (p : Progress) (
         (u .present .waiting ∙ ap (λ (b : Bool). waits b (todo-of f w (p .opens))) fin) (omega (arith, u .history .long)))
 
     -- Both questions.
-    pub stops-asked : (n : ℕ) → n ≡ question-of (p .finished) (p .adds) → (n ≡ 0 → ⊥) → (a : StepAnswer) → a ≡ stopped-at p n c
+    pub stops-asked : {n : ℕ} → n ≡ question-of (p .finished) (p .adds) → (n ≡ 0 → ⊥) → {a : StepAnswer} → a ≡ stopped-at p n c
         → Onward input f w words out p c w words out a
-    stops-asked n e nz a is = go (p .finished) refl (ltb (p .adds) 16) refl e
+    stops-asked {n} e nz {a} is = go (p .finished) refl (ltb (p .adds) 16) refl e
       where
         go : (b : Bool) → p .finished ≡ b → (d : Bool) → ltb (p .adds) 16 ≡ d → n ≡ cond b 9 (cond d 0 10) → Onward input f w words out p c w words out a
         go true fin d m q = stops-9 a (is ∙ ap (λ (x : ℕ). stopped-at p x c) q) fin
         go false fin true m q = absurd (nz q)
         go false fin false m q = stops-10 a (is ∙ ap (λ (x : ℕ). stopped-at p x c) q) fin (ltb-false (p .adds) 16 m)
 
-    pub not-asked : (n : ℕ) → n ≡ question-of (p .finished) (p .adds) → n ≡ 0 → (p .finished ≡ false) × (p .adds < 16)
-    not-asked n e z = go (p .finished) refl (ltb (p .adds) 16) refl (sym z ∙ e)
-      where
-        go : (b : Bool) → p .finished ≡ b → (d : Bool) → ltb (p .adds) 16 ≡ d → _≡_ {A = ℕ} 0 (cond b 9 (cond d 0 10)) → (p .finished ≡ false) × (p .adds < 16)
-        go true fin d m q = absurd (omega (arith, q))
-        go false fin true m q = (fin, ltb-true (p .adds) 16 m)
-        go false fin false m q = absurd (omega (arith, q))
-
-    module _ (fin : p .finished ≡ false) (few : p .adds < 16) where
-      pub add-asks : Ready input f w words out p c → Adding input w out p (node .0)
-      add-asks r =
-          let u = r .underway in
+    module _ (free : (p .finished ≡ false) × (p .adds < 16)) where
+      pub add-asks : Adding input w out p (node .0)
+      add-asks =
+          let u = ready .underway in
           let e = comes (u .left) (u .steps-there) in
-          adding input f w words (r .rows) out p (node .0) (e .0) u (e .1) fin few
+          adding u (e .1) (free .0) (free .1)
 
-      module _ (w′ out′ : List ℕ) (q : Progress) (ad : Added input w out w′ out′ p node q) where
+      module _ {w′ out′ : List ℕ} {q : Progress} (ad : Added input w out w′ out′ p node q) where
         steps-same : (o : Outcome) → after-outcome p o .steps ≡ p .steps
         steps-same (outcome.Done pl) = refl
         steps-same (outcome.Stopped pl) = refl
         steps-same (outcome.Refused n pl) = refl
+
+        same-steps : q .steps ≡ p .steps
+        same-steps = ap (λ (x : Progress). x .steps) (ad .is) ∙ steps-same (ad .outcome)
 
         fits : (o : Outcome) → Fine w′ out′ (ended-at o) → after-outcome p o .done ≡ false → after-outcome p o .size ≤ 65535
         fits (outcome.Done pl) r d = omega (arith, r .0 .fits, r .0 .short)
         fits (outcome.Stopped pl) r d = omega (arith, r .fits, r .short)
         fits (outcome.Refused n pl) r d = absurd (let z : _≡_ {A = ℕ} 0 1 = cc in omega arith)
 
-        pub note-asks : Ready input f w words out p c → q .done ≡ false → (q .steps < length words) × (q .size ≤ 65535) × (q .steps < 1024)
-        note-asks r d =
-            let u = r .underway in
+        pub note-asks : q .done ≡ false → (q .steps < length words) × (q .size ≤ 65535) × (q .steps < 1024)
+        note-asks d =
+            let u = ready .underway in
             let e = comes (u .left) (u .steps-there) in
             let l : length (u .left) ≡ suc (length (e .0)) = ap length (e .1) in
-            let s : q .steps ≡ p .steps = ap (λ (x : Progress). x .steps) (ad .is) ∙ steps-same (ad .outcome) in
             let z : q .size ≤ 65535 =
             subst (λ (x : Progress). x .done ≡ false → x .size ≤ 65535) (sym (ad .is)) (fits (ad .outcome) (ad .resumed .fine)) d in
-            (omega (arith, u .few-steps, u .many-words), z, omega (arith, u .few-steps))
+            (omega (arith, same-steps, u .few-steps, u .many-words), z, omega (arith, same-steps, u .few-steps))
 
         -- A refused add.
-        pub adds-off : (a : StepAnswer) → a .state ≡ q → q .done ≡ true → Onward input f w words out p c w′ words out′ a
-        adds-off a is d rows u r-is =
-            let e = comes (u .left) (u .steps-there) in
-            let end : Ended f words out′ q =
-            added-off input f w words rows out p node next (e .0) u (e .1) (e .2) fin few w′ out′ q ad d in
-            let s : a .state .steps ≡ p .steps = ap (λ (x : Progress). x .steps) (is ∙ ad .is) ∙ steps-same (ad .outcome) in
-            let done : a .state .done ≡ true = ap (λ (x : Progress). x .done) is ∙ d in (
-              stands-off input f w′ words (set rows (slot-for (u .left) (p .adds)) (a .saved)) out′ (a .state) done
-                  (subst (λ (x : Progress). Ended f words out′ x) (sym is) end),
-              omega (arith, ap bit done),
+        pub adds-off : (saved : Checkpoint) → q .done ≡ true → Onward input f w words out p c w′ words out′ (record { state = q; saved = saved })
+        adds-off saved d rows u r-is =
+            let e = comes (u .left) (u .steps-there) in (
+              stands-off input f w′ words (set rows (slot-for (u .left) (p .adds)) saved) out′ q d (added-off next u (e .1) (e .2) (free .0) (free .1) ad d),
+              omega (arith, same-steps, ap bit d),
             )
 
         -- An add that is not refused.
-        pub adds-on : (words′ : List ℕ) (a : StepAnswer) → a .saved ≡ record-of w p → q .done ≡ false
-            → words′ ≡ set words (q .steps) (q .size * 2 + bit (q .finished)) → a .state ≡ noted-at q next → Onward input f w words out p c w′ words′ out′ a
-        adds-on words′ a sv d ws is rows u r-is =
+        pub adds-on : {words′ : List ℕ} {saved : Checkpoint} {t : Progress} → saved ≡ record-of w p → q .done ≡ false
+            → words′ ≡ set words (q .steps) (q .size * 2 + bit (q .finished)) → t ≡ noted-at q next → Onward input f w words out p c w′ words′ out′ (record { state = t; saved = saved })
+        adds-on {words′} {saved} {t} sv d ws is rows u r-is =
             let e = comes (u .left) (u .steps-there) in
-            let s : a .state .steps ≡ p .steps + 1 =
-            ap (λ (x : Progress). x .steps) is ∙ ap (λ (x : Progress). x .steps + 1) (ad .is) ∙ ap (λ (x : ℕ). x + 1) (steps-same (ad .outcome)) in (
-              stands-on input f w′ words′ (set rows (slot-for (u .left) (p .adds)) (a .saved)) out′ (a .state) (ap (λ (x : Progress). x .done) is ∙ d)
-                  (subst (λ (x : Checkpoint). Underway input f w′ words′ (set rows (slot-for (u .left) (p .adds)) x) out′ (a .state)) (sym sv)
-                  (added-on input f w words rows out p node next (e .0) u (e .1) (e .2) fin few w′ out′ q ad words′ (a .state) d ws is)),
-              omega arith,
+            let s : t .steps ≡ q .steps + 1 = ap (λ (x : Progress). x .steps) is in (
+              stands-on input f w′ words′ (set rows (slot-for (u .left) (p .adds)) saved) out′ t (ap (λ (x : Progress). x .done) is ∙ d)
+                  (subst (λ (x : Checkpoint). Underway input f w′ words′ (set rows (slot-for (u .left) (p .adds)) x) out′ t) (sym sv)
+                  (added-on next u (e .1) (e .2) (free .0) (free .1) ad d ws is)),
+              omega (arith, same-steps),
             )

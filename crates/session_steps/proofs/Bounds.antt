@@ -18,7 +18,7 @@ take-used n o e =
     by-lt 65535 (length o) (λ h. let same : n ≡ 65535 = omega arith in ap (λ (k : ℕ). take k o) same)
     (λ h. take-all n o (omega arith) ∙ sym (take-all 65535 o h))
 
-module _ (n : ℕ) (o : List ℕ) (e : n ≡ min (length o) 65535) where
+module _ {n : ℕ} (o : List ℕ) (e : n ≡ min (length o) 65535) where
   pub used-many : n ≡ length (take n o)
   used-many = sym (length-take-le n o (omega arith))
 
@@ -28,9 +28,9 @@ module _ (n : ℕ) (o : List ℕ) (e : n ≡ min (length o) 65535) where
       let long : length (part ++ drop n o) ≡ length o = length-append part (drop n o) ∙ omega (arith, length-drop n o) in
       sym (take-at part (drop n o) n t) ∙ take-used n (part ++ drop n o) (omega arith)
 
-  module _ (input : List ℕ) (f : File) (w words : List ℕ) (p : Progress) (c : Checkpoint) where
-    pub used-ready : Ready input f w words (take 65535 o) p c → Ready input f w words (take n o) p c
-    used-ready r = subst (λ (x : List ℕ). Ready input f w words x p c) (sym (take-used n o e)) r
+  module _ {input : List ℕ} {f : File} {w words : List ℕ} {p : Progress} {c : Checkpoint} (r : Ready input f w words (take 65535 o) p c) where
+    pub used-ready : Ready input f w words (take n o) p c
+    used-ready = subst (λ (x : List ℕ). Ready input f w words x p c) (sym (take-used n o e)) r
 
     pub used-onward : (w′ words′ part : List ℕ) (a : StepAnswer) → length part ≡ length (take n o) → Onward input f w words (take n o) p c w′ words′ part a
         → Onward input f w words (take 65535 o) p c w′ words′ (take 65535 (part ++ drop n o)) a

@@ -29,7 +29,7 @@ number-add a d (b ∷ bs) =
     power : d * 256 * 256 ^ length bs ≡ d * 256 ^ suc (length bs)
     power = mul-assoc d 256 (256 ^ length bs) ∙ ap (λ (n : ℕ). d * n) (sym (pow-succ' 256 (length bs)))
 
--- the first byte's ones taken off, the bytes make the size
+-- The first byte's ones taken off, the bytes make the size.
 pub size-read : (input : List ℕ) (p w rest : ℕ) → 1 ≤ w → w ≤ 8 → p + w ≤ length input → rest + 256 ≡ getD input p 0 + 2 ^ (8 - w)
     → number-after rest (part input (p + 1) (w - 1)) ≡ number (take w (drop p input)) - mark w
 size-read input p zero rest one eight fits r = absurd (omega arith)
@@ -64,42 +64,58 @@ size-read input p (suc k) rest one eight fits r =
     less : number-after rest X + d * 256 ^ k - mark (suc k) ≡ number-after rest X
     less = rw pred (omega arith)
 
--- a byte that is no single one has a leading one
+-- A byte that is no single one has a leading one.
 pub ones-one : (b : ℕ) → 0x80 ≤ b → 1 ≤ ones 8 b
 ones-one b h = omega (arith, ones-more 8 b (omega arith) h)
 
--- the width is that of the byte at the place
+-- The width is that of the byte at the place.
 pub decode-at : (input : List ℕ) (p w : ℕ) → w ≡ ones 8 (getD input p 0) → decode-size (drop p input) ≡ size-of w (drop p input)
 decode-at input p w e = ap (λ (n : ℕ). size-of n (drop p input)) (ap (ones 8) (getD-drop p input 0 0 ∙ ap (λ (n : ℕ). getD input n 0) (add-zero p)) ∙ sym e)
 
--- the ways out of `decode_size_with_offset`
-module _ (input : List ℕ) (p w rest : ℕ) (h : p < length input) (big : 0x80 ≤ getD input p 0) (e : w ≡ ones 8 (getD input p 0)) (eight : w ≤ 8)
-    (r : rest + 256 ≡ getD input p 0 + 2 ^ (8 - w)) where
+-- The byte at the place, its ones and what is left of it.
+pub record First (input : List ℕ) (p w rest : ℕ) : Type 0 where
+  pub inside : p < length input
+  pub big : 0x80 ≤ getD input p 0
+  pub width-is : w ≡ ones 8 (getD input p 0)
+  pub eight : w ≤ 8
+  pub rest-is : rest + 256 ≡ getD input p 0 + 2 ^ (8 - w)
+
+-- The size that the prefix carries is read.
+pub record Read (input : List ℕ) (p w rest n : ℕ) : Type 0 where
+  pub first : First input p w rest
+  pub six : w ≤ 6
+  pub there : w ≤ length input - p
+  pub is : n ≡ number-after rest (part input (p + 1) (w - 1))
+
+-- The ways out of `decode_size_with_offset`.
+module _ {input : List ℕ} {p w rest : ℕ} (f : First input p w rest) where
   pub decode-one : 1 ≤ w
-  decode-one = omega (arith, ones-one (getD input p 0) big)
+  decode-one = omega (arith, ones-one (getD input p 0) (f .big), f .width-is)
 
   pub decode-seven : 6 < w → bad-size 14 ≡ decode-size (drop p input)
-  decode-seven q = sym (decode-at input p w e ∙ size-seven w (drop p input) q)
+  decode-seven q = sym (decode-at input p w (f .width-is) ∙ size-seven w (drop p input) q)
 
-  module _ (six : w ≤ 6) where
-    pub decode-short : length input - p < w → bad-size 14 ≡ decode-size (drop p input)
-    decode-short q = sym (decode-at input p w e ∙ size-not-whole w (drop p input) six (omega (arith, length-drop p input)))
+  pub decode-short : w ≤ 6 → length input - p < w → bad-size 14 ≡ decode-size (drop p input)
+  decode-short six q = sym (decode-at input p w (f .width-is) ∙ size-not-whole w (drop p input) six (omega (arith, length-drop p input)))
 
-    module _ (there : w ≤ length input - p) (n : ℕ) (read : n ≡ number-after rest (part input (p + 1) (w - 1))) where
-      long : w ≤ length (drop p input)
-      long = omega (arith, length-drop p input)
+module _ {input : List ℕ} {p w rest n : ℕ} (r : Read input p w rest n) where
+  long : w ≤ length (drop p input)
+  long = omega (arith, length-drop p input, r .there)
 
-      carries : n ≡ number (take w (drop p input)) - mark w
-      carries = read ∙ size-read input p w rest decode-one eight (omega arith) r
+  carries : n ≡ number (take w (drop p input)) - mark w
+  carries = let f = r .first in r .is ∙ size-read input p w rest (decode-one f) (f .eight) (omega (arith, f .inside, r .there)) (f .rest-is)
 
-      pub decode-large : 2 ^ 34 ≤ n → bad-size 14 ≡ decode-size (drop p input)
-      decode-large q = sym (decode-at input p w e ∙ size-large w (drop p input) six long n carries q)
+  by-width : decode-size (drop p input) ≡ size-of w (drop p input)
+  by-width = decode-at input p w (r .first .width-is)
 
-      pub decode-long : n < 2 ^ 34 → n < least w → bad-size 15 ≡ decode-size (drop p input)
-      decode-long q l = sym (decode-at input p w e ∙ size-long w (drop p input) six long n carries q l)
+  pub decode-large : 2 ^ 34 ≤ n → bad-size 14 ≡ decode-size (drop p input)
+  decode-large q = sym (by-width ∙ size-large w (drop p input) (r .six) long n carries q)
 
-      pub decode-byte : n < 2 ^ 34 → least w ≤ n → n ≡ 1 → one-byte w (drop (p + w) input) ≡ decode-size (drop p input)
-      decode-byte q l o = sym (decode-at input p w e ∙ size-one w (drop p input) six long n carries q l o ∙ ap (one-byte w) (drop-drop w p input))
+  pub decode-long : n < 2 ^ 34 → n < least w → bad-size 15 ≡ decode-size (drop p input)
+  decode-long q l = sym (by-width ∙ size-long w (drop p input) (r .six) long n carries q l)
 
-      pub decode-right : n < 2 ^ 34 → least w ≤ n → (n ≡ 1 → ⊥) → sized w n ≡ decode-size (drop p input)
-      decode-right q l o = sym (decode-at input p w e ∙ size-right w (drop p input) six long n carries q l o)
+  pub decode-byte : n < 2 ^ 34 → least w ≤ n → n ≡ 1 → one-byte w (drop (p + w) input) ≡ decode-size (drop p input)
+  decode-byte q l o = sym (by-width ∙ size-one w (drop p input) (r .six) long n carries q l o ∙ ap (one-byte w) (drop-drop w p input))
+
+  pub decode-right : n < 2 ^ 34 → least w ≤ n → (n ≡ 1 → ⊥) → sized w n ≡ decode-size (drop p input)
+  decode-right q l o = sym (by-width ∙ size-right w (drop p input) (r .six) long n carries q l o)

@@ -19,17 +19,14 @@ use Rattle.spec_session.specs.Places.{PairsAt, StepsAt}
 use Rattle.file_parts.specs.Checked.{Passed, turned-down, Checks}
 use Rattle.spec_session.specs.FileLaws.{after-atom-count, after-atoms, after-pair-count, after-pairs, after-sentinel, after-steps}
 use Rattle.file_parts.specs.PlaceLaws.{pairs-read, steps-read, contents-of}
-use Rattle.file_parts.proofs.session_file.FieldLaws.{taken, Turned, turned, yes-asked, no-asked}
+use Rattle.file_parts.proofs.session_file.FieldLaws.{taken, turned, yes-asked, no-asked}
 
 -- A part that was refused ends the check with its number.
-pub turned-checks : (input : List ℕ) (p : Part) (g : Got File) (c : Checked) → Turned p g → c ≡ turned-down (p .number) → Checks input c g
-turned-checks input p g c t e = subst (Checks input c) (sym (t .is)) (record { is = e; low = t .low; high = t .high })
-
-turned-then : {A B : Type 0} (input : List ℕ) (word : A → ℕ) (p : Part) (g : Got A) (f : A → List ℕ → Got B) (whole : Got B) → whole ≡ and-then g f
-    → Answers input word p g → (p .number ≡ 0 → ⊥) → Turned p whole
-turned-then {A} {B} input word p g f whole e h z =
+refused-then : {A : Type 0} (input : List ℕ) (word : A → ℕ) (p : Part) (g : Got A) (f : A → List ℕ → Got File) {whole : Got File} {c : Checked}
+    → whole ≡ and-then g f → Answers input word p g → (p .number ≡ 0 → ⊥) → c ≡ turned-down (p .number) → Checks input c whole
+refused-then {A} input word p g f {whole} {c} e h z d =
     let t = turned input word p g h z in
-    record { is = e ∙ ap (λ (x : Got A). and-then x f) (t .is); low = t .low; high = t .high }
+    subst (Checks input c) (sym (e ∙ ap (λ (x : Got A). and-then x f) (t .is))) (record { is = d; low = t .low; high = t .high })
 
 -- ---- where the check stands after each part, of a file whose check gives g
 
@@ -68,18 +65,20 @@ pub record AfterSentinel (input : List ℕ) (g : Got File) (p₁ p₂ p₃ p₄ 
   pub sentinel-is : sentinel (length (before .before .before .xs)) (length (before .ps)) (drop (p₄ .next) input) ≡ got z (drop (p₅ .next) input)
   pub is : g ≡ after-sentinel (before .before .before .xs) (before .ps) z (drop (p₅ .next) input)
 
-pub count-read : (input : List ℕ) (p₁ : Part) → Answers input itself p₁ (count 2 1024 (drop 5 input)) → p₁ .number ≡ 0 → AfterCount input (after-mark version-1 (drop 5 input)) p₁
-count-read input p₁ h z =
-    let t = taken input itself p₁ (count 2 1024 (drop 5 input)) h z in
-    let e : count 2 1024 (drop 5 input) ≡ got (p₁ .value) (drop (p₁ .next) input) = t .is ∙ ap (λ (n : ℕ). got n (drop (p₁ .next) input)) (sym (t .word-is)) in
-    record { inside = t .inside; count-is = e; is = ap (λ (x : Got ℕ). and-then x after-atom-count) e }
+module _ (input : List ℕ) (p₁ : Part) (h : Answers input itself p₁ (count 2 1024 (drop 5 input))) where
+  pub count-turned : {c : Checked} → (p₁ .number ≡ 0 → ⊥) → c ≡ turned-down (p₁ .number) → Checks input c (after-mark version-1 (drop 5 input))
+  count-turned = refused-then input itself p₁ (count 2 1024 (drop 5 input)) after-atom-count refl h
 
-pub count-turned : (input : List ℕ) (p₁ : Part) → Answers input itself p₁ (count 2 1024 (drop 5 input)) → (p₁ .number ≡ 0 → ⊥) → Turned p₁ (after-mark version-1 (drop 5 input))
-count-turned input p₁ h z = turned-then input itself p₁ (count 2 1024 (drop 5 input)) after-atom-count (after-mark version-1 (drop 5 input)) refl h z
+  pub count-taken : p₁ .number ≡ 0 → AfterCount input (after-mark version-1 (drop 5 input)) p₁
+  count-taken z =
+      let t = taken input itself p₁ (count 2 1024 (drop 5 input)) h z in
+      let e : count 2 1024 (drop 5 input) ≡ got (p₁ .value) (drop (p₁ .next) input) = t .is ∙ ap (λ (n : ℕ). got n (drop (p₁ .next) input)) (sym (t .word-is)) in
+      record { inside = t .inside; count-is = e; is = ap (λ (x : Got ℕ). and-then x after-atom-count) e }
 
-module _ (input : List ℕ) (g : Got File) (p₁ p₂ : Part) (s : AfterCount input g p₁) (h : Answers input counted p₂ (atoms version-1 (p₁ .value) 0 [] (drop (p₁ .next) input))) where
-  pub atoms-turned : (p₂ .number ≡ 0 → ⊥) → Turned p₂ g
-  atoms-turned z = turned-then input counted p₂ (atoms version-1 (p₁ .value) 0 [] (drop (p₁ .next) input)) after-atoms g (s .is) h z
+module _ {input : List ℕ} {g : Got File} {p₁ : Part} (s : AfterCount input g p₁) (p₂ : Part)
+    (h : Answers input counted p₂ (atoms version-1 (p₁ .value) 0 [] (drop (p₁ .next) input))) where
+  pub atoms-turned : {c : Checked} → (p₂ .number ≡ 0 → ⊥) → c ≡ turned-down (p₂ .number) → Checks input c g
+  atoms-turned = refused-then input counted p₂ (atoms version-1 (p₁ .value) 0 [] (drop (p₁ .next) input)) after-atoms (s .is) h
 
   pub atoms-taken : p₂ .number ≡ 0 → AfterAtoms input g p₁ p₂
   atoms-taken z =
@@ -93,9 +92,10 @@ module _ (input : List ℕ) (g : Got File) (p₁ p₂ : Part) (s : AfterCount in
         is = s .is ∙ ap (λ (x : Got (List (List ℕ))). and-then x after-atoms) (t .is);
       }
 
-module _ (input : List ℕ) (g : Got File) (p₁ p₂ p₃ : Part) (s : AfterAtoms input g p₁ p₂) (h : Answers input itself p₃ (count 2 1024 (drop (p₂ .next) input))) where
-  pub pair-count-turned : (p₃ .number ≡ 0 → ⊥) → Turned p₃ g
-  pair-count-turned z = turned-then input itself p₃ (count 2 1024 (drop (p₂ .next) input)) (after-pair-count (s .xs)) g (s .is) h z
+module _ {input : List ℕ} {g : Got File} {p₁ p₂ : Part} (s : AfterAtoms input g p₁ p₂) (p₃ : Part)
+    (h : Answers input itself p₃ (count 2 1024 (drop (p₂ .next) input))) where
+  pub pair-count-turned : {c : Checked} → (p₃ .number ≡ 0 → ⊥) → c ≡ turned-down (p₃ .number) → Checks input c g
+  pair-count-turned = refused-then input itself p₃ (count 2 1024 (drop (p₂ .next) input)) (after-pair-count (s .xs)) (s .is) h
 
   pub pair-count-taken : p₃ .number ≡ 0 → AfterPairCount input g p₁ p₂ p₃
   pair-count-taken z =
@@ -103,12 +103,13 @@ module _ (input : List ℕ) (g : Got File) (p₁ p₂ p₃ : Part) (s : AfterAto
       let e : count 2 1024 (drop (p₂ .next) input) ≡ got (p₃ .value) (drop (p₃ .next) input) = t .is ∙ ap (λ (n : ℕ). got n (drop (p₃ .next) input)) (sym (t .word-is)) in
       record { before = s; inside = t .inside; count-is = e; is = s .is ∙ ap (λ (x : Got ℕ). and-then x (after-pair-count (s .xs))) e }
 
-module _ (input : List ℕ) (g : Got File) (p₁ p₂ p₃ p₄ : Part) (s : AfterPairCount input g p₁ p₂ p₃) (h : Answers input counted p₄ (pairs (p₂ .value) (p₃ .value) [] (drop (p₃ .next) input))) where
+module _ {input : List ℕ} {g : Got File} {p₁ p₂ p₃ : Part} (s : AfterPairCount input g p₁ p₂ p₃) (p₄ : Part)
+    (h : Answers input counted p₄ (pairs (p₂ .value) (p₃ .value) [] (drop (p₃ .next) input))) where
   these : Answers input counted p₄ (pairs (length (s .before .xs)) (p₃ .value) [] (drop (p₃ .next) input))
   these = subst (λ (n : ℕ). Answers input counted p₄ (pairs n (p₃ .value) [] (drop (p₃ .next) input))) (s .before .size) h
 
-  pub pairs-turned : (p₄ .number ≡ 0 → ⊥) → Turned p₄ g
-  pairs-turned z = turned-then input counted p₄ (pairs (length (s .before .xs)) (p₃ .value) [] (drop (p₃ .next) input)) (after-pairs (s .before .xs)) g (s .is) these z
+  pub pairs-turned : {c : Checked} → (p₄ .number ≡ 0 → ⊥) → c ≡ turned-down (p₄ .number) → Checks input c g
+  pairs-turned = refused-then input counted p₄ (pairs (length (s .before .xs)) (p₃ .value) [] (drop (p₃ .next) input)) (after-pairs (s .before .xs)) (s .is) these
 
   pub pairs-taken : p₄ .number ≡ 0 → AfterPairs input g p₁ p₂ p₃ p₄
   pairs-taken z =
@@ -122,15 +123,16 @@ module _ (input : List ℕ) (g : Got File) (p₁ p₂ p₃ p₄ : Part) (s : Aft
         is = s .is ∙ ap (λ (x : Got (List Pair)). and-then x (after-pairs (s .before .xs))) (t .is);
       }
 
-module _ (input : List ℕ) (g : Got File) (p₁ p₂ p₃ p₄ p₅ : Part) (s : AfterPairs input g p₁ p₂ p₃ p₄) (h : Answers input sentinel-word p₅ (sentinel (p₂ .value) (p₄ .value) (drop (p₄ .next) input))) where
+module _ {input : List ℕ} {g : Got File} {p₁ p₂ p₃ p₄ : Part} (s : AfterPairs input g p₁ p₂ p₃ p₄) (p₅ : Part)
+    (h : Answers input sentinel-word p₅ (sentinel (p₂ .value) (p₄ .value) (drop (p₄ .next) input))) where
   this : Answers input sentinel-word p₅ (sentinel (length (s .before .before .xs)) (length (s .ps)) (drop (p₄ .next) input))
   this =
       subst (λ (n : ℕ). Answers input sentinel-word p₅ (sentinel (length (s .before .before .xs)) n (drop (p₄ .next) input))) (s .size)
       (subst (λ (n : ℕ). Answers input sentinel-word p₅ (sentinel n (p₄ .value) (drop (p₄ .next) input))) (s .before .before .size) h)
 
-  pub sentinel-turned : (p₅ .number ≡ 0 → ⊥) → Turned p₅ g
-  sentinel-turned z =
-      turned-then input sentinel-word p₅ (sentinel (length (s .before .before .xs)) (length (s .ps)) (drop (p₄ .next) input)) (after-sentinel (s .before .before .xs) (s .ps)) g (s .is) this z
+  pub sentinel-turned : {c : Checked} → (p₅ .number ≡ 0 → ⊥) → c ≡ turned-down (p₅ .number) → Checks input c g
+  sentinel-turned =
+      refused-then input sentinel-word p₅ (sentinel (length (s .before .before .xs)) (length (s .ps)) (drop (p₄ .next) input)) (after-sentinel (s .before .before .xs) (s .ps)) (s .is) this
 
   pub sentinel-taken : p₅ .number ≡ 0 → AfterSentinel input g p₁ p₂ p₃ p₄ p₅
   sentinel-taken z =
@@ -144,44 +146,54 @@ module _ (input : List ℕ) (g : Got File) (p₁ p₂ p₃ p₄ p₅ : Part) (s 
         is = s .is ∙ ap (λ (x : Got (Option ℕ)). and-then x (after-sentinel (s .before .before .xs) (s .ps))) (t .is);
       }
 
-module _ (input : List ℕ) (g : Got File) (p₁ p₂ p₃ p₄ p₅ p₆ : Part) (s : AfterSentinel input g p₁ p₂ p₃ p₄ p₅)
-    (h : Answers input counted p₆ (steps (length (drop (p₅ .next) input)) (p₂ .value) (p₄ .value) 1024 [] (drop (p₅ .next) input))) where
-  those : Answers input counted p₆ (steps (length (drop (p₅ .next) input)) (length (s .before .before .before .xs)) (length (s .before .ps)) 1024 [] (drop (p₅ .next) input))
+-- The atoms and pairs that were read, and what the check says where the steps are read too: its places are where the parts began.
+module _ {input : List ℕ} {g : Got File} {p₁ p₂ p₃ p₄ p₅ : Part} (s : AfterSentinel input g p₁ p₂ p₃ p₄ p₅) where
+  abbrev xs : List (List ℕ)
+  xs = s .before .before .before .xs
+
+  abbrev ps : List Pair
+  ps = s .before .ps
+
+  abbrev said : Checked
+  said = record { number = 0; atoms = p₂ .value; pairs = p₄ .value; sentinel = p₅ .value; «pairs_at» = p₃ .next; «steps_at» = p₅ .next }
+
+  -- The steps, after so many atoms and pairs.
+  abbrev steps-of : ℕ → ℕ → Got (List Step)
+  steps-of n m = steps (length (drop (p₅ .next) input)) n m 1024 [] (drop (p₅ .next) input)
+
+module _ {input : List ℕ} {g : Got File} {p₁ p₂ p₃ p₄ p₅ : Part} (s : AfterSentinel input g p₁ p₂ p₃ p₄ p₅) (p₆ : Part)
+    (h : Answers input counted p₆ (steps-of s (p₂ .value) (p₄ .value))) where
+  those : Answers input counted p₆ (steps-of s (length (xs s)) (length (ps s)))
   those =
-      subst (λ (n : ℕ). Answers input counted p₆ (steps (length (drop (p₅ .next) input)) (length (s .before .before .before .xs)) n 1024 [] (drop (p₅ .next) input))) (s .before .size)
-      (subst (λ (n : ℕ). Answers input counted p₆ (steps (length (drop (p₅ .next) input)) n (p₄ .value) 1024 [] (drop (p₅ .next) input))) (s .before .before .before .size) h)
+      subst (λ (n : ℕ). Answers input counted p₆ (steps-of s (length (xs s)) n)) (s .before .size)
+      (subst (λ (n : ℕ). Answers input counted p₆ (steps-of s n (p₄ .value))) (s .before .before .before .size) h)
 
-  pub steps-turned : (p₆ .number ≡ 0 → ⊥) → Turned p₆ g
-  steps-turned z =
-      turned-then input counted p₆ (steps (length (drop (p₅ .next) input)) (length (s .before .before .before .xs)) (length (s .before .ps)) 1024 [] (drop (p₅ .next) input))
-      (after-steps (s .before .before .before .xs) (s .before .ps) (s .z)) g (s .is) those z
+  pub steps-turned : {c : Checked} → (p₆ .number ≡ 0 → ⊥) → c ≡ turned-down (p₆ .number) → Checks input c g
+  steps-turned = refused-then input counted p₆ (steps-of s (length (xs s)) (length (ps s))) (after-steps (xs s) (ps s) (s .z)) (s .is) those
 
-  pub passed : p₆ .number ≡ 0 → (c : Checked) → length input ≤ 65535 → c .number ≡ 0 → c .atoms ≡ p₂ .value → c .pairs ≡ p₄ .value → c .sentinel ≡ p₅ .value
-      → c .«pairs_at» ≡ p₃ .next → c .«steps_at» ≡ p₅ .next → Checks input c g
-  passed z c short n a p w i j =
-      let t = taken input counted p₆ (steps (length (drop (p₅ .next) input)) (length (s .before .before .before .xs)) (length (s .before .ps)) 1024 [] (drop (p₅ .next) input)) those z in
-      subst (Checks input c) (sym (s .is ∙ ap (λ (x : Got (List Step)). and-then x (after-steps (s .before .before .before .xs) (s .before .ps) (s .z))) (t .is)))
-      (whole (t .value) (t .is) c short n a p w i j)
+  pub passed : p₆ .number ≡ 0 → length input ≤ 65535 → Checks input (said s) g
+  passed z short =
+      let t = taken input counted p₆ (steps-of s (length (xs s)) (length (ps s))) those z in
+      subst (Checks input (said s)) (sym (s .is ∙ ap (λ (x : Got (List Step)). and-then x (after-steps (xs s) (ps s) (s .z))) (t .is))) (whole (t .value) (t .is))
     where
-      whole : (ss : List Step) → steps (length (drop (p₅ .next) input)) (length (s .before .before .before .xs)) (length (s .before .ps)) 1024 [] (drop (p₅ .next) input) ≡ got ss (drop (p₆ .next) input)
-          → (c : Checked) → length input ≤ 65535 → c .number ≡ 0 → c .atoms ≡ p₂ .value → c .pairs ≡ p₄ .value → c .sentinel ≡ p₅ .value
-          → c .«pairs_at» ≡ p₃ .next → c .«steps_at» ≡ p₅ .next
-          → Passed input (record { atoms = s .before .before .before .xs; pairs = s .before .ps; sentinel = s .z; steps = ss }) c
-      whole ss e c short n a p w i j =
-          let all = contents-of input (p₁ .value) (s .before .before .before .xs) (p₃ .value) (s .before .ps) (s .z) ss
+      whole : (ss : List Step) → steps-of s (length (xs s)) (length (ps s)) ≡ got ss (drop (p₆ .next) input)
+          → Passed input (record { atoms = xs s; pairs = ps s; sentinel = s .z; steps = ss }) (said s)
+      whole ss e =
+          let all = contents-of input (p₁ .value) (xs s) (p₃ .value) (ps s) (s .z) ss
           (drop (p₁ .next) input) (drop (p₂ .next) input) (drop (p₃ .next) input) (drop (p₄ .next) input) (drop (p₅ .next) input) (drop (p₆ .next) input)
           (s .before .before .before .before .count-is) (s .before .before .before .atoms-are) (s .before .before .count-is) (s .before .pairs-are) (s .sentinel-is) e in
-          let qs = pairs-read input (length (s .before .before .before .xs)) (p₃ .value) (p₃ .next) [] (s .before .ps) (drop (p₄ .next) input) (s .before .pairs-are) in
-          let us = steps-read input (length (drop (p₅ .next) input)) (length (s .before .before .before .xs)) (length (s .before .ps)) 1024 (p₅ .next) [] ss (drop (p₆ .next) input) (omega (arith, length-drop (p₅ .next) input)) e in
+          let qs = pairs-read input (length (xs s)) (p₃ .value) (p₃ .next) [] (ps s) (drop (p₄ .next) input) (s .before .pairs-are) in
+          let us = steps-read input (length (drop (p₅ .next) input)) (length (xs s)) (length (ps s)) 1024 (p₅ .next) [] ss (drop (p₆ .next) input)
+          (omega (arith, length-drop (p₅ .next) input)) e in
           record {
-            number-is = n;
-            atoms-are = a ∙ s .before .before .before .size;
-            pairs-are = p ∙ s .before .size;
-            sentinel-is = w ∙ s .word;
+            number-is = refl;
+            atoms-are = s .before .before .before .size;
+            pairs-are = s .before .size;
+            sentinel-is = s .word;
             short = short;
             atoms-there = all .atoms-there;
-            pairs-there = subst (λ (k : ℕ). PairsAt input k (s .before .ps)) (sym i) (subst (PairsAt input (p₃ .next)) (sym (qs .is)) (qs .there));
-            steps-there = subst (λ (k : ℕ). StepsAt input k ss) (sym j) (subst (StepsAt input (p₅ .next)) (sym (us .is)) (us .there));
+            pairs-there = subst (PairsAt input (p₃ .next)) (sym (qs .is)) (qs .there);
+            steps-there = subst (StepsAt input (p₅ .next)) (sym (us .is)) (us .there);
             contents = all .contents;
           }
 

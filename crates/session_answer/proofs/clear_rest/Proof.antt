@@ -48,10 +48,17 @@ same-length-3 : tie.Need-same-length-3
 same-length-3 c = search needs
 
 returns-2 : tie.Need-returns-2
-returns-2 c = let s = c .before .before .before .before .before .before .before .before .before .before .before .before .before .before .before .before in let a = s .args in
-    cleared-all (a .p) (a .work .now) (a .words .now) (a .output .now) _ _ _ (a .refused) (c .before .before .before .before .before .before .before .before .before .before .before .before .if1 .left) (c .before .before .before .before .before .before .before .before .before .before .clear .ensures)
-    (tail-cleared (a .words .now) (c .before .before .before .before .before .before .clear2 .last .0) (a .p .steps) (s .pre .0) (c .before .before .before .before .before .before .clear2 .ensures))
-    (tail-cleared (a .output .now) (c .before .before .clear-bytes .last .0) (a .p .size) (s .pre .1) (c .before .before .clear-bytes .ensures))
+returns-2 c =
+    let output = c .before .before .clear-bytes in
+    let words-clear = c .before .before .before .before .before .before in
+    let words = words-clear .clear2 in
+    let work-clear = words-clear .before .before .before .before in
+    let run = work-clear .before .before in
+    let s = run .before .before .before .before in
+    let a = s .args in
+    cleared-all (a .p) (a .work .now) (a .words .now) (a .output .now) _ _ _ (a .refused) (run .if1 .left) (work-clear .clear .ensures)
+    (tail-cleared (a .words .now) (words .last .0) (a .p .steps) (s .pre .0) (words .ensures))
+    (tail-cleared (a .output .now) (output .last .0) (a .p .size) (s .pre .1) (output .ensures))
 
 pub clear-rest-spec : {M : Type 1} → statement M
 clear-rest-spec =

@@ -25,8 +25,11 @@ part-load-atoms-end c = search needs
 
 load-atoms-requires : tie.Need-load-atoms-requires
 unfolding part
-load-atoms-requires c κs = let s = c .before .before .before .before .before .before .before in let a = s .args in let cl = c .before .before .before .clear-tables in
-    (atoms-to-load (a .file .now) (the-file (a .file .now)) (a .checked) (s .pre .0), omega (arith, few-twice (a .file .now) (the-file (a .file .now)) (a .checked) (s .pre .0) .0, part-length (cl .last .0) 0 2048 (omega (arith, cl .kept .0, s .pre .1))))
+load-atoms-requires c κs =
+    let cleared = c .before .before .before in
+    let cl = cleared .clear-tables in
+    let pre = cleared .before .before .before .before .pre in
+    (atoms-to-load (pre .0), omega (arith, few-twice (pre .0) .0, part-length (cl .last .0) 0 2048 (omega (arith, cl .kept .0, pre .1))))
 
 sub-load-pairs : tie.Need-sub-load-pairs
 sub-load-pairs c = search needs
@@ -39,18 +42,30 @@ part-load-pairs-end c = search needs
 
 load-pairs-requires : tie.Need-load-pairs-requires
 unfolding part
-load-pairs-requires c κs = let s = c .before .before .before .before .before .before .before .before .before .before .before in let a = s .args in let cl = c .before .before .before .before .before .before .before .clear-tables in let la = c .before .before .before .load-atoms in
-    (pairs-to-load (a .file .now) (the-file (a .file .now)) (a .checked) (s .pre .0), omega (arith, few-twice (a .file .now) (the-file (a .file .now)) (a .checked) (s .pre .0) .1, pairs-room _ (s .pre .1) (cl .last .0) (la .last .1 .0) (cl .kept .0) (la .kept .1 .0)))
+load-pairs-requires c κs =
+    let loaded = c .before .before .before in
+    let cleared = loaded .before .before .before .before in
+    let la = loaded .load-atoms in
+    let cl = cleared .clear-tables in
+    let pre = cleared .before .before .before .before .pre in
+    (pairs-to-load (pre .0), omega (arith, few-twice (pre .0) .1, pairs-room (pre .1) (cl .last .0) (la .last .1 .0) (cl .kept .0) (la .kept .1 .0)))
 
 same-length : tie.Need-same-length
 same-length c = search needs
 
 returns : tie.Need-returns
 unfolding part
-returns c = let s = c .before .before .before .before .before .before .before .before .before .before .before .before .before .before in let a = s .args in let cl = c .before .before .before .before .before .before .before .before .before .before .clear-tables in let la = c .before .before .before .before .before .before .load-atoms in let lp = c .before .before .load-pairs in let p = s .pre .0 in
-    placed (a .file .now) (the-file (a .file .now)) (a .checked) p _ (s .pre .1) (cl .last .0) (la .last .1 .0) (lp .last .1 .0) (cl .kept .0) (cl .ensures)
-    (la .kept .1 .0) (la .ensures (the-file (a .file .now) .atoms) (sym (p .atoms-are)) (p .atoms-there))
-    (lp .kept .1 .0) (lp .ensures (the-file (a .file .now) .pairs) (sym (p .pairs-are)) (p .pairs-there))
+returns c =
+    let loaded = c .before .before .before .before .before .before in
+    let cleared = loaded .before .before .before .before in
+    let s = cleared .before .before .before .before in
+    let f = the-file (s .args .file .now) in
+    let p = s .pre .0 in
+    let cl = cleared .clear-tables in
+    let la = loaded .load-atoms in
+    let lp = c .before .before .load-pairs in
+    placed p (s .pre .1) (cl .last .0) (la .last .1 .0) (lp .last .1 .0) (cl .kept .0) (cl .ensures)
+    (la .kept .1 .0) (la .ensures (f .atoms) (sym (p .atoms-are)) (p .atoms-there)) (lp .kept .1 .0) (lp .ensures (f .pairs) (sym (p .pairs-are)) (p .pairs-there))
 
 pub load-places-spec : {M : Type 1} → statement M
 load-places-spec =

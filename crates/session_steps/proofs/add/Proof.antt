@@ -2,7 +2,7 @@
 -- Assumes nothing.
 use mathlib.Core.Path.{_∙_}
 use borrow.Author.Needs.{needs}
-use Rattle.session_steps.proofs.Adding.{update-asks, running₂, names₂, places₂}
+use Rattle.session_steps.proofs.Adding.{update-asks, resume-asks}
 use Rattle.session_steps.proofs.add.Statement.{statement}
 use Rattle.session_steps.proofs.add.Tie as tie
 
@@ -10,23 +10,36 @@ save-requires : tie.Need-save-requires
 save-requires c κs = search needs
 
 update-requires : tie.Need-update-requires
-update-requires c κs = let s = c .before .before .before .before .before .before .before .before in update-asks (s .args .file .now) (s .args .work .now) (s .args .output .now) (s .args .p) (s .args .node .0) (s .pre) (c .before .before .before .save .last .0) (c .before .before .before .save .kept .0) (c .before .before .before .save .ensures)
+update-requires c κs =
+    let saved = c .before .before .before in
+    let sv = saved .save in
+    update-asks (saved .before .before .before .before .before .pre) (sv .kept .0) (sv .ensures)
 
 resume-requires : tie.Need-resume-requires
-resume-requires c κs = let s = c .before .before .before .before .before .before .before .before .before .before .before .before .before in let sv = c .before .before .before .before .before .before .before .before .save in let up = c .before .before .before .before .update in
-    (places₂ (s .args .file .now) (s .args .work .now) (s .args .output .now) (s .args .p) (s .args .node .0) (s .pre) (sv .last .0) (sv .kept .0) (sv .ensures) (up .last .0) (up .kept .0 ∙ sv .kept .0) (up .ensures), running₂ (s .args .file .now) (s .args .work .now) (s .args .output .now) (s .args .p) (s .args .node .0) (s .pre) (sv .last .0) (sv .kept .0) (sv .ensures) (up .last .0) (up .kept .0 ∙ sv .kept .0) (up .ensures), names₂ (s .args .file .now) (s .args .work .now) (s .args .output .now) (s .args .p) (s .args .node .0) (s .pre) (sv .last .0) (sv .kept .0) (sv .ensures) (up .last .0) (up .kept .0 ∙ sv .kept .0) (up .ensures))
+resume-requires c κs =
+    let updated = c .before .before .before .before in
+    let saved = updated .before .before .before .before in
+    let sv = saved .save in
+    resume-asks (saved .before .before .before .before .before .pre) (sv .kept .0) (sv .ensures) (updated .update .ensures)
 
 after-outcome-requires : tie.Need-after-outcome-requires
 after-outcome-requires c κs = search needs
 
 same-length : tie.Need-same-length
-same-length c = let sv = c .before .before .before .before .before .before .before .before .before .before .before .before .before .before .save in let up = c .before .before .before .before .before .before .before .before .before .before .update in let re = c .before .before .before .before .before .resume in re .kept .0 ∙ up .kept .0 ∙ sv .kept .0
+same-length c =
+    let updated = c .before .before .before .before .before .before .before .before .before .before in
+    let saved = updated .before .before .before .before in
+    c .before .before .before .before .before .resume .kept .0 ∙ updated .update .kept .0 ∙ saved .save .kept .0
 
 same-length-2 : tie.Need-same-length-2
 same-length-2 c = search needs
 
 returns : tie.Need-returns
-returns c = let sv = c .before .before .before .before .before .before .before .before .before .before .before .before .before .before .save in let up = c .before .before .before .before .before .before .before .before .before .before .update in let re = c .before .before .before .before .before .resume in
+returns c =
+    let updated = c .before .before .before .before .before .before .before .before .before .before in
+    let re = c .before .before .before .before .before .resume in
+    let up = updated .update in
+    let sv = updated .before .before .before .before .save in
     record {
       saved-words = sv .last .0;
       updated-words = up .last .0;

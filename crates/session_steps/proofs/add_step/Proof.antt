@@ -1,11 +1,24 @@
 -- `session_steps::add_step` meets its contract: questions 9 and 10, a refused add, and an add whose word is noted.
 -- Assumes nothing.
-use mathlib.Core.Path.{refl}
+use Prim.Native.Nat.{_<_}
+use mathlib.Core.Path.{_≡_}
+use mathlib.Core.Bool.{false}
 use borrow.Author.Needs.{needs}
-use Rattle.session_state.specs.State.{the-file}
 use Rattle.session_steps.proofs.Answers as answers
 use Rattle.session_steps.proofs.add_step.Statement.{statement}
 use Rattle.session_steps.proofs.add_step.Tie as tie
+
+-- Neither question gets no.
+free : (x : tie.Else1) → let p = x .before .before .before .before .before .before .args .p in (p .finished ≡ false) × (p .adds < 16)
+free x = answers.not-asked (x .before .before .before .before .before .before .args .p) (x .before .question .ensures) (x .if1 .left)
+
+-- The test of the questions, where the add is done.
+abbrev to-test : tie.After-add → tie.Else1
+to-test x = x .before .before .before .before .before
+
+-- The beginning, where the questions are answered.
+abbrev to-start : tie.Else1 → tie.Start
+to-start x = x .before .before .before .before .before .before
 
 question-requires : tie.Need-question-requires
 question-requires c κs = search needs
@@ -14,16 +27,19 @@ stop-requires : tie.Need-stop-requires
 stop-requires c κs = search needs
 
 returns : tie.Need-returns
-returns c = let s = c .before .before .before .before .before .before .before in let a = s .args in let n = c .before .before .question in
-    answers.stops-asked (a .file .now) (the-file (a .file .now)) (a .work .now) (a .words .now) (a .output .now) (a .p) (a .c) (a .node) (a .next) (s .pre .1) (n .result) (n .ensures) (c .before .if1 .taken) (c .stop .result) (c .stop .ensures)
+returns c =
+    let asked = c .before .before in
+    let s = asked .before .before .before .before .before in
+    answers.stops-asked (s .pre .0) (s .args .node) (s .args .next) (s .pre .1) (asked .question .ensures) (c .before .if1 .taken) (c .stop .ensures)
 
 record-of-requires : tie.Need-record-of-requires
 record-of-requires c κs = search needs
 
 add-requires : tie.Need-add-requires
-add-requires c κs = let s = c .before .before .before .before .before .before .before .before .before .before in let a = s .args in let n = c .before .before .before .before .before .question in
-    let free = answers.not-asked (a .file .now) (the-file (a .file .now)) (a .work .now) (a .words .now) (a .output .now) (a .p) (a .c) (a .node) (a .next) (s .pre .1) (n .result) (n .ensures) (c .before .before .before .before .if1 .left) in
-    answers.add-asks (a .file .now) (the-file (a .file .now)) (a .work .now) (a .words .now) (a .output .now) (a .p) (a .c) (a .node) (a .next) (s .pre .1) (free .0) (free .1) (s .pre .0)
+add-requires c κs =
+    let test = c .before .before .before .before in
+    let s = to-start test in
+    answers.add-asks (s .pre .0) (s .args .node) (s .args .next) (s .pre .1) (free test)
 
 same-length : tie.Need-same-length
 same-length c = search needs
@@ -32,16 +48,16 @@ same-length-2 : tie.Need-same-length-2
 same-length-2 c = search needs
 
 returns-2 : tie.Need-returns-2
-returns-2 c = let s = c .before .before .before .before .before .before .before .before .before .before .before .before .before .before .before .before in let a = s .args in let ad = c .before .before .before .before .before .add in let n = c .before .before .before .before .before .before .before .before .before .before .before .question in
-    let free = answers.not-asked (a .file .now) (the-file (a .file .now)) (a .work .now) (a .words .now) (a .output .now) (a .p) (a .c) (a .node) (a .next) (s .pre .1) (n .result) (n .ensures) (c .before .before .before .before .before .before .before .before .before .before .if1 .left) in
-    answers.adds-off (a .file .now) (the-file (a .file .now)) (a .work .now) (a .words .now) (a .output .now) (a .p) (a .c) (a .node) (a .next) (s .pre .1) (free .0) (free .1)
-    (ad .last .1 .0) (ad .last .1 .1 .0) (ad .result) (ad .ensures) _ refl (c .if2 .taken)
+returns-2 c =
+    let added = c .before .before .before .before .before in
+    let s = to-start (to-test added) in
+    answers.adds-off (s .pre .0) (s .args .node) (s .args .next) (s .pre .1) (free (to-test added)) (added .add .ensures) _ (c .if2 .taken)
 
 note-requires : tie.Need-note-requires
-note-requires c κs = let s = c .before .before .before .before .before .before .before .before .before .before .before .before .before .before .before .before .before in let a = s .args in let ad = c .before .before .before .before .before .before .add in let n = c .before .before .before .before .before .before .before .before .before .before .before .before .question in
-    let free = answers.not-asked (a .file .now) (the-file (a .file .now)) (a .work .now) (a .words .now) (a .output .now) (a .p) (a .c) (a .node) (a .next) (s .pre .1) (n .result) (n .ensures) (c .before .before .before .before .before .before .before .before .before .before .before .if1 .left) in
-    answers.note-asks (a .file .now) (the-file (a .file .now)) (a .work .now) (a .words .now) (a .output .now) (a .p) (a .c) (a .node) (a .next) (s .pre .1) (free .0) (free .1)
-    (ad .last .1 .0) (ad .last .1 .1 .0) (ad .result) (ad .ensures) (s .pre .0) (c .before .if2 .left)
+note-requires c κs =
+    let added = c .before .before .before .before .before .before in
+    let s = to-start (to-test added) in
+    answers.note-asks (s .pre .0) (s .args .node) (s .args .next) (s .pre .1) (free (to-test added)) (added .add .ensures) (c .before .if2 .left)
 
 same-length-3 : tie.Need-same-length-3
 same-length-3 c = search needs
@@ -53,10 +69,13 @@ same-length-5 : tie.Need-same-length-5
 same-length-5 c = search needs
 
 returns-3 : tie.Need-returns-3
-returns-3 c = let s = c .before .before .before .before .before .before .before .before .before .before .before .before .before .before .before .before .before .before .before .before in let a = s .args in let ad = c .before .before .before .before .before .before .before .before .before .add in let no = c .before .before .note in let n = c .before .before .before .before .before .before .before .before .before .before .before .before .before .before .before .question in
-    let free = answers.not-asked (a .file .now) (the-file (a .file .now)) (a .work .now) (a .words .now) (a .output .now) (a .p) (a .c) (a .node) (a .next) (s .pre .1) (n .result) (n .ensures) (c .before .before .before .before .before .before .before .before .before .before .before .before .before .before .if1 .left) in
-    answers.adds-on (a .file .now) (the-file (a .file .now)) (a .work .now) (a .words .now) (a .output .now) (a .p) (a .c) (a .node) (a .next) (s .pre .1) (free .0) (free .1)
-    (ad .last .1 .0) (ad .last .1 .1 .0) (ad .result) (ad .ensures) (no .last .0) _ (c .before .before .before .before .before .before .before .before .before .before .before .before .record-of .ensures) (c .before .before .before .before .if2 .left) (no .ensures .0) (no .ensures .1)
+returns-3 c =
+    let note = c .before .before .note in
+    let on = c .before .before .before .before in
+    let added = on .before .before .before .before .before in
+    let s = to-start (to-test added) in
+    answers.adds-on (s .pre .0) (s .args .node) (s .args .next) (s .pre .1) (free (to-test added)) (added .add .ensures)
+    (added .before .before .before .record-of .ensures) (on .if2 .left) (note .ensures .0) (note .ensures .1)
 
 pub add-step-spec : {M : Type 1} → statement M
 add-step-spec =

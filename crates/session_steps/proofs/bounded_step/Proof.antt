@@ -1,10 +1,12 @@
 -- `session_steps::bounded_step` makes a step with the first 65,535 bytes of the output.
 -- Assumes nothing.
 use borrow.Author.Needs.{needs}
-use Rattle.session_state.specs.State.{the-file}
 use Rattle.session_steps.proofs.Bounds.{used-many, used-ready, used-onward}
 use Rattle.session_steps.proofs.bounded_step.Statement.{statement}
 use Rattle.session_steps.proofs.bounded_step.Tie as tie
+
+abbrev to-start : tie.After-space-of → tie.Start
+to-start x = x .before .before .before .before .before .before
 
 space-of-requires : tie.Need-space-of-requires
 space-of-requires c κs = search needs
@@ -13,12 +15,13 @@ slice-relend-prefix-core-step : tie.Need-slice-relend-prefix-core-step
 slice-relend-prefix-core-step c = search needs
 
 slice-aggregate-core-step : tie.Need-slice-aggregate-core-step
-slice-aggregate-core-step c = let n = c .before .before .before .space-of in let s = c .before .before .before .before .before .before .before .before .before in
-    used-many (n .result) (s .args .output .now) (n .ensures)
+slice-aggregate-core-step c = let known = c .before .before .before in used-many (to-start known .args .output .now) (known .space-of .ensures)
 
 core-step-requires : tie.Need-core-step-requires
-core-step-requires c κs = let n = c .before .before .before .space-of in let s = c .before .before .before .before .before .before .before .before .before in let a = s .args in
-    used-ready (n .result) (a .output .now) (n .ensures) (a .file .now) (the-file (a .file .now)) (a .work .now) (a .words .now) (a .p) (a .c) (s .pre)
+core-step-requires c κs =
+    let known = c .before .before .before in
+    let s = to-start known in
+    used-ready (s .args .output .now) (known .space-of .ensures) (s .pre)
 
 same-length : tie.Need-same-length
 same-length c = search needs
@@ -30,9 +33,12 @@ same-length-3 : tie.Need-same-length-3
 same-length-3 c = search needs
 
 returns : tie.Need-returns
-returns c = let cs = c .before .before .before .before .before .before .core-step in let n = c .before .before .before .before .before .before .before .before .before .before .space-of in let s = c .before .before .before .before .before .before .before .before .before .before .before .before .before .before .before .before in let a = s .args in
-    used-onward (n .result) (a .output .now) (n .ensures) (a .file .now) (the-file (a .file .now)) (a .work .now) (a .words .now) (a .p) (a .c)
-    (cs .last .1 .0) (cs .last .1 .1 .0) (cs .last .1 .1 .1 .0) (cs .result) (cs .kept .1 .1 .1 .0) (cs .ensures)
+returns c =
+    let stepped = c .before .before .before .before .before .before in
+    let cs = stepped .core-step in
+    let known = stepped .before .before .before .before in
+    let s = to-start known in
+    used-onward (s .args .output .now) (known .space-of .ensures) (s .pre) (cs .last .1 .0) (cs .last .1 .1 .0) (cs .last .1 .1 .1 .0) (cs .result) (cs .kept .1 .1 .1 .0) (cs .ensures)
 
 pub bounded-step-spec : {M : Type 1} → statement M
 bounded-step-spec =

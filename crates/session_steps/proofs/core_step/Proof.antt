@@ -1,13 +1,17 @@
 -- `session_steps::core_step` meets its contract: the next step of the file is an add, a restore, or the end.
 -- Assumes nothing.
-use mathlib.Core.Path.{subst}
+use mathlib.Core.Path.{_≡_, subst}
 use borrow.Author.Needs.{needs}
 use Rattle.file_parts.specs.Loaded.{FirstStep}
 use Rattle.file_parts.specs.declared.session_file.NextStep.{NextStep}
-use Rattle.session_state.specs.State.{the-file}
+use Rattle.session_state.specs.Steps.{Comes}
 use Rattle.session_steps.proofs.Answers.{stops-at-end}
 use Rattle.session_steps.proofs.core_step.Statement.{statement}
 use Rattle.session_steps.proofs.core_step.Tie as tie
+
+-- The next step is what the file says.
+comes : (x : tie.After-next-step) (r : NextStep) → x .next-step .result ≡ r → let a = x .before .before .before .before .before .args in Comes (a .file .now) (a .p .at) r
+comes x r e ss st = subst (λ (y : NextStep). FirstStep (x .before .before .before .before .before .args .file .now) ss y) e (x .next-step .ensures ss st)
 
 next-step-requires : tie.Need-next-step-requires
 next-step-requires c κs = search needs
@@ -16,15 +20,17 @@ enum-known-node : tie.Need-enum-known-node
 enum-known-node c = search needs
 
 add-step-requires : tie.Need-add-step-requires
-add-step-requires c κs = let s = c .before .before .before .before .before .before .before .before .before .before .before in
-    (s .pre, λ ss st. subst (λ (r : NextStep). FirstStep (s .args .file .now) ss r) (c .before .before .before .before .node .given .1) (c .before .before .before .before .before .before .next-step .ensures ss st))
+add-step-requires c κs =
+    let read = c .before .before .before .before .before .before in
+    (read .before .before .before .before .before .pre, comes read _ (c .before .before .before .before .node .given .1))
 
 enum-known-number : tie.Need-enum-known-number
 enum-known-number c = search needs
 
 restore-step-requires : tie.Need-restore-step-requires
-restore-step-requires c κs = let s = c .before .before .before .before .before .before .before .before .before .before .before in
-    (s .pre, λ ss st. subst (λ (r : NextStep). FirstStep (s .args .file .now) ss r) (c .before .before .before .before .number .given .1) (c .before .before .before .before .before .before .next-step .ensures ss st))
+restore-step-requires c κs =
+    let read = c .before .before .before .before .before .before in
+    (read .before .before .before .before .before .pre, comes read _ (c .before .before .before .before .number .given .1))
 
 enum-told : tie.Need-enum-told
 enum-told c = search needs
@@ -57,9 +63,9 @@ returns-2 : tie.Need-returns-2
 returns-2 c = search needs
 
 returns-3 : tie.Need-returns-3
-returns-3 c = let s = c .before .before .before .before .before .before .before .before in let a = s .args in
-    stops-at-end (a .file .now) (the-file (a .file .now)) (a .work .now) (a .words .now) (a .output .now) (a .p) (a .c) (c .stop .result) (c .stop .ensures)
-    (λ ss st. subst (λ (r : NextStep). FirstStep (a .file .now) ss r) (c .before .enum-told .given .1) (c .before .before .before .next-step .ensures ss st))
+returns-3 c =
+    let read = c .before .before .before in
+    stops-at-end (read .before .before .before .before .before .pre) (c .stop .ensures) (comes read _ (c .before .enum-told .given .1))
 
 pub core-step-spec : {M : Type 1} → statement M
 core-step-spec =

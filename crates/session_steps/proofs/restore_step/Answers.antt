@@ -1,7 +1,7 @@
 -- What the answer of a restore means: the run goes on, or question 11 ends it. What each call of it asks.
 -- Assumes nothing.
 use Prim.Native.Nat.{ℕ, suc, _+_, _*_, _≤_, _<_}
-use mathlib.Core.Path.{_≡_, sym, ap, subst, _∙_}
+use mathlib.Core.Path.{_≡_, sym, ap, _∙_}
 use mathlib.Core.List.{List, _∷_}
 use native.Mathlib.Omega.{arith}
 use lib.ListN.{length, getD, set}
@@ -23,50 +23,46 @@ use Rattle.session_state.proofs.Runs.{run-beyond}
 use Rattle.session_steps.proofs.restore_step.Restoring.{slot, undoing, restored-on}
 use Rattle.session_state.proofs.Answers.{stands-on, stops}
 
-module _ (input : List ℕ) (f : File) (w words out : List ℕ) (p : Progress) (c : Checkpoint)
+module _ {input : List ℕ} {f : File} {w words out : List ℕ} {p : Progress} {c : Checkpoint} (ready : Ready input f w words out p c)
     (n next : ℕ) (comes : Comes input (p .at) (next-step.Restore n next)) where
   -- Question 11.
-  pub stops-11 : (a : StepAnswer) → a ≡ stopped-at p 11 c → p .adds ≤ n → Onward input f w words out p c w words out a
-  stops-11 a is beyond =
+  pub stops-11 : {a : StepAnswer} → a ≡ stopped-at p 11 c → p .adds ≤ n → Onward input f w words out p c w words out a
+  stops-11 {a} is beyond =
       stops input f w words out p c 11 a is (λ rows u.
       let e = comes (u .left) (u .steps-there) in
       ap (λ (ss : List Step). run-steps counted (length out) f ss (u .past) (u .session)) (e .1)
       ∙ run-beyond (length out) f (u .past) (u .session) n (e .0) (nth-none (u .past) n (omega (arith, u .history .long))))
 
   module _ (few : n < p .adds) where
-    pub undo-asks : Ready input f w words out p c → Undoing w (p .depth) n c
-    undo-asks r =
-        let u = r .underway in
+    pub undo-asks : Undoing w (p .depth) n c
+    undo-asks =
+        let u = ready .underway in
         let e = comes (u .left) (u .steps-there) in
-        undoing input f w words (r .rows) out p n next (e .0) u (e .1) few c (r .record-is)
+        undoing u (e .1) few (ready .record-is)
 
-    pub restore-note-asks : Ready input f w words out p c → (q : Progress) → q ≡ undone-at p c n
-        → (q .steps < length words) × (q .size ≤ 65535) × (q .steps < 1024)
-    restore-note-asks r q is =
-        let u = r .underway in
+    pub restore-note-asks : {q : Progress} → q ≡ undone-at p c n → (q .steps < length words) × (q .size ≤ 65535) × (q .steps < 1024)
+    restore-note-asks {q} is =
+        let u = ready .underway in
         let e = comes (u .left) (u .steps-there) in
         let l : length (u .left) ≡ suc (length (e .0)) = ap length (e .1) in
         let s : q .steps ≡ p .steps = ap (λ (x : Progress). x .steps) is in
         let z : q .size ≡ c .size = ap (λ (x : Progress). x .size) is in
-        let k : c .size ≤ 65535 = size-low (r .rows) u (r .record-is) (e .0) (e .1) in
+        let k : c .size ≤ 65535 = size-low (ready .rows) u (ready .record-is) (e .0) (e .1) in
         (omega (arith, u .few-steps, u .many-words), omega arith, omega (arith, u .few-steps))
       where
         size-low : (rows : List Checkpoint) (u : Underway input f w words rows out p) → getD rows (slot-for (u .left) (p .adds)) blank ≡ c
             → (rest : List Step) → u .left ≡ restore n ∷ rest → c .size ≤ 65535
         size-low rows u r-is rest e =
-            let s = slot input f w words rows out p n next rest u e few c r-is in
-            let z : size-at rows n ≡ c .size = ap (λ (k : ℕ). size-at rows k) (sym s) ∙ ap (λ (x : Checkpoint). x .size) r-is in
+            let z : size-at rows n ≡ c .size = ap (λ (k : ℕ). size-at rows k) (sym (slot u e few r-is)) ∙ ap (λ (x : Checkpoint). x .size) r-is in
             omega (arith, u .history .sizes n few, u .present .running .fits, u .present .running .short)
 
-    pub restores-on : (w′ : List ℕ) → length w′ ≡ length w → Undone w w′ n c → (words′ : List ℕ) (q : Progress) (a : StepAnswer) → q ≡ undone-at p c n
-        → words′ ≡ set words (q .steps) (q .size * 2 + bit (q .finished)) → a .state ≡ noted-at q next → a .saved ≡ c
-        → Onward input f w words out p c w′ words′ out a
-    restores-on w′ long un words′ q a qi ws is sv rows u r-is =
+    pub restores-on : {w′ : List ℕ} → length w′ ≡ length w → Undone w w′ n c → {words′ : List ℕ} {q t : Progress} → q ≡ undone-at p c n
+        → words′ ≡ set words (q .steps) (q .size * 2 + bit (q .finished)) → t ≡ noted-at q next
+        → Onward input f w words out p c w′ words′ out (record { state = t; saved = c })
+    restores-on {w′} long un {words′} {q} {t} qi ws is rows u r-is =
         let e = comes (u .left) (u .steps-there) in
-        let s : a .state .steps ≡ p .steps + 1 = ap (λ (x : Progress). x .steps) is ∙ ap (λ (x : Progress). x .steps + 1) qi in (
-          stands-on input f w′ words′ (set rows (slot-for (u .left) (p .adds)) (a .saved)) out (a .state)
-              (ap (λ (x : Progress). x .done) is ∙ ap (λ (x : Progress). x .done) qi)
-              (subst (λ (x : Checkpoint). Underway input f w′ words′ (set rows (slot-for (u .left) (p .adds)) x) out (a .state)) (sym sv)
-              (restored-on input f w words rows out p n next (e .0) u (e .1) few c r-is w′ long un (e .2) words′ q (a .state) qi ws is)),
+        let s : t .steps ≡ p .steps + 1 = ap (λ (x : Progress). x .steps) is ∙ ap (λ (x : Progress). x .steps + 1) qi in (
+          stands-on input f w′ words′ (set rows (slot-for (u .left) (p .adds)) c) out t (ap (λ (x : Progress). x .done) is ∙ ap (λ (x : Progress). x .done) qi)
+              (restored-on u (e .1) few r-is long un next (e .2) qi ws is),
           omega arith,
         )

@@ -56,8 +56,8 @@ entry-low v (suc e) n l a b = omega (arith, set-here v SENTINEL-ENTRY (suc e) 0 
 
 -- ---- a restore
 
-module _ (input : List ℕ) (f : File) (w words : List ℕ) (rows : List Checkpoint) (out : List ℕ) (p : Progress) (n next : ℕ) (rest : List Step)
-    (u : Underway input f w words rows out p) (e : u .left ≡ restore n ∷ rest) (few : n < p .adds) (r : Checkpoint)
+module _ {input : List ℕ} {f : File} {w words : List ℕ} {rows : List Checkpoint} {out : List ℕ} {p : Progress} {n : ℕ} {rest : List Step}
+    (u : Underway input f w words rows out p) (e : u .left ≡ restore n ∷ rest) (few : n < p .adds) {r : Checkpoint}
     (r-is : getD rows (slot-for (u .left) (p .adds)) blank ≡ r) where
   -- The state before add n.
   found : Found (u .past) n
@@ -84,7 +84,7 @@ module _ (input : List ℕ) (f : File) (w words : List ℕ) (rows : List Checkpo
         entries = λ i l. rw (before .places i l) (before .stood .running .stands .stacked .entries i l);
       }
 
-  module _ (w′ : List ℕ) (long : length w′ ≡ length w) (a : Undone w w′ n r) where
+  module _ {w′ : List ℕ} (long : length w′ ≡ length w) (a : Undone w w′ n r) where
     abbrev v : List ℕ
     v = a .restored-words
 
@@ -214,10 +214,10 @@ module _ (input : List ℕ) (f : File) (w words : List ℕ) (rows : List Checkpo
         (history-back out out refl f w w′ low (omega (arith, cache USED (omega arith) (omega arith))) rows (p .size) (p .adds) (u .past)
         (λ j x y. other j (λ q. omega (arith, q)) ∙ a .restored .high j (omega arith)) refl (u .history) n few)
 
-    pub restored-on : (there : StepsAt input next rest) (words′ : List ℕ) (q t : Progress) → q ≡ undone-at p r n
+    pub restored-on : (next : ℕ) → StepsAt input next rest → {words′ : List ℕ} {q t : Progress} → q ≡ undone-at p r n
         → words′ ≡ set words (q .steps) (q .size * 2 + bit (q .finished)) → t ≡ noted-at q next
         → Underway input f w′ words′ (set rows (slot-for (u .left) (p .adds)) r) out t
-    restored-on there words′ q t qi ws ti =
+    restored-on next there {words′} {q} {t} qi ws ti =
         subst (λ (x : Progress). Underway input f w′ words′ (set rows (slot-for (u .left) (p .adds)) r) out x) (sym ti)
         (subst (λ (x : List Checkpoint). Underway input f w′ words′ x out (noted-at q next)) (sym (set-same rows (slot-for (u .left) (p .adds)) r blank in-rows r-is))
         (subst (λ (x : Progress). words′ ≡ set words (x .steps) (x .size * 2 + bit (x .finished)) → Underway input f w′ words′ rows out (noted-at x next)) (sym qi)

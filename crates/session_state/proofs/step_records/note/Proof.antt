@@ -16,8 +16,8 @@ mul-words c = search needs
 slice-write-words : tie.Need-slice-write-words
 slice-write-words c = search needs
 
-add-t6 : tie.Need-add-t6
-add-t6 c = search needs
+add-noted : tie.Need-add-noted
+add-noted c = search needs
 
 same-length : tie.Need-same-length
 same-length c = search needs
@@ -27,4 +27,4 @@ returns c = let s = c .before .before .args in (ap (λ (v : ℕ). set (s .words 
 
 pub note-spec : {M : Type 1} → statement M
 note-spec =
-    tie.close (tie.spec word-of-requires mul-words slice-write-words add-t6 same-length returns)
+    tie.close (tie.spec word-of-requires mul-words slice-write-words add-noted same-length returns)
