@@ -33,21 +33,15 @@ fn push_atom(
         (now (bytes .exit)) s ⌝ }
 {
     let blob = atom_decode::parse_atom_ptr(input, found);
-    let used = r.atoms;
-    let size = r.bytes;
-    let values = r.values;
-    let a = read_store::new_atom(atoms, bytes, used, size, blob);
-    reader_stacks::push_value(work, values, a.node);
-    Reader {
-        position: end,
-        ops: r.ops,
-        values: values + 1,
-        listed: r.listed,
-        pairs: r.pairs,
-        atoms: a.atoms,
-        bytes: a.bytes,
-        ghosts: r.ghosts + 1,
-    }
+    let a = read_store::new_atom(atoms, bytes, r.atoms, r.bytes, blob);
+    reader_stacks::push_value(work, r.values, a.node);
+    let mut next = r;
+    next.position = end;
+    next.values += 1;
+    next.atoms = a.atoms;
+    next.bytes = a.bytes;
+    next.ghosts += 1;
+    next
 }
 
 pub fn atom_item(
@@ -79,18 +73,14 @@ fn push_node(work: &mut [u32], r: Reader, b: Built, end: usize) -> Reader
     requires { ⌜ (WORK ≤ length (now work)) × (r .values < 131072) × (b .ghosts ≤ 131072) ⌝ }
     ensures { λ s. ⌜ (PushedValue (now (work .entry)) (now (work .exit)) (r .values) (b .node .0)) × (s ≡ node-pushed r b end) ⌝ }
 {
-    let values = r.values;
-    reader_stacks::push_value(work, values, b.node);
-    Reader {
-        position: end,
-        ops: r.ops,
-        values: values + 1,
-        listed: b.listed,
-        pairs: b.pairs,
-        atoms: r.atoms,
-        bytes: r.bytes,
-        ghosts: b.ghosts + 1,
-    }
+    reader_stacks::push_value(work, r.values, b.node);
+    let mut next = r;
+    next.position = end;
+    next.values += 1;
+    next.listed = b.listed;
+    next.pairs = b.pairs;
+    next.ghosts = b.ghosts + 1;
+    next
 }
 
 // The path that was found, and ends at `end`, is walked.
