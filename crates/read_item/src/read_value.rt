@@ -4,6 +4,7 @@ use crate::settle::Item;
 use crate::settle::Reader;
 use atom_decode::ParseAtom;
 use read_path::Built;
+use read_path::Counts;
 use read_path::Traversed;
 use read_store::reader_stacks;
 ghost use mathlib.Core.Path.{_≡_};
@@ -96,15 +97,13 @@ fn push_path(
     ensures { λ i. ⌜ SteppedPath (now (input .entry)) (now (work .entry)) (now (pairs .entry)) r (now (work .exit)) (now (pairs .exit)) i ⌝ }
 {
     let path = atom_decode::parse_atom_ptr(input, found);
-    match read_path::traverse_path_with_vec(
-        path,
-        work,
-        pairs,
-        r.values,
-        r.listed,
-        r.pairs,
-        r.ghosts,
-    ) {
+    let counts = Counts {
+        values: r.values,
+        listed: r.listed,
+        pairs: r.pairs,
+        ghosts: r.ghosts,
+    };
+    match read_path::traverse_path_with_vec(path, work, pairs, counts) {
         Traversed::Node(b) => {
             let next = push_node(work, r, b, end);
             settle::settle(input, work, pairs, next)
