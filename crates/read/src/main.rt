@@ -10,9 +10,9 @@ use text::questions;
 fn report_with(
     input: &[u8],
     work: &mut [u32; words::WORK],
-    pairs: &mut [u32; 262144],
-    atoms: &mut [u32; 131072],
-    bytes: &mut [u8; 65536],
+    pairs: &mut [u32; read_answer::PAIRS],
+    atoms: &mut [u32; read_answer::ATOMS],
+    bytes: &mut [u8; read_answer::BYTES],
 ) {
     let a = read_call::nikvoldra_read(input, work, pairs, atoms, bytes);
     print::answer(a);
@@ -25,9 +25,9 @@ fn report_with(
 // The same, with arrays of its own.
 fn report(input: &[u8]) {
     let mut work = [0u32; words::WORK];
-    let mut pairs = [0u32; 262144];
-    let mut atoms = [0u32; 131072];
-    let mut bytes = [0u8; 65536];
+    let mut pairs = [0u32; read_answer::PAIRS];
+    let mut atoms = [0u32; read_answer::ATOMS];
+    let mut bytes = [0u8; read_answer::BYTES];
     report_with(input, &mut work, &mut pairs, &mut atoms, &mut bytes);
 }
 

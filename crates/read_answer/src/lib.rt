@@ -31,19 +31,26 @@ pub fn refusal(number: u32) -> ReadAnswer
     }
 }
 
+// Question 1: how long the store's slices are at least, in words, and in bytes for the last.
+pub const PAIRS: usize = 262144;
+
+pub const ATOMS: usize = 131072;
+
+pub const BYTES: usize = 65536;
+
 pub fn long_enough(work: &[u32], pairs: &[u32], atoms: &[u32], bytes: &[u8]) -> bool
     ensures { λ r. ⌜ r ≡ long-enough (slices (now (work .entry)) (now (pairs .entry)) (now (atoms .entry)) (now (bytes .entry))) ⌝ }
 {
     if work.len() < words::WORK {
         return false;
     }
-    if pairs.len() < 262144 {
+    if pairs.len() < PAIRS {
         return false;
     }
-    if atoms.len() < 131072 {
+    if atoms.len() < ATOMS {
         return false;
     }
-    65536 <= bytes.len()
+    BYTES <= bytes.len()
 }
 
 // What was read: the one value's node, and the counts.

@@ -1,7 +1,7 @@
 -- Laws of the reading call: cleared slices are a fresh store, and what was read gives the answer and the slices that the definition says.
 -- Assumes nothing.
 use Prim.Native.Nat.{ℕ, zero, suc, _-_, _*_, _/_, _≤_, _<_}
-use mathlib.Core.Path.{_≡_, refl, sym, ap, subst, _∙_}
+use mathlib.Core.Path.{_≡_, refl, sym, ap, _∙_}
 use mathlib.Core.Bool.{Bool, true, false, cond, _&&_}
 use mathlib.Core.List.{List, _++_}
 use native.Mathlib.Omega.{arith}
@@ -22,7 +22,7 @@ use Rattle.read_call.specs.declared.read_items.Outcome.the-variants as o
 use Rattle.read_call.specs.read_items.Outcome.{start, ReadAll}
 use Rattle.read_answer.specs.declared.ReadAnswer.{ReadAnswer}
 use Rattle.read_answer.specs.Answer.{read-answer-of, Counts, read-answer-at, slices}
-use Rattle.read_call.specs.Outcome.{read-result-of}
+use Rattle.read_call.specs.Outcome.{read-result-of, Counted, ended}
 
 -- ---- a fresh store
 
@@ -130,82 +130,61 @@ module _ (input w p a b : List ℕ) (r : Reader) (h : Ends input w p a b r) wher
       let na : r .atoms ≡ length (take (2 * r .atoms) a) / 2 = omega (arith, atoms-length) in
       λ i. record { number = 0; root = root i; pairs = np i; atoms = na i; bytes = sym bytes-length i; ghosts = r .ghosts }
 
-pub accepted-counts : (input w p a b : List ℕ) (o : Outcome) (r : Reader) → ReadAll input w p a b (read-stored input) o → o ≡ outcome.Accepted r → Counts w r
-accepted-counts input w p a b o r all-read e = counts input w p a b r (subst (λ (x : Outcome). ReadAll input w p a b (read-stored input) x) e all-read .ends)
+pub counted : (input w p a b : List ℕ) (o : Outcome) → ReadAll input w p a b (read-stored input) o → Counted w o
+counted input w p a b (outcome.Accepted r) t = counts input w p a b r (t .ends)
+counted input w p a b (outcome.Refused n) t = tt
 
 zeroed-same : (l l₁ : List ℕ) → length l₁ ≡ length l → zeroed l₁ ≡ zeroed l
 zeroed-same l l₁ e = ap (λ (n : ℕ). replicate n 0) e
 
--- The call's result after everything was read: work is cleared, the store is left as it was read.
-pub result-accepted : (input w p a b w₁ p₁ a₁ b₁ : List ℕ) (o : Outcome) (r : Reader) → ReadAll input w₁ p₁ a₁ b₁ (read-stored input) o → o ≡ outcome.Accepted r
-    → length w₁ ≡ length w → length p₁ ≡ length p → length a₁ ≡ length a → length b₁ ≡ length b
-    → (w₂ : List ℕ) → w₂ ≡ zeroed w₁ → (x : ReadAnswer) → read-answer-of x ≡ read-answer-at w₁ r
-    → read-result-of x w₂ p₁ a₁ b₁ ≡ after (read-stored input) (slices w p a b)
-result-accepted input w p a b w₁ p₁ a₁ b₁ o r all-read e lw lp la lb w₂ zw x ex =
-    (λ i.
-    record {
-      answer = (ex ∙ answered input w₁ p₁ a₁ b₁ r (t .ends)) i;
-      slices =
-          record {
-            work = (zw ∙ zeroed-same w w₁ lw) i;
-            pairs = filled-whole p p₁ (2 * r .pairs) lp (t .ends .lent .pairs-in) (t .ends .lent .pairs-rest) i;
-            atoms = filled-whole a a₁ (2 * r .atoms) la (t .ends .lent .atoms-in) (t .ends .lent .atoms-rest) i;
-            bytes = filled-whole b b₁ (r .bytes) lb (t .ends .lent .bytes-in) (t .ends .lent .bytes-rest) i;
-          };
-    })
-    ∙ ap (λ (d : Read Stored). after d (slices w p a b)) (sym (t .same))
-  where
-    t : ReadAll input w₁ p₁ a₁ b₁ (read-stored input) (outcome.Accepted r)
-    t = subst (λ (y : Outcome). ReadAll input w₁ p₁ a₁ b₁ (read-stored input) y) e all-read
-
--- The call's result after a refusal: everything is cleared.
-pub result-refused : (input w p a b w₁ p₁ a₁ b₁ : List ℕ) (o : Outcome) (n : ℕ) → ReadAll input w₁ p₁ a₁ b₁ (read-stored input) o → o ≡ outcome.Refused n
-    → length w₁ ≡ length w → length p₁ ≡ length p → length a₁ ≡ length a → length b₁ ≡ length b
-    → (w₂ p₂ a₂ b₂ : List ℕ) → w₂ ≡ zeroed w₁ → p₂ ≡ zeroed p₁ → a₂ ≡ zeroed a₁ → b₂ ≡ zeroed b₁ → (x : ReadAnswer) → read-answer-of x ≡ refusal n
-    → read-result-of x w₂ p₂ a₂ b₂ ≡ after (read-stored input) (slices w p a b)
-result-refused input w p a b w₁ p₁ a₁ b₁ o n all-read e lw lp la lb w₂ p₂ a₂ b₂ zw zp za zb x ex =
-    (λ i.
-    record {
-      answer = ex i;
-      slices =
-          record {
-            work = (zw ∙ zeroed-same w w₁ lw) i;
-            pairs = (zp ∙ zeroed-same p p₁ lp) i;
-            atoms = (za ∙ zeroed-same a a₁ la) i;
-            bytes = (zb ∙ zeroed-same b b₁ lb) i;
-          };
-    })
-    ∙ ap (λ (d : Read Stored). after d (slices w p a b)) (sym (t .same))
-  where
-    t : ReadAll input w₁ p₁ a₁ b₁ (read-stored input) (outcome.Refused n)
-    t = subst (λ (y : Outcome). ReadAll input w₁ p₁ a₁ b₁ (read-stored input) y) e all-read
+-- What the outcome of all items leaves is what the definition says, where the slices are as long as at the call.
+module _ (input w p a b w₁ p₁ a₁ b₁ : List ℕ) where
+  pub ended-after : (o : Outcome) → ReadAll input w₁ p₁ a₁ b₁ (read-stored input) o
+      → length w₁ ≡ length w → length p₁ ≡ length p → length a₁ ≡ length a → length b₁ ≡ length b
+      → (x : Result) → x ≡ ended o (slices w₁ p₁ a₁ b₁) → x ≡ after (read-stored input) (slices w p a b)
+  ended-after (outcome.Accepted r) t lw lp la lb x e =
+      let l = t .ends .lent in
+      e
+      ∙ (λ i.
+      record {
+        answer = answered input w₁ p₁ a₁ b₁ r (t .ends) i;
+        slices =
+            record {
+              work = zeroed-same w w₁ lw i;
+              pairs = filled-whole p p₁ (2 * r .pairs) lp (l .pairs-in) (l .pairs-rest) i;
+              atoms = filled-whole a a₁ (2 * r .atoms) la (l .atoms-in) (l .atoms-rest) i;
+              bytes = filled-whole b b₁ (r .bytes) lb (l .bytes-in) (l .bytes-rest) i;
+            };
+      })
+      ∙ ap (λ (d : Read Stored). after d (slices w p a b)) (sym (t .same))
+  ended-after (outcome.Refused n) t lw lp la lb x e =
+      e
+      ∙ (λ i.
+      record {
+        answer = refusal n;
+        slices = slices (zeroed-same w w₁ lw i) (zeroed-same p p₁ lp i) (zeroed-same a a₁ la i) (zeroed-same b b₁ lb i);
+      })
+      ∙ ap (λ (d : Read Stored). after d (slices w p a b)) (sym (t .same))
 
 -- ---- the questions
 
 -- The three cases of the call: long enough or not, within the limit or not.
-cases : List ℕ → Slices → Bool → Bool → Result
+abbrev cases : List ℕ → Slices → Bool → Bool → Result
 cases input l x y = cond x (cond y (after (read-stored input) l) (record { answer = refusal 2; slices = l })) (record { answer = refusal 1; slices = l })
 
 module _ (input w p a b : List ℕ) (t : Bool) (test : t ≡ long-enough (slices w p a b)) where
-  reading-cases : (x y : Bool) → t ≡ x → leb (length input) 65535 ≡ y → reading input (slices w p a b) ≡ cases input (slices w p a b) x y
-  unfolding reading cases
-  reading-cases x y e f = ap (λ (u : Bool). cases input (slices w p a b) u (leb (length input) 65535)) (sym test ∙ e) ∙ ap (λ (u : Bool). cases input (slices w p a b) x u) f
+  reading-cases : (x y : Bool) → t ≡ x → leb (length input) 65535 ≡ y → cases input (slices w p a b) x y ≡ reading input (slices w p a b)
+  unfolding reading
+  reading-cases x y e f = λ i. cases input (slices w p a b) ((sym e ∙ test) i) (sym f i)
 
   untouched : (n : ℕ) (r : ReadAnswer) → read-answer-of r ≡ refusal n → read-result-of r w p a b ≡ record { answer = refusal n; slices = slices w p a b }
   untouched n r e = λ i. record { answer = e i; slices = slices w p a b }
 
   pub too-short : t ≡ false → (r : ReadAnswer) → read-answer-of r ≡ refusal 1 → read-result-of r w p a b ≡ reading input (slices w p a b)
-  unfolding cases
-  too-short e r h = untouched 1 r h ∙ sym (reading-cases false (leb (length input) 65535) e refl)
+  too-short e r h = untouched 1 r h ∙ reading-cases false (leb (length input) 65535) e refl
 
   pub too-long : t ≡ true → 65535 < length input → (r : ReadAnswer) → read-answer-of r ≡ refusal 2 → read-result-of r w p a b ≡ reading input (slices w p a b)
-  unfolding cases
-  too-long e l r h = untouched 2 r h ∙ sym (reading-cases true false e (lt-leb _ _ l))
+  too-long e l r h = untouched 2 r h ∙ reading-cases true false e (lt-leb _ _ l)
 
-  pub asked : t ≡ true → length input ≤ 65535 → (long-enough (slices w p a b) ≡ true) × (length input ≤ 65535)
-  asked e l = (sym test ∙ e, l)
-
-  pub within : t ≡ true → length input ≤ 65535 → (r : ReadAnswer) (w′ p′ a′ b′ : List ℕ) → read-result-of r w′ p′ a′ b′ ≡ after (read-stored input) (slices w p a b)
-      → read-result-of r w′ p′ a′ b′ ≡ reading input (slices w p a b)
-  unfolding cases
-  within e l r w′ p′ a′ b′ h = h ∙ sym (reading-cases true true e (le-leb _ _ l))
+  pub within : t ≡ true → length input ≤ 65535 → (x : Result) → x ≡ after (read-stored input) (slices w p a b) → x ≡ reading input (slices w p a b)
+  within e l x h = h ∙ reading-cases true true e (le-leb _ _ l)

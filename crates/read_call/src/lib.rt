@@ -12,7 +12,33 @@ ghost use lib.ListN.{length};
 ghost use Rattle.spec_reading.specs.Store.{read-stored};
 ghost use Rattle.spec_reading.specs.Call.{long-enough, after, reading};
 ghost use Rattle.read_answer.specs.Answer.{slices};
-ghost use Rattle.read_call.specs.Outcome.{read-result-of};
+ghost use Rattle.read_call.specs.Outcome.{read-result-of, Counted, ended};
+
+// The answer after the items: the store stays as it was read, or everything is cleared.
+fn ended(
+    work: &mut [u32],
+    pairs: &mut [u32],
+    atoms: &mut [u32],
+    bytes: &mut [u8],
+    outcome: Outcome,
+) -> ReadAnswer
+    requires { ⌜ Counted (now work) outcome ⌝ }
+    ensures { λ r. ⌜
+        read-result-of r (now (work .exit)) (now (pairs .exit)) (now (atoms .exit)) (now (bytes .exit))
+        ≡ ended outcome (slices (now (work .entry)) (now (pairs .entry)) (now (atoms .entry)) (now (bytes .entry))) ⌝ }
+{
+    match outcome {
+        Outcome::Accepted(r) => {
+            let a = read_answer::answer(work, r);
+            slices::clear(work);
+            a
+        }
+        Outcome::Refused(n) => {
+            clear_slices::clear_all(work, pairs, atoms, bytes);
+            read_answer::refusal(n)
+        }
+    }
+}
 
 // Reading past the questions 1 and 2.
 fn read_in(
@@ -29,17 +55,8 @@ fn read_in(
         (slices (now (work .entry)) (now (pairs .entry)) (now (atoms .entry)) (now (bytes .entry))) ⌝ }
 {
     clear_slices::clear_store(pairs, atoms, bytes);
-    match read_items::read_all(input, work, pairs, atoms, bytes) {
-        Outcome::Accepted(r) => {
-            let a = read_answer::answer(work, r);
-            slices::clear(work);
-            a
-        }
-        Outcome::Refused(n) => {
-            clear_slices::clear_all(work, pairs, atoms, bytes);
-            read_answer::refusal(n)
-        }
-    }
+    let outcome = read_items::read_all(input, work, pairs, atoms, bytes);
+    ended(work, pairs, atoms, bytes, outcome)
 }
 
 // Reads a serialized tree into a fresh, empty store. The slices are lent: work, and the pairs, atoms and atom bytes of the store.

@@ -37,8 +37,9 @@ module _ (input w p a b : List ℕ) (r : Reader) where
   step-is = refl
 
   -- No byte is left.
-  pub step-end : length input ≤ r .position → step store-values (reader-at input w p a b r) ≡ stop 14
-  step-end h = step-is ∙ ap (λ (l : List ℕ). next-item store-values l ops stored) (drop-of-length-le input {i = r .position} h)
+  pub end-stepped : length input ≤ r .position → Stepped input w p a b r w p a b (item.Refused 14)
+  end-stepped h =
+      record { same = step-is ∙ ap (λ (l : List ℕ). next-item store-values l ops stored) (drop-of-length-le input {i = r .position} h); stands = tt }
 
   module _ (h : r .position < length input) where
     from-first : step store-values (reader-at input w p a b r) ≡ next-item store-values (getD input (r .position) 0 ∷ drop (suc (r .position)) input) ops stored

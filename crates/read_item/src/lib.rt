@@ -18,18 +18,11 @@ fn pair_item(work: &mut [u32], r: Reader) -> Item
     requires { ⌜ (WORK ≤ length (now work)) × (r .ops + 2 ≤ 131072) × (r .position ≤ 65535) ⌝ }
     ensures { λ i. ⌜ (PushedPair (now (work .entry)) (now (work .exit)) (r .ops)) × (i ≡ Item.Go (pair-begun r)) ⌝ }
 {
-    let ops = r.ops;
-    reader_stacks::push_pair(work, ops);
-    Item::Go(Reader {
-        position: r.position + 1,
-        ops: ops + 2,
-        values: r.values,
-        listed: r.listed,
-        pairs: r.pairs,
-        atoms: r.atoms,
-        bytes: r.bytes,
-        ghosts: r.ghosts,
-    })
+    reader_stacks::push_pair(work, r.ops);
+    let mut next = r;
+    next.position += 1;
+    next.ops += 2;
+    Item::Go(next)
 }
 
 // The next item.

@@ -4,6 +4,7 @@ use crate::settle::Item;
 use crate::settle::Reader;
 use atom_decode::ParseAtom;
 use read_path::Built;
+use read_path::Counts;
 use read_path::Traversed;
 use read_store::reader_stacks;
 ghost use mathlib.Core.Path.{_≡_};
@@ -33,21 +34,15 @@ fn push_atom(
         (now (bytes .exit)) s ⌝ }
 {
     let blob = atom_decode::parse_atom_ptr(input, found);
-    let used = r.atoms;
-    let size = r.bytes;
-    let values = r.values;
-    let a = read_store::new_atom(atoms, bytes, used, size, blob);
-    reader_stacks::push_value(work, values, a.node);
-    Reader {
-        position: end,
-        ops: r.ops,
-        values: values + 1,
-        listed: r.listed,
-        pairs: r.pairs,
-        atoms: a.atoms,
-        bytes: a.bytes,
-        ghosts: r.ghosts + 1,
-    }
+    let a = read_store::new_atom(atoms, bytes, r.atoms, r.bytes, blob);
+    reader_stacks::push_value(work, r.values, a.node);
+    let mut next = r;
+    next.position = end;
+    next.values += 1;
+    next.atoms = a.atoms;
+    next.bytes = a.bytes;
+    next.ghosts += 1;
+    next
 }
 
 pub fn atom_item(
@@ -79,18 +74,14 @@ fn push_node(work: &mut [u32], r: Reader, b: Built, end: usize) -> Reader
     requires { ⌜ (WORK ≤ length (now work)) × (r .values < 131072) × (b .ghosts ≤ 131072) ⌝ }
     ensures { λ s. ⌜ (PushedValue (now (work .entry)) (now (work .exit)) (r .values) (b .node .0)) × (s ≡ node-pushed r b end) ⌝ }
 {
-    let values = r.values;
-    reader_stacks::push_value(work, values, b.node);
-    Reader {
-        position: end,
-        ops: r.ops,
-        values: values + 1,
-        listed: b.listed,
-        pairs: b.pairs,
-        atoms: r.atoms,
-        bytes: r.bytes,
-        ghosts: b.ghosts + 1,
-    }
+    reader_stacks::push_value(work, r.values, b.node);
+    let mut next = r;
+    next.position = end;
+    next.values += 1;
+    next.listed = b.listed;
+    next.pairs = b.pairs;
+    next.ghosts = b.ghosts + 1;
+    next
 }
 
 // The path that was found, and ends at `end`, is walked.
@@ -106,15 +97,13 @@ fn push_path(
     ensures { λ i. ⌜ SteppedPath (now (input .entry)) (now (work .entry)) (now (pairs .entry)) r (now (work .exit)) (now (pairs .exit)) i ⌝ }
 {
     let path = atom_decode::parse_atom_ptr(input, found);
-    match read_path::traverse_path_with_vec(
-        path,
-        work,
-        pairs,
-        r.values,
-        r.listed,
-        r.pairs,
-        r.ghosts,
-    ) {
+    let counts = Counts {
+        values: r.values,
+        listed: r.listed,
+        pairs: r.pairs,
+        ghosts: r.ghosts,
+    };
+    match read_path::traverse_path_with_vec(path, work, pairs, counts) {
         Traversed::Node(b) => {
             let next = push_node(work, r, b, end);
             settle::settle(input, work, pairs, next)

@@ -34,20 +34,15 @@ fn join_top(work: &mut [u32], pairs: &mut [u32], r: Reader) -> Reader
     requires { ⌜ (Ready (now work) (now pairs) r) × (0 < r .ops) × (ops-of (now work) (r .ops) ≡ Cons ∷ ops-of (now work) (r .ops - 1)) ⌝ }
     ensures { λ s. ⌜ (Onward (now (work .entry)) (now (pairs .entry)) r (now (work .exit)) (now (pairs .exit)) s) × (s .ops ≡ r .ops - 1) ⌝ }
 {
-    let values = r.values;
-    let used = r.pairs;
-    let listed = stack_list::listed_among(r.listed, values - 2);
-    join_values::join(work, pairs, values, used);
-    Reader {
-        position: r.position,
-        ops: r.ops - 1,
-        values: values - 1,
-        listed,
-        pairs: used + 1,
-        atoms: r.atoms,
-        bytes: r.bytes,
-        ghosts: r.ghosts + 1,
-    }
+    let listed = stack_list::listed_among(r.listed, r.values - 2);
+    join_values::join(work, pairs, r.values, r.pairs);
+    let mut next = r;
+    next.ops -= 1;
+    next.values -= 1;
+    next.listed = listed;
+    next.pairs += 1;
+    next.ghosts += 1;
+    next
 }
 
 // The joins on top of the operations are done.
@@ -71,21 +66,13 @@ pub fn settle(input: &[u8], work: &mut [u32], pairs: &mut [u32], reader: Reader)
     requires { ⌜ (Ready (now work) (now pairs) reader) × (reader .position ≤ length (now input)) ⌝ }
     ensures { λ i. ⌜ Next (now (input .entry)) (now (work .entry)) (now (pairs .entry)) reader (now (work .exit)) (now (pairs .exit)) i ⌝ }
 {
-    let r = join_all(work, pairs, reader);
+    let mut r = join_all(work, pairs, reader);
     if r.ops == 0 {
         if r.position == input.len() {
             return Item::Whole(r);
         }
         return Item::Refused(14);
     }
-    Item::Go(Reader {
-        position: r.position,
-        ops: r.ops - 1,
-        values: r.values,
-        listed: r.listed,
-        pairs: r.pairs,
-        atoms: r.atoms,
-        bytes: r.bytes,
-        ghosts: r.ghosts,
-    })
+    r.ops -= 1;
+    Item::Go(r)
 }

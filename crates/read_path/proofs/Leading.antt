@@ -12,7 +12,7 @@ use Rattle.words.specs.Words.{at}
 use Rattle.words.specs.Lists.{Bytes}
 use Rattle.path.specs.Bytes.{read-path}
 use Rattle.allocator.specs.Handle.{Node, node-of, nil}
-use Rattle.allocator.specs.HandleLaws.{handle-of-node-of, handle-of-nil, node-of-nil}
+use Rattle.allocator.specs.HandleLaws.{handle-of-node-of, node-of-nil}
 use Rattle.spec_reading.specs.Store.{Store, Value, Listed, Led, walk, node-handle, led-to, list-of, above, lead}
 use Rattle.read_store.specs.Layout.{VALUES, cached-list, value-at, values-of}
 use Rattle.read_store.proofs.reader_stacks.Stacks.{length-values, drop-values}
@@ -132,21 +132,23 @@ leads-to w p values listed used ghosts a (walked.Node h) n s e f q =
     }
 leads-to w p values listed used ghosts a walked.IntoAtom n s e f q = ap node-handle (sym q)
 
+abbrev pub nil-reached : Walked
+nil-reached = walked.Node (record { 0 = 134217728 })
+
 module _ (path w p : List ℕ) (values listed used ghosts : ℕ) (a : HaveLists w listed values) where
+  -- A node of the store, or none, where the definition leads.
+  reaches : (r : Walked) (t : Traversed) → t ≡ reached r used ghosts listed → (n : Option Node) (s : Store)
+      → led (read-path path) (values-of w values) s ≡ led-to n (values-of w values) s → s .pairs ≡ take (2 * used) p → s .ghosts ≡ ghosts
+      → walked-to r ≡ n → LeadsTo w p values used (led (read-path path) (values-of w values) s) w p t
+  reaches r t is n s l e f g =
+      subst (λ (x : Traversed). LeadsTo w p values used (led (read-path path) (values-of w values) s) w p x) (sym is)
+      (subst (λ (y : Led). LeadsTo w p values used y w p (reached r used ghosts listed)) (sym l) (leads-to w p values listed used ghosts a r n s e f g))
+
   -- A path with no set bit is nil.
-  pub leads-nil : (b : Built) → b .node .0 ≡ 134217728 → b .pairs ≡ used → b .ghosts ≡ ghosts → b .listed ≡ listed → read-path path ≡ none → (s : Store) → s .pairs ≡ take (2 * used) p → s .ghosts ≡ ghosts
-      → Leads w p values used (led (read-path path) (values-of w values) s) w p b
-  leads-nil b n u g m z s e f =
-      subst (λ (o : Option (List Bool)). Leads w p values used (led o (values-of w values) s) w p b) (sym z)
-      record {
-        node-is = ap some (handle-of-nil ∙ sym n);
-        values-are = refl;
-        pairs-are = ap (λ (k : ℕ). take (2 * k) p) u ∙ sym e;
-        ghosts-are = g ∙ sym f;
-        pairs-rest = refl;
-        low = λ k l. refl;
-        lists = subst (λ (k : ℕ). HaveLists w k values) (sym m) a;
-      }
+  pub leads-nil : (t : Traversed) → t ≡ reached nil-reached used ghosts listed → read-path path ≡ none
+      → (s : Store) → s .pairs ≡ take (2 * used) p → s .ghosts ≡ ghosts → LeadsTo w p values used (led (read-path path) (values-of w values) s) w p t
+  leads-nil t is z s e f =
+      reaches nil-reached t is (some nil) s (ap (λ (o : Option (List Bool)). led o (values-of w values) s) z) e f (ap some node-of-nil)
 
   module _ (count : ℕ) (q : Counted path count) (steps : ℕ) (d : steps ≡ down (q .bits) values) where
     led-some : (s : Store) → led (read-path path) (values-of w values) s ≡ lead (q .bits) (values-of w values) s
@@ -159,18 +161,13 @@ module _ (path w p : List ℕ) (values listed used ghosts : ℕ) (a : HaveLists 
     steps-within = omega (arith, d, q .long, down-within (q .bits) values)
 
     module _ (r : Walked) (t : Traversed) (is : t ≡ reached r used ghosts listed) where
-      reaches : (n : Option Node) (s : Store) → lead (q .bits) (values-of w values) s ≡ led-to n (values-of w values) s → s .pairs ≡ take (2 * used) p → s .ghosts ≡ ghosts
-          → walked-to r ≡ n → LeadsTo w p values used (led (read-path path) (values-of w values) s) w p t
-      reaches n s l e f g =
-          subst (λ (x : Traversed). LeadsTo w p values used (led (read-path path) (values-of w values) s) w p x) (sym is)
-          (subst (λ (y : Led). LeadsTo w p values used y w p (reached r used ghosts listed)) (sym (led-some s ∙ l)) (leads-to w p values listed used ghosts a r n s e f g))
-
       -- Below the lowest value is nil.
       pub leads-below : steps ≡ values → Walks p used (drop steps (q .bits)) 134217728 r → (s : Store) → s .pairs ≡ take (2 * used) p → s .ghosts ≡ ghosts
           → LeadsTo w p values used (led (read-path path) (values-of w values) s) w p t
       leads-below z g s e f =
-          reaches (walk s (drop steps (q .bits)) nil) s
-          (lead-below (q .bits) (values-of w values) s (down-values ∙ z ∙ sym (length-values w values))
+          reaches r t is (walk s (drop steps (q .bits)) nil) s
+          (led-some s
+          ∙ lead-below (q .bits) (values-of w values) s (down-values ∙ z ∙ sym (length-values w values))
           ∙ ap (λ (k : ℕ). led-to (walk s (drop k (q .bits)) nil) (values-of w values) s) (length-values w values ∙ sym z))
           e f (g s e ∙ ap (walk s (drop steps (q .bits))) node-of-nil)
 
@@ -178,8 +175,9 @@ module _ (path w p : List ℕ) (values listed used ghosts : ℕ) (a : HaveLists 
       pub leads-value : steps < values → steps < count → Walks p used (drop (steps + 1) (q .bits)) (at w (VALUES + 2 * (values - 1 - steps))) r
           → (s : Store) → s .pairs ≡ take (2 * used) p → s .ghosts ≡ ghosts → LeadsTo w p values used (led (read-path path) (values-of w values) s) w p t
       leads-value m n g s e f =
-          reaches (walk s (drop (suc steps) (q .bits)) (node-of (at w (VALUES + 2 * (values - 1 - steps))))) s
-          (lead-value (q .bits) (values-of w values) s steps down-values (omega (arith, q .long)) (value-at w (values - 1 - steps)) (values-of w (values - 1 - steps))
+          reaches r t is (walk s (drop (suc steps) (q .bits)) (node-of (at w (VALUES + 2 * (values - 1 - steps))))) s
+          (led-some s
+          ∙ lead-value (q .bits) (values-of w values) s steps down-values (omega (arith, q .long)) (value-at w (values - 1 - steps)) (values-of w (values - 1 - steps))
           (value-next w values steps m))
           e f (g s e ∙ ap (λ (k : ℕ). walk s (drop k (q .bits)) (node-of (at w (VALUES + 2 * (values - 1 - steps))))) (add-one steps))
 

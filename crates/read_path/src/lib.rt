@@ -8,6 +8,7 @@ use path::path_bits;
 use path_walk::Walked;
 use read_store::reader_stacks::VALUES;
 pub use stack_list::Built;
+pub use stack_list::Counts;
 ghost use mathlib.Core.Path.{_≡_};
 ghost use Prim.Native.Nat.{_*_, _≤_};
 ghost use lib.ListN.{length, take};
@@ -22,66 +23,51 @@ pub enum Traversed {
     IntoAtom,
 }
 
-// From the stack of `values` values, the lowest `listed` of which have their lists, and the `used` pairs.
+// From the stack of values, through the pairs.
 pub fn traverse_path_with_vec(
     path: &[u8],
     work: &mut [u32],
     pairs: &mut [u32],
-    values: usize,
-    listed: usize,
-    used: usize,
-    ghosts: usize,
+    counts: Counts,
 ) -> Traversed
-    requires { ⌜ (length (now path) ≤ 65535) × (Walkable (now work) (now pairs) values listed used ghosts) ⌝ }
+    requires { ⌜
+        (length (now path) ≤ 65535)
+        × (Walkable (now work) (now pairs) (counts .values) (counts .listed) (counts .pairs) (counts .ghosts)) ⌝ }
     ensures { λ r. ⌜
-        ((s : Store) → s .pairs ≡ take (2 * used) (now (pairs .entry)) → s .ghosts ≡ ghosts
-        → LeadsTo (now (work .entry)) (now (pairs .entry)) values used
-        (led (read-path (now (path .entry))) (values-of (now (work .entry)) values) s) (now (work .exit))
+        ((s : Store) → s .pairs ≡ take (2 * counts .pairs) (now (pairs .entry)) → s .ghosts ≡ counts .ghosts
+        → LeadsTo (now (work .entry)) (now (pairs .entry)) (counts .values) (counts .pairs)
+        (led (read-path (now (path .entry))) (values-of (now (work .entry)) (counts .values)) s) (now (work .exit))
         (now (pairs .exit)) r) ⌝ }
-    ensures { λ r. ⌜ SameTotal used ghosts r ⌝ }
+    ensures { λ r. ⌜ SameTotal (counts .pairs) (counts .ghosts) r ⌝ }
 {
     let PathBits::Bits(count) = path_bits::path_bits(path) else {
-        return Traversed::Node(Built {
-            node: NodePtr::NIL,
-            pairs: used,
-            ghosts,
-            listed,
-        });
+        return walked(Walked::Node(NodePtr::NIL), counts);
     };
+    let values = counts.values;
+    let used = counts.pairs;
     let steps = path_walk::stack_steps(path, count, values);
     if steps == values {
         let w = path_walk::walk_bits(path, steps, count, pairs, used, NodePtr::NIL);
-        return walked(w, used, ghosts, listed);
+        return walked(w, counts);
     }
     if steps == count {
-        return Traversed::Node(stack_list::build_list(
-            work,
-            pairs,
-            values - steps,
-            listed,
-            used,
-            ghosts,
-        ));
+        return Traversed::Node(stack_list::build_list(work, pairs, values - steps, counts));
     }
     let value = NodePtr(work[VALUES + 2 * (values - 1 - steps)]);
-    walked(
-        path_walk::walk_bits(path, steps + 1, count, pairs, used, value),
-        used,
-        ghosts,
-        listed,
-    )
+    let w = path_walk::walk_bits(path, steps + 1, count, pairs, used, value);
+    walked(w, counts)
 }
 
 // A node of the store changes no count.
-fn walked(w: Walked, used: usize, ghosts: usize, listed: usize) -> Traversed
-    ensures { λ r. ⌜ r ≡ reached w used ghosts listed ⌝ }
+fn walked(w: Walked, counts: Counts) -> Traversed
+    ensures { λ r. ⌜ r ≡ reached w (counts .pairs) (counts .ghosts) (counts .listed) ⌝ }
 {
     match w {
         Walked::Node(node) => Traversed::Node(Built {
             node,
-            pairs: used,
-            ghosts,
-            listed,
+            pairs: counts.pairs,
+            ghosts: counts.ghosts,
+            listed: counts.listed,
         }),
         Walked::IntoAtom => Traversed::IntoAtom,
     }

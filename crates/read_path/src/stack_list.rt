@@ -9,6 +9,14 @@ ghost use Rattle.spec_reading.specs.Store.{Store, list-of};
 ghost use Rattle.read_store.specs.Layout.{values-of};
 ghost use Rattle.read_path.specs.Lists.{HaveLists, AddRoom, Adds, ListRoom, Lists};
 
+// How many values there are, how many of the lowest are known to have a list, and how many pairs and ghost pairs there are.
+pub struct Counts {
+    pub values: usize,
+    pub listed: usize,
+    pub pairs: usize,
+    pub ghosts: usize,
+}
+
 // A list of the stack, how many pairs and ghost pairs there are then, and how many of the lowest values are known to have a list.
 pub struct Built {
     pub node: NodePtr,
@@ -38,25 +46,20 @@ fn list_at(work: &[u32], count: usize) -> NodePtr
     NodePtr(work[VALUES + 2 * (count - 1) + 1] - 1)
 }
 
-// The list of the lowest `count` values. The lowest `listed` have theirs; from there up, a list that a value has is taken, and one
+// The list of the lowest `count` values. Some of the lowest have theirs; from there up, a list that a value has is taken, and one
 // that is made is kept with its value.
-pub fn build_list(
-    work: &mut [u32],
-    pairs: &mut [u32],
-    count: usize,
-    listed: usize,
-    used: usize,
-    ghosts: usize,
-) -> Built
-    requires { ⌜ ListRoom (now work) (now pairs) count listed used ghosts ⌝ }
-    ensures { λ r. ⌜ Lists (now (work .entry)) (now (pairs .entry)) count listed used ghosts (now (work .exit)) (now (pairs .exit)) r ⌝ }
+pub fn build_list(work: &mut [u32], pairs: &mut [u32], count: usize, counts: Counts) -> Built
+    requires { ⌜ ListRoom (now work) (now pairs) count (counts .listed) (counts .pairs) (counts .ghosts) ⌝ }
+    ensures { λ r. ⌜
+        Lists (now (work .entry)) (now (pairs .entry)) count (counts .listed) (counts .pairs) (counts .ghosts)
+        (now (work .exit)) (now (pairs .exit)) r ⌝ }
 {
-    let mut i = listed_among(listed, count);
+    let mut i = listed_among(counts.listed, count);
     let mut b = Built {
         node: list_at(work, i),
-        pairs: used,
-        ghosts,
-        listed,
+        pairs: counts.pairs,
+        ghosts: counts.ghosts,
+        listed: counts.listed,
     };
     while i < count {
         b = add_value(work, pairs, i, b);

@@ -1,9 +1,10 @@
 -- `read_call::nikvoldra_read` gives the answer and leaves the slices as the reading call's definition says.
 -- Assumes nothing.
+use mathlib.Core.Path.{sym, _∙_}
 use native.Mathlib.Omega.{arith}
 use borrow.Author.Needs.{needs}
 use borrow.Author.Tests.{not-true, not-false}
-use Rattle.read_call.proofs.Answers.{too-short, too-long, asked, within}
+use Rattle.read_call.proofs.Answers.{too-short, too-long, within}
 use Rattle.read_call.proofs.nikvoldra_read.Statement.{statement}
 use Rattle.read_call.proofs.nikvoldra_read.Tie as tie
 
@@ -27,10 +28,8 @@ same-length-4 c = search needs
 
 returns : tie.Need-returns
 returns c =
-    let s = c .before .before .before .before .before .before .before .before .before .before .before .before .args in
     let t = c .before .before .long-enough in
-    too-short (s .input .now) (s .work .now) (s .pairs .now) (s .atoms .now) (s .bytes .now) (t .result) (t .ensures)
-    (not-true (t .result) (c .before .if1 .taken)) (c .refusal .result) (c .refusal .ensures)
+    too-short _ _ _ _ _ (t .result) (t .ensures) (not-true _ (c .before .if1 .taken)) _ (c .refusal .ensures)
 
 refusal-requires-2 : tie.Need-refusal-requires-2
 refusal-requires-2 c κs = search needs
@@ -49,16 +48,14 @@ same-length-8 c = search needs
 
 returns-2 : tie.Need-returns-2
 returns-2 c =
-    let s = c .before .before .before .before .before .before .before .before .before .before .before .before .before .args in
     let t = c .before .before .before .long-enough in
-    too-long (s .input .now) (s .work .now) (s .pairs .now) (s .atoms .now) (s .bytes .now) (t .result) (t .ensures)
-    (not-false (t .result) (c .before .before .if1 .left)) (omega (arith, c .before .if2)) (c .refusal2 .result) (c .refusal2 .ensures)
+    too-long _ _ _ _ _ (t .result) (t .ensures) (not-false _ (c .before .before .if1 .left)) (omega (arith, c .before .if2)) _ (c .refusal2 .ensures)
 
 read-in-requires : tie.Need-read-in-requires
 read-in-requires c κs =
-    let s = c .before .before .before .before .before .before .before .before .before .before .before .before .before .before .before .before .args in
-    let t = c .before .before .before .before .before .before .long-enough in
-    asked (s .input .now) (s .work .now) (s .pairs .now) (s .atoms .now) (s .bytes .now) (t .result) (t .ensures) (not-false (t .result) (c .before .before .before .before .before .if1 .left)) (omega (arith, c .before .before .before .before .if2))
+    let short = c .before .before .before .before in
+    let t = short .before .before .long-enough in
+    (sym (t .ensures) ∙ not-false _ (short .before .if1 .left), omega (arith, short .if2))
 
 same-length-9 : tie.Need-same-length-9
 same-length-9 c = search needs
@@ -74,12 +71,10 @@ same-length-12 c = search needs
 
 returns-3 : tie.Need-returns-3
 returns-3 c =
-    let s = c .before .before .before .before .before .before .before .before .before .before .before .before .before .before .before .before .before .before .before .before .before .before .before .before .before .args in
-    let t = c .before .before .before .before .before .before .before .before .before .before .before .before .before .before .before .long-enough in
-    let x = c .before .before .before .before .before .before .before .before .read-in in
-    within (s .input .now) (s .work .now) (s .pairs .now) (s .atoms .now) (s .bytes .now) (t .result) (t .ensures)
-    (not-false (t .result) (c .before .before .before .before .before .before .before .before .before .before .before .before .before .before .if1 .left)) (omega (arith, c .before .before .before .before .before .before .before .before .before .before .before .before .before .if2))
-    (x .result) (x .last .1 .0) (x .last .1 .1 .0) (x .last .1 .1 .1 .0) (x .last .1 .1 .1 .1 .0) (x .ensures)
+    let read = c .before .before .before .before .before .before .before .before in
+    let short = read .before .before .before .before .before in
+    let t = short .before .before .long-enough in
+    within _ _ _ _ _ (t .result) (t .ensures) (not-false _ (short .before .if1 .left)) (omega (arith, short .if2)) _ (read .read-in .ensures)
 
 pub nikvoldra-read-spec : {M : Type 1} → statement M
 nikvoldra-read-spec =

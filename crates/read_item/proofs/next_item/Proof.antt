@@ -18,45 +18,44 @@ enum-told-2 c = search needs
 
 pair-item-requires : tie.Need-pair-item-requires
 pair-item-requires c κs =
-    let s = c .before .before .before .before .before .before .before .before .before in
-    let t = told (s .args .input .now) (s .args .r .position) (c .before .before .before .head-at .result) head.Pair (c .before .before .before .head-at .ensures) (c .before .enum-told2 .given .1) in
-    items.pair-room (s .args .input .now) (s .args .work .now) (s .args .pairs .now) (s .args .atoms .now) (s .args .bytes .now) (s .args .r) (t .0) (s .pre)
+    let h = c .before .before .before in
+    let p = h .before .before .before .before .before .before .pre in
+    let t = told _ _ _ head.Pair (h .head-at .ensures) (c .before .enum-told2 .given .1) in
+    items.pair-room _ _ _ _ _ _ (t .0) p
 
 enum-known-found : tie.Need-enum-known-found
 enum-known-found c = search needs
 
 path-item-requires : tie.Need-path-item-requires
 path-item-requires c κs =
-    let s = c .before .before .before .before .before .before .before .before .before .before .before in
-    let g = c .before .before .before .found .given in
-    let t = told (s .args .input .now) (s .args .r .position) (c .before .before .before .before .before .head-at .result) (head.Path (g .0 .0)) (c .before .before .before .before .before .head-at .ensures) (g .1) in
-    (items.before-path (s .args .input .now) (s .args .work .now) (s .args .pairs .now) (s .args .atoms .now) (s .args .bytes .now) (s .args .r) (t .0) (s .pre), t .2)
+    let h = c .before .before .before .before .before in
+    let p = h .before .before .before .before .before .before .pre in
+    let t = told _ _ _ (head.Path _) (h .head-at .ensures) (c .before .before .before .found .given .1) in
+    (items.before-path _ _ _ _ _ _ (t .0) p, t .2)
 
 enum-known-found-2 : tie.Need-enum-known-found-2
 enum-known-found-2 c = search needs
 
 atom-item-requires : tie.Need-atom-item-requires
 atom-item-requires c κs =
-    let s = c .before .before .before .before .before .before .before .before .before .before .before .before .before in
-    let g = c .before .before .before .before .before .found2 .given in
-    let t = told (s .args .input .now) (s .args .r .position) (c .before .before .before .before .before .before .before .head-at .result) (head.Atom (g .0 .0)) (c .before .before .before .before .before .before .before .head-at .ensures) (g .1) in
-    (s .pre, t .3)
+    let h = c .before .before .before .before .before .before .before in
+    let p = h .before .before .before .before .before .before .pre in
+    let t = told _ _ _ (head.Atom _) (h .head-at .ensures) (c .before .before .before .before .before .found2 .given .1) in
+    (p, t .3)
 
 returns : tie.Need-returns
-returns c =
-    let s = c .before .before .before .before .before .before .before .before in
-    let t = told (s .args .input .now) (s .args .r .position) (c .before .before .head-at .result) head.End (c .before .before .head-at .ensures) (c .enum-told .given .1) in
-    record { same = items.step-end (s .args .input .now) (s .args .work .now) (s .args .pairs .now) (s .args .atoms .now) (s .args .bytes .now) (s .args .r) t; stands = tt }
+returns c = items.end-stepped _ _ _ _ _ _ (told _ _ _ head.End (c .before .before .head-at .ensures) (c .enum-told .given .1))
 
 same-length : tie.Need-same-length
 same-length c = search needs
 
 returns-2 : tie.Need-returns-2
 returns-2 c =
-    let s = c .before .before .before .before .before .before .before .before .before .before .before .before in
-    let t = told (s .args .input .now) (s .args .r .position) (c .before .before .before .before .before .before .head-at .result) head.Pair (c .before .before .before .before .before .before .head-at .ensures) (c .before .before .before .before .enum-told2 .given .1) in
     let q = c .before .before .pair-item in
-    items.pair-stepped (s .args .input .now) (s .args .work .now) (s .args .pairs .now) (s .args .atoms .now) (s .args .bytes .now) (s .args .r) (t .0) (s .pre) (q .last .0) (q .kept .0) (q .ensures .0) (t .1) (q .result) (q .ensures .1)
+    let h = c .before .before .before .before .before .before in
+    let p = h .before .before .before .before .before .before .pre in
+    let t = told _ _ _ head.Pair (h .head-at .ensures) (c .before .before .before .before .enum-told2 .given .1) in
+    items.pair-stepped _ _ _ _ _ _ (t .0) p _ (q .kept .0) (q .ensures .0) (t .1) _ (q .ensures .1)
 
 same-length-2 : tie.Need-same-length-2
 same-length-2 c = search needs
@@ -66,11 +65,11 @@ same-length-3 c = search needs
 
 returns-3 : tie.Need-returns-3
 returns-3 c =
-    let s = c .before .before .before .before .before .before .before .before .before .before .before .before .before .before .before .before in
-    let g = c .before .before .before .before .before .before .before .before .found .given in
-    let t = told (s .args .input .now) (s .args .r .position) (c .before .before .before .before .before .before .before .before .before .before .head-at .result) (head.Path (g .0 .0)) (c .before .before .before .before .before .before .before .before .before .before .head-at .ensures) (g .1) in
-    let q = c .before .before .before .before .path-item in
-    items.path-stepped (s .args .input .now) (s .args .work .now) (s .args .pairs .now) (s .args .atoms .now) (s .args .bytes .now) (s .args .r) (t .0) (s .pre) (q .last .1 .0) (q .last .1 .1 .0) (q .result) (t .1) (q .ensures)
+    let path = c .before .before .before .before in
+    let h = path .before .before .before .before .before .before in
+    let p = h .before .before .before .before .before .before .pre in
+    let t = told _ _ _ (head.Path _) (h .head-at .ensures) (path .before .before .before .before .found .given .1) in
+    items.path-stepped _ _ _ _ _ _ (t .0) p _ _ _ (t .1) (path .path-item .ensures)
 
 same-length-4 : tie.Need-same-length-4
 same-length-4 c = search needs
@@ -86,11 +85,11 @@ same-length-7 c = search needs
 
 returns-4 : tie.Need-returns-4
 returns-4 c =
-    let s = c .before .before .before .before .before .before .before .before .before .before .before .before .before .before .before .before .before .before .before .before .before .before in
-    let g = c .before .before .before .before .before .before .before .before .before .before .before .before .before .before .found2 .given in
-    let t = told (s .args .input .now) (s .args .r .position) (c .before .before .before .before .before .before .before .before .before .before .before .before .before .before .before .before .head-at .result) (head.Atom (g .0 .0)) (c .before .before .before .before .before .before .before .before .before .before .before .before .before .before .before .before .head-at .ensures) (g .1) in
-    let q = c .before .before .before .before .before .before .before .before .atom-item in
-    items.atom-stepped (s .args .input .now) (s .args .work .now) (s .args .pairs .now) (s .args .atoms .now) (s .args .bytes .now) (s .args .r) (t .0) (s .pre) (q .last .1 .0) (q .last .1 .1 .0) (q .last .1 .1 .1 .0) (q .last .1 .1 .1 .1 .0) (q .result) (t .1) (t .2) (q .ensures)
+    let atom = c .before .before .before .before .before .before .before .before in
+    let h = atom .before .before .before .before .before .before .before .before in
+    let p = h .before .before .before .before .before .before .pre in
+    let t = told _ _ _ (head.Atom _) (h .head-at .ensures) (atom .before .before .before .before .before .before .found2 .given .1) in
+    items.atom-stepped _ _ _ _ _ _ (t .0) p _ _ _ _ _ (t .1) (t .2) (atom .atom-item .ensures)
 
 pub next-item-spec : {M : Type 1} → statement M
 next-item-spec =

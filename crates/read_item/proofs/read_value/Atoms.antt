@@ -17,6 +17,7 @@ use Rattle.spec_reading.specs.Blobs.{Within, blob-within, length-blob}
 use Rattle.read_store.specs.Layout.{ops-of, values-of}
 use Rattle.read_item.specs.declared.settle.Reader.{Reader}
 use Rattle.read_item.specs.declared.settle.Item.{Item}
+use Rattle.read_item.specs.declared.settle.Item.the-variants as item
 use Rattle.read_item.specs.State.{Ready, Next}
 use Rattle.read_item.specs.Whole.{stored-of, Lent, Stands}
 use Rattle.read_item.specs.Values.{AtomRoom, AtomPushed, SteppedAtom}
@@ -175,7 +176,9 @@ module _ (input w p a b : List ℕ) (r : Reader) (h : Stands input w p a b r) (s
         rest-is = drop-drop (f .size) (r .position) input ∙ ap (λ (n : ℕ). drop n input) (sym (k .position ∙ f .end-is))
 
 -- The parser's refusal is the definition's.
-pub atom-refused : (input w p a b : List ℕ) (r : Reader) (n : ℕ) → refused n ≡ parse-at input (r .position)
-    → atom-item store-values (parse (drop (r .position) input)) (drop (r .position) input) (ops-of w (r .ops)) (stored-of w p a b r) ≡ stop n
+pub atom-refused : (input w p a b : List ℕ) (r : Reader) (n : ℕ) → refused n ≡ parse-at input (r .position) → SteppedAtom input w p a b r w p a b (item.Refused n)
 atom-refused input w p a b r n e =
-    ap (λ (z : Parse). atom-item store-values z (drop (r .position) input) (ops-of w (r .ops)) (stored-of w p a b r)) (refused-at input (r .position) n e)
+    record {
+      same = ap (λ (z : Parse). atom-item store-values z (drop (r .position) input) (ops-of w (r .ops)) (stored-of w p a b r)) (refused-at input (r .position) n e);
+      stands = tt;
+    }

@@ -26,9 +26,12 @@ use Rattle.read_path.specs.Answers as walk-law
 use Rattle.read_path.specs.Lists.{HaveLists}
 use Rattle.read_path.specs.Leads as leads
 use Rattle.read_path.specs.declared.stack_list.Built.{Built}
+use Rattle.read_path.specs.declared.Traversed.{Traversed}
+use Rattle.read_path.specs.declared.Traversed.the-variants as traversed
 use Rattle.read_item.specs.declared.settle.Reader.{Reader}
+use Rattle.read_item.specs.declared.settle.Item.the-variants as item
 use Rattle.read_item.specs.State.{stored-with, Ready}
-use Rattle.read_item.specs.Values.{node-pushed, BeforePath, PathFound, path-there, PathPushed}
+use Rattle.read_item.specs.Values.{node-pushed, BeforePath, PathFound, path-there, PathPushed, SteppedPath, path-refused}
 use Rattle.read_item.proofs.settle.Joins.{length-ops, stored-is, Room, room}
 use Rattle.read_item.proofs.read_value.Atoms.{Found, found-at, refused-at}
 
@@ -110,8 +113,8 @@ module _ (input w p : List ℕ) (r : Reader) (h : BeforePath input w p r) where
   pub few-values : r .values < 131072
   few-values = omega (arith, has .values)
 
-  pub few-ghosts : (n g : ℕ) → n + g ≡ r .pairs + r .ghosts → g ≤ 131072
-  few-ghosts n g e = omega (arith, has .pairs)
+  pub few-ghosts : (t : Traversed) (b : Built) → t ≡ traversed.Node b → leads.SameTotal (r .pairs) (r .ghosts) t → b .ghosts ≤ 131072
+  few-ghosts t b e n = omega (arith, has .pairs, subst (leads.SameTotal (r .pairs) (r .ghosts)) e n .1)
 
   -- ---- the path that was found
 
@@ -146,8 +149,8 @@ module _ (input w p : List ℕ) (r : Reader) (h : BeforePath input w p r) where
     abbrev led-with : (a b : List ℕ) → Led
     led-with a b = leads.led bits (values-of w (r .values)) (stored-with w p a b r .store)
 
-    pub path-into-atom : ((s : Store) → s .pairs ≡ take (2 * r .pairs) p → s .ghosts ≡ r .ghosts → leads.led bits (values-of w (r .values)) s .node ≡ none) → (a b : List ℕ) → path-there input w p a b r ≡ stop 16
-    path-into-atom no-node a b =
+    no-node-there : ((s : Store) → s .pairs ≡ take (2 * r .pairs) p → s .ghosts ≡ r .ghosts → leads.led bits (values-of w (r .values)) s .node ≡ none) → (a b : List ℕ) → path-there input w p a b r ≡ stop 16
+    no-node-there no-node a b =
         there-is a b
         ∙ ap (λ (o : Option Stored). pushed store-values o (drop end input) (ops-of w (r .ops))) (push-path-is bits (stored-with w p a b r) ∙ ap (λ (o : Option ℕ). push-led o (led-with a b .stored)) (no-node (stored-with w p a b r .store) refl refl))
 
@@ -171,7 +174,7 @@ module _ (input w p : List ℕ) (r : Reader) (h : BeforePath input w p r) where
           k : leads.Leads w p (r .values) (r .pairs) (led-with a b) w₁ p₁ b₁
           k = l (stored-with w p a b r .store) refl refl
 
-      pub path-pushed : PathPushed input w p r w₂ p₁ (node-pushed r b₁ end)
+      path-pushed : PathPushed input w p r w₂ p₁ (node-pushed r b₁ end)
       path-pushed =
           record {
             same = λ a b.
@@ -198,7 +201,7 @@ module _ (input w p : List ℕ) (r : Reader) (h : BeforePath input w p r) where
       lists-led : HaveLists w₁ (b₁ .listed) (r .values)
       lists-led = l (stored-with w p [] [] r .store) refl refl .lists
 
-      pub path-ready : Ready w₂ p₁ (node-pushed r b₁ end)
+      path-ready : Ready w₂ p₁ (node-pushed r b₁ end)
       path-ready =
           record {
             atoms = h .atoms;
@@ -211,7 +214,33 @@ module _ (input w p : List ℕ) (r : Reader) (h : BeforePath input w p r) where
             lists = record { all = ap sound-law.unlisted (push .below (b₁ .listed) (lists-led .few)) ∙ lists-led .all; few = omega (arith, lists-led .few) };
           }
 
+    -- What the code's walk along the path's bytes gave.
+    module _ (path : List ℕ) (is : path ≡ path-bytes) (w₁ p₁ : List ℕ) (t : Traversed)
+        (l : (s : Store) → s .pairs ≡ take (2 * r .pairs) p → s .ghosts ≡ r .ghosts
+        → leads.LeadsTo w p (r .values) (r .pairs) (leads.led (read-path path) (values-of w (r .values)) s) w₁ p₁ t) where
+      led-there : (t′ : Traversed) → t ≡ t′ → (s : Store) → s .pairs ≡ take (2 * r .pairs) p → s .ghosts ≡ r .ghosts
+          → leads.LeadsTo w p (r .values) (r .pairs) (leads.led bits (values-of w (r .values)) s) w₁ p₁ t′
+      led-there t′ e s f g =
+          subst (λ (x : Traversed). leads.LeadsTo w p (r .values) (r .pairs) (leads.led bits (values-of w (r .values)) s) w₁ p₁ x) e
+          (subst (λ (x : List ℕ). leads.LeadsTo w p (r .values) (r .pairs) (leads.led (read-path x) (values-of w (r .values)) s) w₁ p₁ t) is (l s f g))
+
+      pub path-into-atom : t ≡ traversed.IntoAtom → SteppedPath input w p r w₁ p₁ (item.Refused 16)
+      path-into-atom e = path-refused 16 refl (no-node-there (led-there traversed.IntoAtom e))
+
+      -- The reader after the push: the slices are ready, and the node is on top.
+      pub node-on-top : (b₁ : Built) → t ≡ traversed.Node b₁ → leads.SameTotal (r .pairs) (r .ghosts) t → length w₁ ≡ length w → length p₁ ≡ length p
+          → (w₂ : List ℕ) → length w₂ ≡ length w₁ → PushedValue w₁ w₂ (r .values) (b₁ .node .0) → (r′ : Reader) → r′ ≡ node-pushed r b₁ end
+          → Ready w₂ p₁ r′ × PathPushed input w p r w₂ p₁ r′
+      node-on-top b₁ e n lw lp w₂ lw₂ push r′ f =
+          let m = subst (leads.SameTotal (r .pairs) (r .ghosts)) e n in
+          let k = led-there (traversed.Node b₁) e in
+          subst (λ (x : Reader). Ready w₂ p₁ x × PathPushed input w p r w₂ p₁ x) (sym f)
+          (path-ready w₁ p₁ b₁ lw lp k (m .0) (m .1) w₂ lw₂ push, path-pushed w₁ p₁ b₁ lw lp k (m .0) (m .1) w₂ lw₂ push)
+
 -- The parser's refusal is the definition's.
-pub path-turned-down : (input w p : List ℕ) (r : Reader) (n : ℕ) → refused n ≡ parse-at input (r .position + 1) → (a b : List ℕ) → path-there input w p a b r ≡ stop n
-path-turned-down input w p r n e a b =
-    ap (λ (y : Parse). path-item store-values y (drop (r .position + 1) input) (ops-of w (r .ops)) (stored-with w p a b r)) (refused-at input (r .position + 1) n e)
+pub path-turned-down : (input w p : List ℕ) (r : Reader) (n : ℕ) → refused n ≡ parse-at input (r .position + 1) → SteppedPath input w p r w p (item.Refused n)
+path-turned-down input w p r n e =
+    path-refused n refl
+    (λ a b.
+    ap (λ (y : Parse). path-item store-values y (drop (r .position + 1) input) (ops-of w (r .ops)) (stored-with w p a b r))
+    (refused-at input (r .position + 1) n e))

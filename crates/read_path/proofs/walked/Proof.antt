@@ -15,8 +15,8 @@ enum-told c = search needs
 
 returns : tie.Need-returns
 returns c =
-    let a = c .before .before .before .args in
-    ap (λ (x : Walked). reached x (a .used) (a .ghosts) (a .listed)) (sym (c .before .w .given .1))
+    let n = c .before .before .before .args .counts in
+    ap (λ (x : Walked). reached x (n .pairs) (n .ghosts) (n .listed)) (sym (c .before .w .given .1))
 
 returns-2 : tie.Need-returns-2
 returns-2 c = search needs

@@ -2,7 +2,6 @@
 -- Assumes nothing.
 use mathlib.Core.Path.{refl, sym, ap, _∙_}
 use Rattle.atom_decode.specs.Answers.{parse-of}
-use Rattle.read_item.specs.Values.{path-refused}
 use Rattle.read_item.proofs.read_value.Paths as paths
 use borrow.Author.Needs.{needs}
 use Rattle.read_item.proofs.read_value.path_item.Statement.{statement}
@@ -33,10 +32,10 @@ returns : tie.Need-returns
 returns c = search needs
 
 returns-2 : tie.Need-returns-2
-returns-2 c = let s = c .before .before .before .before .before in path-refused 14 refl (paths.path-turned-down (s .args .input .now) (s .args .work .now) (s .args .pairs .now) (s .args .r) 14 (sym (ap parse-of (c .enum-told .given .1)) ∙ s .pre .1))
+returns-2 c = paths.path-turned-down _ _ _ _ 14 (sym (ap parse-of (c .enum-told .given .1)) ∙ c .before .before .before .before .before .pre .1)
 
 returns-3 : tie.Need-returns-3
-returns-3 c = let s = c .before .before .before .before .before in path-refused 15 refl (paths.path-turned-down (s .args .input .now) (s .args .work .now) (s .args .pairs .now) (s .args .r) 15 (sym (ap parse-of (c .enum-told2 .given .1)) ∙ s .pre .1))
+returns-3 c = paths.path-turned-down _ _ _ _ 15 (sym (ap parse-of (c .enum-told2 .given .1)) ∙ c .before .before .before .before .before .pre .1)
 
 pub path-item-spec : {M : Type 1} → statement M
 path-item-spec =

@@ -19,11 +19,11 @@ new-atom-requires c κs =
 push-value-requires : tie.Need-push-value-requires
 push-value-requires c κs = search needs
 
-add-t20 : tie.Need-add-t20
-add-t20 c = search needs
+add-next : tie.Need-add-next
+add-next c = search needs
 
-add-t21 : tie.Need-add-t21
-add-t21 c = search needs
+add-next-2 : tie.Need-add-next-2
+add-next-2 c = search needs
 
 same-length : tie.Need-same-length
 same-length c = search needs
@@ -36,10 +36,11 @@ same-length-3 c = search needs
 
 returns : tie.Need-returns
 returns c =
+    let made = c .before .before .before .before .before .before .before .before .before .before in
     record {
-      node = c .before .before .before .before .before .before .before .before .before .new-atom .result .node .0;
-      pushed = c .before .before .before .push-value .ensures;
-      stored = rw (c .before .before .before .before .before .before .before .before .before .before .before .before .parse-atom-ptr .ensures) at (c .before .before .before .before .before .before .before .before .before .new-atom .ensures);
+      node = made .new-atom .result .node .0;
+      pushed = c .before .before .before .before .push-value .ensures;
+      stored = rw (made .before .before .before .parse-atom-ptr .ensures) at (made .new-atom .ensures);
       position = refl;
       ops = refl;
       values = refl;
@@ -55,8 +56,8 @@ push-atom-spec =
     parse-atom-ptr-requires
     new-atom-requires
     push-value-requires
-    add-t20
-    add-t21
+    add-next
+    add-next-2
     same-length
     same-length-2
     same-length-3

@@ -3,7 +3,7 @@
 use mathlib.Core.Path.{_≡_, refl, _∙_}
 use native.Mathlib.Omega.{arith}
 use lib.ListN.{length}
-use Rattle.read_item.specs.State.{Onward}
+use Rattle.read_item.specs.State.{Ready, Onward}
 use Rattle.read_item.proofs.settle.Joins as joins
 use Rattle.read_item.proofs.settle.join_all.Statement.{statement}
 use Rattle.read_item.proofs.settle.join_all.Tie as tie
@@ -14,24 +14,24 @@ Inv-loop work₀ pairs₀ r₀ work pairs r = (length work ≡ length work₀) �
 abbrev μ-loop : tie.MeasureT-loop
 μ-loop work₀ pairs₀ r₀ work pairs r = r .ops
 
+-- The slices are ready in each turn.
+ready : (x : tie.At-loop Inv-loop μ-loop) → Ready (x .loop .work) (x .loop .pairs) (x .loop .r)
+ready x = joins.ready-on _ _ _ _ _ _ (x .before .before .before .pre) (x .loop .inv .0) (x .loop .inv .1) (x .loop .inv .2)
+
 loop-holds : tie.Need-loop-holds Inv-loop μ-loop
-loop-holds c = (refl, refl, joins.onward-none (c .before .before .args .work .now) (c .before .before .args .pairs .now) (c .before .before .args .reader) (c .before .before .pre .pairs-in) (c .before .before .pre .lists))
+loop-holds c = let p = c .before .before .pre in (refl, refl, joins.onward-none _ _ _ (p .pairs-in) (p .lists))
 
 sub-top : tie.Need-sub-top Inv-loop μ-loop
 sub-top c = omega arith
 
 add-if2 : tie.Need-add-if2 Inv-loop μ-loop
-add-if2 c = omega (arith, joins.ready-ops (c .before .before .before .loop .work) (c .before .before .before .loop .pairs) (c .before .before .before .loop .r) (joins.ready-on (c .before .before .before .before .before .before .args .work .now) (c .before .before .before .before .before .before .args .pairs .now) (c .before .before .before .before .before .before .args .reader) (c .before .before .before .loop .work) (c .before .before .before .loop .pairs) (c .before .before .before .loop .r) (c .before .before .before .before .before .before .pre) (c .before .before .before .loop .inv .0) (c .before .before .before .loop .inv .1) (c .before .before .before .loop .inv .2)))
+add-if2 c = omega (arith, joins.ready-ops _ _ _ (ready (c .before .before .before)))
 
 mul-if2 : tie.Need-mul-if2 Inv-loop μ-loop
-mul-if2 c = omega (arith, joins.ready-ops (c .before .before .before .loop .work) (c .before .before .before .loop .pairs) (c .before .before .before .loop .r) (joins.ready-on (c .before .before .before .before .before .before .args .work .now) (c .before .before .before .before .before .before .args .pairs .now) (c .before .before .before .before .before .before .args .reader) (c .before .before .before .loop .work) (c .before .before .before .loop .pairs) (c .before .before .before .loop .r) (c .before .before .before .before .before .before .pre) (c .before .before .before .loop .inv .0) (c .before .before .before .loop .inv .1) (c .before .before .before .loop .inv .2)))
+mul-if2 c = omega (arith, joins.ready-ops _ _ _ (ready (c .before .before .before)))
 
 slice-read-if2 : tie.Need-slice-read-if2 Inv-loop μ-loop
-slice-read-if2 c =
-    let l = c .before .before .before .before .loop in
-    let s = c .before .before .before .before .before .before .before in
-    let d = joins.ready-on (s .args .work .now) (s .args .pairs .now) (s .args .reader) (l .work) (l .pairs) (l .r) (s .pre) (l .inv .0) (l .inv .1) (l .inv .2) in
-    omega (arith, joins.ready-ops (l .work) (l .pairs) (l .r) d, d .work)
+slice-read-if2 c = let d = ready (c .before .before .before .before) in omega (arith, joins.ready-ops _ _ _ d, d .work)
 
 same-length : tie.Need-same-length Inv-loop μ-loop
 same-length c = c .before .before .before .before .before .loop .inv .0
@@ -46,23 +46,18 @@ returns c =
 
 join-top-requires : tie.Need-join-top-requires Inv-loop μ-loop
 join-top-requires c κs =
-    let l = c .before .before .before .before .before .before .before .loop in
-    let s = c .before .before .before .before .before .before .before .before .before .before in
-    let d = joins.ready-on (s .args .work .now) (s .args .pairs .now) (s .args .reader) (l .work) (l .pairs) (l .r) (s .pre) (l .inv .0) (l .inv .1) (l .inv .2) in
-    (d, omega arith, joins.top-join (l .work) (l .r .ops) (omega arith) (c .before .before .if2 .left))
+    let l = c .before .before .before .before .before .before .before in
+    (ready l, omega arith, joins.top-join (l .loop .work) (l .loop .r .ops) (omega arith) (c .before .before .if2 .left))
 
 loop-less : tie.Need-loop-less Inv-loop μ-loop
 loop-less c = omega (arith, c .before .before .before .before .join-top .ensures .1)
 
 loop-again : tie.Need-loop-again Inv-loop μ-loop
 loop-again c =
-    let l = c .before .before .before .before .before .before .before .before .before .before .before .before .loop in
-    let s = c .before .before .before .before .before .before .before .before .before .before .before .before .before .before .before in
-    let j = c .before .before .before .before .join-top in (
-      j .kept .0 ∙ l .inv .0,
-      j .kept .1 .0 ∙ l .inv .1,
-      joins.onward-both (s .args .work .now) (s .args .pairs .now) (s .args .reader) (l .work) (l .pairs) (l .r) (j .last .0) (j .last .1 .0) (j .result) (l .inv .1) (l .inv .2) (j .ensures .0),
-    )
+    let joined = c .before .before .before .before in
+    let j = joined .join-top in
+    let l = joined .before .before .before .before .before .before .before .before .loop in
+    (j .kept .0 ∙ l .inv .0, j .kept .1 .0 ∙ l .inv .1, joins.onward-both _ _ _ _ _ _ _ _ _ (l .inv .1) (l .inv .2) (j .ensures .0))
 
 same-length-3 : tie.Need-same-length-3 Inv-loop μ-loop
 same-length-3 c = c .before .before .loop .inv .0

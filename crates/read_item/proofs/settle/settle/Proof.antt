@@ -17,9 +17,8 @@ same-length-2 c = search needs
 
 returns : tie.Need-returns
 returns c =
-    let a = c .before .before .before .before .before .before .before .before .before .before .before .before .before .before .args in
     let j = c .before .before .before .before .before .before .before .before .join-all in
-    settling.settle-whole (a .input .now) (a .work .now) (a .pairs .now) (a .reader) (j .last .0) (j .last .1 .0) (j .result) (j .ensures) (c .before .before .if1 .taken) (c .if2 .taken)
+    settling.settle-whole _ _ _ _ _ _ _ (j .ensures) (c .before .before .if1 .taken) (c .if2 .taken)
 
 same-length-3 : tie.Need-same-length-3
 same-length-3 c = search needs
@@ -29,13 +28,13 @@ same-length-4 c = search needs
 
 returns-2 : tie.Need-returns-2
 returns-2 c =
-    let a = c .before .before .before .before .before .before .before .before .before .before .before .before .before .before .args in
-    let j = c .before .before .before .before .before .before .before .before .join-all in
-    settling.settle-left (a .input .now) (a .work .now) (a .pairs .now) (a .reader) (j .last .0) (j .last .1 .0) (j .result) (j .ensures) (c .before .before .if1 .taken)
-    (omega (arith, c .if2 .left, j .ensures .onward .follows .position, c .before .before .before .before .before .before .before .before .before .before .before .before .before .before .pre .1))
+    let joined = c .before .before .before .before .before .before .before .before in
+    let j = joined .join-all in
+    let inside = joined .before .before .before .before .before .before .pre .1 in
+    settling.settle-left _ _ _ _ _ _ _ (j .ensures) (c .before .before .if1 .taken) (omega (arith, c .if2 .left, j .ensures .onward .follows .position, inside))
 
-sub-t13 : tie.Need-sub-t13
-sub-t13 c = search needs
+sub-r : tie.Need-sub-r
+sub-r c = search needs
 
 same-length-5 : tie.Need-same-length-5
 same-length-5 c = search needs
@@ -44,10 +43,7 @@ same-length-6 : tie.Need-same-length-6
 same-length-6 c = search needs
 
 returns-3 : tie.Need-returns-3
-returns-3 c =
-    let a = c .before .before .before .before .before .before .before .before .before .before .before .before .before .args in
-    let j = c .before .before .before .before .before .before .before .join-all in
-    settling.settle-go (a .input .now) (a .work .now) (a .pairs .now) (a .reader) (j .last .0) (j .last .1 .0) (j .result) (j .ensures) (omega arith)
+returns-3 c = settling.settle-go _ _ _ _ _ _ _ (c .before .before .before .before .before .before .before .join-all .ensures) (omega arith)
 
 pub settle-spec : {M : Type 1} → statement M
 settle-spec =
@@ -60,7 +56,7 @@ settle-spec =
     same-length-3
     same-length-4
     returns-2
-    sub-t13
+    sub-r
     same-length-5
     same-length-6
     returns-3)

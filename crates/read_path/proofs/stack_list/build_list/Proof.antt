@@ -1,5 +1,5 @@
--- `read_path::stack_list::build_list` meets its contract. The loop's invariant: the list of the lowest i values is made, and a ghost pair was spent for each of them without a list.
--- Assumes nothing.
+-- `read_path::stack_list::build_list` meets its contract. The loop's invariant: the list of the lowest i values is made, and a ghost
+-- pair was spent for each of them without a list. Assumes nothing.
 use Prim.Native.Nat.{_+_, _-_, _≤_}
 use mathlib.Core.Path.{_≡_, refl, _∙_}
 use native.Mathlib.Omega.{arith}
@@ -13,50 +13,46 @@ use Rattle.read_path.proofs.stack_list.build_list.Statement.{statement}
 use Rattle.read_path.proofs.stack_list.build_list.Tie as tie
 
 abbrev Inv-loop : tie.InvT-loop
-Inv-loop work₀ pairs₀ count listed used ghosts i₀ b₀ work pairs i b =
-    (i ≤ count) × (length work ≡ length work₀) × (length pairs ≡ length pairs₀) × Lists work₀ pairs₀ i listed used ghosts work pairs b
-    × (b .ghosts + unlisted (values-of work₀ i) ≡ ghosts)
+Inv-loop work₀ pairs₀ count i₀ b₀ work pairs i b =
+    (i ≤ count) × (length work ≡ length work₀) × (length pairs ≡ length pairs₀)
+    × Lists work₀ pairs₀ i (b₀ .listed) (b₀ .pairs) (b₀ .ghosts) work pairs b
+    × (b .ghosts + unlisted (values-of work₀ i) ≡ b₀ .ghosts)
 
 abbrev μ-loop : tie.MeasureT-loop
-μ-loop work₀ pairs₀ count listed used ghosts i₀ b₀ work pairs i b = count - i
+μ-loop work₀ pairs₀ count i₀ b₀ work pairs i b = count - i
 
 listed-among-requires : tie.Need-listed-among-requires Inv-loop μ-loop
 listed-among-requires c κs = search needs
 
 list-at-requires : tie.Need-list-at-requires Inv-loop μ-loop
 list-at-requires c κs =
-    let o = c .before .before .before .before in
+    let p = c .before .before .before .before .pre in
     let i = c .before .listed-among in
-    (o .pre .work, record { all = fewer-listed (o .args .work .now) (i .result) (o .args .listed) (i .ensures .0) (o .pre .lists); few = omega (arith, i .ensures .1, o .pre .few) })
+    (p .work, record { all = fewer-listed _ _ _ (i .ensures .0) (p .lists); few = omega (arith, i .ensures .1, p .few) })
 
 loop-holds : tie.Need-loop-holds Inv-loop μ-loop
 loop-holds c =
-    let o = c .before .before .before .before .before in
-    let a = o .args in
-    let i = c .before .before .listed-among in (
-      i .ensures .1,
-      refl,
-      refl,
-      lists-start (a .work .now) (a .pairs .now) (i .result) (a .listed) (a .used) (a .ghosts) _ (i .ensures .0) (o .pre .lists) (c .list-at .ensures) refl refl refl,
-      spent-start (a .work .now) (i .result) (a .listed) (a .ghosts) (i .ensures .0) (o .pre .lists),
-    )
+    let p = c .before .before .before .before .before .pre in
+    let i = c .before .before .listed-among .ensures in
+    (i .1, refl, refl, lists-start _ _ _ _ _ _ _ (i .0) (p .lists) (c .list-at .ensures) refl refl refl, spent-start _ _ _ _ (i .0) (p .lists))
 
 add-value-requires : tie.Need-add-value-requires Inv-loop μ-loop
 add-value-requires c κs =
     let h = c .before .before .before in
-    let o = h .before .before .before .before .before .before in
-    let a = o .args in
+    let p = h .before .before .before .before .before .before .pre in
+    let some-left = c .before .before .loop-test .taken in
     record {
-      work = omega (arith, o .pre .work, h .loop .inv .1);
-      pairs = omega (arith, o .pre .pairs, h .loop .inv .2);
-      few = omega (arith, o .pre .few, c .before .before .loop-test .taken);
-      ghost = one-left (a .work .now) (a .pairs .now) (a .listed) (a .used) (a .ghosts) (h .loop .i) (a .count) (h .loop .work) (h .loop .pairs) (h .loop .b) (h .loop .inv .3)
-          (c .before .before .loop-test .taken) (o .pre .ghost) (h .loop .inv .4);
-      room = omega (arith, o .pre .room, h .loop .inv .3 .total);
+      work = omega (arith, p .work, h .loop .inv .1);
+      pairs = omega (arith, p .pairs, h .loop .inv .2);
+      few = omega (arith, p .few, some-left);
+      ghost = one-left _ _ _ _ _ _ _ _ _ _ (h .loop .inv .3) some-left (p .ghost) (h .loop .inv .4);
+      room = omega (arith, p .room, h .loop .inv .3 .total);
     }
 
 add-i : tie.Need-add-i Inv-loop μ-loop
-add-i c = omega (arith, c .before .before .before .before .before .before .before .loop-test .taken, c .before .before .before .before .before .before .before .before .before .before .before .before .before .before .pre .few)
+add-i c =
+    let turn = c .before .before .before .before .before .before .before in
+    omega (arith, turn .loop-test .taken, turn .before .before .before .before .before .before .before .pre .few)
 
 loop-less : tie.Need-loop-less Inv-loop μ-loop
 loop-less c = omega (arith, c .before .before .before .before .before .before .before .loop-test .taken)
@@ -64,15 +60,12 @@ loop-less c = omega (arith, c .before .before .before .before .before .before .b
 loop-again : tie.Need-loop-again Inv-loop μ-loop
 loop-again c =
     let h = c .before .before .before .before .before .before .before .before in
-    let a = h .before .before .before .before .before .before .args in
     let r = c .before .before .before .before .add-value in (
       omega (arith, c .before .before .before .before .before .before .before .loop-test .taken),
       r .kept .0 ∙ h .loop .inv .1,
       r .kept .1 .0 ∙ h .loop .inv .2,
-      lists-more (a .work .now) (a .pairs .now) (a .listed) (a .used) (a .ghosts) (h .loop .i) (h .loop .work) (h .loop .pairs) (h .loop .b) (h .loop .inv .3)
-          (r .last .0) (r .last .1 .0) (r .result) (r .ensures),
-      spent-more (a .work .now) (a .pairs .now) (a .listed) (a .used) (a .ghosts) (h .loop .i) (h .loop .work) (h .loop .pairs) (h .loop .b) (h .loop .inv .3)
-          (r .last .0) (r .last .1 .0) (r .result) (r .ensures) (h .loop .inv .4),
+      lists-more _ _ _ _ _ _ _ _ _ (h .loop .inv .3) _ _ _ (r .ensures),
+      spent-more _ _ _ _ _ _ _ _ _ (h .loop .inv .3) _ _ _ (r .ensures) (h .loop .inv .4),
     )
 
 same-length : tie.Need-same-length Inv-loop μ-loop
@@ -83,9 +76,8 @@ same-length-2 c = c .before .loop .inv .2
 
 returns : tie.Need-returns Inv-loop μ-loop
 returns c =
-    let h = c .before in
-    let a = h .before .before .before .before .before .before .args in
-    lists-end (a .work .now) (a .pairs .now) (h .loop .i) (a .count) (a .listed) (a .used) (a .ghosts) (h .loop .work) (h .loop .pairs) (h .loop .b) (omega (arith, h .loop .inv .0, c .loop-test .left)) (h .loop .inv .3)
+    let h = c .before .loop in
+    lists-end _ _ _ _ _ _ _ _ _ _ (omega (arith, h .inv .0, c .loop-test .left)) (h .inv .3)
 
 pub build-list-spec : {M : Type 1} → statement M
 build-list-spec = tie.close (tie.spec Inv-loop μ-loop listed-among-requires list-at-requires loop-holds add-value-requires add-i loop-less loop-again same-length same-length-2 returns)

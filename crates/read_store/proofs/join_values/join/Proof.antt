@@ -1,5 +1,5 @@
--- `read_store::join_values::join` meets its contract: `new_pair` appends the pair of the second and the first value, and `push_value` puts it over the second.
--- Assumes nothing.
+-- `read_store::join_values::join` meets its contract: `new_pair` appends the pair of the second and the first value, and `push_value`
+-- puts it over the second. Assumes nothing.
 use native.Mathlib.Omega.{arith}
 use borrow.Author.Needs.{needs}
 use Rattle.read_store.proofs.join_values.Joining.{joined}
@@ -53,12 +53,8 @@ same-length-2 c = search needs
 
 returns : tie.Need-returns
 returns c =
-    let a = c .before .before .before .before .before .before .before .before .before .before .before .before .args in
-    let n = c .before .before .before .before .before .before .new-pair in
-    joined (a .work .now) (a .pairs .now) (a .values) (a .used) (n .result .0) _ _ (omega arith) (omega arith)
-    (n .ensures .0)
-    (n .ensures .1)
-    (c .before .before .push-value .ensures)
+    let n = c .before .before .before .before .before .before .new-pair .ensures in
+    joined _ _ _ _ _ _ _ (omega arith) (omega arith) (n .0) (n .1) (c .before .before .push-value .ensures)
 
 pub join-spec : {M : Type 1} → statement M
 join-spec =
