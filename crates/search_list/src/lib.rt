@@ -14,9 +14,16 @@ ghost use Rattle.work_layout.specs.Layout.{ENTRIES, COUNTS, TOPS, PARENTS, LENS
 ghost use Rattle.search_list.specs.State.{node-at, place-at, extra-at, seen-at};
 ghost use Rattle.search_list.specs.Steps.{Stored, Marked};
 
-// After a turn: the slot of the next path, how many paths there are, and how many nodes; the slot of the path that is the result; visit 1,025.
+// A search under way: how many paths there are, how many nodes, and how many entries on the stack.
+pub struct Search {
+    pub paths: usize,
+    pub nodes: usize,
+    pub depth: usize,
+}
+
+// After a turn: the slot of the next path, and the search; the slot of the path that is the result; visit 1,025.
 pub enum Turned {
-    On(usize, usize, usize),
+    On(usize, Search),
     Result(usize),
     Capped,
 }
