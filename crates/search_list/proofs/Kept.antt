@@ -11,7 +11,7 @@ use Rattle.spec_search.specs.Search.{Trail, upward, sideward, distance}
 use Rattle.spec_search.specs.Flat.{swap-remove}
 use Rattle.words.specs.Words.{at, WORK}
 use Rattle.work_layout.specs.Layout.{PARENTS, COUNTS, STACK, SEEN, PATHS, DEPTH, ENTRIES, TOPS}
-use Rattle.search_list.specs.State.{seen-of, node-bits, trail, trail-of, trails-of, count-at}
+use Rattle.search_list.specs.State.{seen-of, node-bits, trail, trail-of, trails-of, count-at, MOST-PATHS}
 use Rattle.search_list.specs.Steps.{Links, Nodes, PathsOK, Stored, Relisted}
 use Rattle.work_layout.specs.Rows.{parents-of, stack-of, Tops}
 use Rattle.search_list.proofs.Nodes.{low-bits, low-seen, low-nodes}
@@ -63,7 +63,7 @@ pub record Up (w x : List ℕ) (c n m e k d v : ℕ) : Type 0 where
   pub slot : c < n
   pub entry : e < ENTRIES
   pub parent : k < count-at w e
-  pub room : n + (count-at w e - k) ≤ 3333
+  pub room : n + (count-at w e - k) ≤ MOST-PATHS
   pub word : v ≡ at w (PARENTS + e * 100 + k)
   pub stored : Stored w x c m v 0
   pub len : length x ≡ length w
@@ -78,7 +78,7 @@ module _ {w x : List ℕ} {c n m e k d v : ℕ} (u : Up w x c n m e k d v) where
   count-x : count-at x e ≡ count-at w e
   count-x = first .low (COUNTS + e) (omega (arith, u .entry))
 
-  pub up-asks : (Links x × Nodes x m × PathsOK x m n) × (e < ENTRIES × k + 1 ≤ count-at x e × n + (count-at x e - (k + 1)) ≤ 3333)
+  pub up-asks : (Links x × Nodes x m × PathsOK x m n) × (e < ENTRIES × k + 1 ≤ count-at x e × n + (count-at x e - (k + 1)) ≤ MOST-PATHS)
   up-asks =
       let q = count-x in
       let h = u .parent in
@@ -114,7 +114,7 @@ module _ {w x : List ℕ} {c n m e k d v : ℕ} (u : Up w x c n m e k d v) where
     up-count =
         omega (arith, ap length second, length-trails y n₂, length-append (set (trails-of w n) c (trail 0 (node-bits w m) v)) up, length-set (trails-of w n) c (trail 0 (node-bits w m) v), length-trails w n, length-drop-links)
 
-    pub up-asks-2 : (Links y × Tops y d × Nodes y m × PathsOK y m n₂) × (e < ENTRIES × n₂ < 3333)
+    pub up-asks-2 : (Links y × Tops y d × Nodes y m × PathsOK y m n₂) × (e < ENTRIES × n₂ < MOST-PATHS)
     up-asks-2 =
         let q = up-count in
         let h = u .parent in
@@ -148,7 +148,7 @@ pub record Off (w x : List ℕ) (c n m e d n₂ : ℕ) : Type 0 where
   pub long : WORK ≤ length w
   pub nodes : Nodes w m
   pub slot : c < n
-  pub room : n < 3333
+  pub room : n < MOST-PATHS
   pub list : Relisted w x m n₂ (trails-of w n ++ sideward (node-bits w m) (distance e (stack-of w d)))
   pub len : length x ≡ length w
 
@@ -161,7 +161,7 @@ module _ {w x : List ℕ} {c n m e d n₂ : ℕ} (u : Off w x c n m e d n₂) wh
   pub off-one : n₂ - 1 + 1 ≡ n₂
   off-one = omega (arith, off-count .0, u .slot)
 
-  pub off-asks : (WORK ≤ length x) × Nodes x m × PathsOK x m (n₂ - 1 + 1) × (c < n₂ - 1 + 1) × (n₂ - 1 < 3333)
+  pub off-asks : (WORK ≤ length x) × Nodes x m × PathsOK x m (n₂ - 1 + 1) × (c < n₂ - 1 + 1) × (n₂ - 1 < MOST-PATHS)
   off-asks =
       let a = off-count in
       let h = u .slot in

@@ -19,7 +19,7 @@ use Rattle.search_list.proofs.CursorLaws.{over, over-mid, over-less, is
 use Rattle.search_list.specs.declared.Turned.the-variants.{On, Result, Capped}
 use Rattle.work_layout.specs.Layout.{PARENTS, COUNTS, PATHS, DEPTH, ENTRIES}
 use Rattle.work_layout.specs.Rows.{parents-of, stack-of, Tops}
-use Rattle.search_list.specs.State.{parents-of-all, seen-of, node-bits, trail, trail-of, trails-of, node-at, place-at, extra-at, seen-at, count-at, Readable}
+use Rattle.search_list.specs.State.{parents-of-all, seen-of, node-bits, trail, trail-of, trails-of, node-at, place-at, extra-at, seen-at, count-at, Readable, MOST-PATHS}
 use Rattle.search_list.specs.Steps.{search-of, unseen, Links, Nodes, PathOK, PathsOK, Working, Kept, Stored, Relisted, Visited, FirstUnseen, Turns, Steps}
 use Rattle.path.specs.Bytes.{odd}
 use Rattle.words.proofs.Words.{tabulate-same}
@@ -63,7 +63,7 @@ module _ (w : List ℕ) (d c n m : ℕ) (ok : Working w d n m) (hc : c < n) wher
   readable : Readable w c
   readable =
       let p : PathOK w m c = ok .paths c hc in
-      let f : m ≤ 1024 = ok .nodes .few in
+      let f : m ≤ most-visits = ok .nodes .few in
       let q : node-at w c ≤ m = p .node in
       record {
         slot = omega (arith, few);
@@ -251,13 +251,13 @@ module _ (w : List ℕ) (d c n m : ℕ) (ok : Working w d n m) (hc : c < n) (hx 
     unfolding e
     not-member = sym is-member ∙ sym un
 
-    pub entry-capped : m ≡ 1024 → Steps w w d c n m Capped
+    pub entry-capped : m ≡ most-visits → Steps w w d c n m Capped
     unfolding e P S seen
     entry-capped h =
         turned-capped w d c n m ok hc
         (step-at ∙ cond-false _ _ _ not-member ∙ cond-false _ _ _ (le-ltb (length (seen-of w m)) most-visits (omega (arith, length-seen w m))))
 
-    module _ (hm : m < 1024) (x : List ℕ) (lx : length x ≡ length w) (v : Visited w x c m) where
+    module _ (hm : m < most-visits) (x : List ℕ) (lx : length x ≡ length w) (v : Visited w x c m) where
       S′ : List ℕ
       S′ = seen-of x (m + 1)
 
@@ -301,11 +301,11 @@ module _ (w : List ℕ) (d c n m : ℕ) (ok : Working w d n m) (hc : c < n) (hx 
           ∙ rw (v .seen, v .bits, stack-same w x d (v .low) (ok .tops .deep), low-links-of w x (ok .links) (v .low) lx (place-at w c / 2) entry-low, parents-are w (place-at w c / 2) (ok .links) entry-low)
 
       pub visit-asks : (k : ℕ) → k < count-at x (place-at w c / 2)
-          → (Links x × Tops x d × Nodes x (m + 1) × PathsOK x (m + 1) n) × (c < n × place-at w c / 2 < ENTRIES × k < count-at x (place-at w c / 2) × n + (count-at x (place-at w c / 2) - k) ≤ 3333)
+          → (Links x × Tops x d × Nodes x (m + 1) × PathsOK x (m + 1) n) × (c < n × place-at w c / 2 < ENTRIES × k < count-at x (place-at w c / 2) × n + (count-at x (place-at w c / 2) - k) ≤ MOST-PATHS)
       unfolding e
       visit-asks k h = ((links-x, tops-x, v .nodes, paths-x), (hc, entry-low, h, omega (arith, spare, count-x)))
 
-      pub visit-asks-2 : (Links x × Tops x d × Nodes x (m + 1) × PathsOK x (m + 1) n) × (c < n × place-at w c / 2 < ENTRIES × n < 3333)
+      pub visit-asks-2 : (Links x × Tops x d × Nodes x (m + 1) × PathsOK x (m + 1) n) × (c < n × place-at w c / 2 < ENTRIES × n < MOST-PATHS)
       visit-asks-2 = ((links-x, tops-x, v .nodes, paths-x), (hc, entry-low, omega (arith, few w d c n m ok hc)))
 
       module _ (k : ℕ) (f : FirstUnseen x (place-at w c / 2) k) (y : List ℕ) (ly : length y ≡ length x) (n′ : ℕ) where

@@ -8,7 +8,7 @@ use Prim.Native.Nat.{ℕ, zero, suc, _+_, _*_, _/_, _-_, _≤_, _<_}
 use lib.ListN.{length, drop}
 use Rattle.words.specs.Words.{at, WORK}
 use Rattle.path.specs.Bytes.{odd}
-use Rattle.spec_search.specs.Search.{Trail, member, distance, upward, sideward, Passed, found, gone}
+use Rattle.spec_search.specs.Search.{Trail, member, distance, upward, sideward, Passed, found, gone, most-visits}
 use Rattle.spec_search.specs.Lists.{size}
 use Rattle.work_layout.specs.Layout.{COUNTS, PARENTS, SEEN, PREVS, LENS, PATHS, COPIES, ENTRIES, DEPTH}
 use Rattle.work_layout.specs.Rows.{parents-of, stack-of, Tops}
@@ -28,7 +28,7 @@ pub record Links (w : List ℕ) : Type 0 where
 
 -- m nodes, and the bit set of the entries seen mirrors them.
 pub record Nodes (w : List ℕ) (m : ℕ) : Type 0 where
-  pub few : m ≤ 1024
+  pub few : m ≤ most-visits
   pub prev : (k : ℕ) → k < m → at w (PREVS + suc k) ≤ k
   pub lens : (k : ℕ) → k ≤ m → at w (LENS + k) ≡ length (node-bits w k)
   pub short : (k : ℕ) → k ≤ m → at w (LENS + k) ≤ k

@@ -6,13 +6,13 @@ ghost use lib.ListN.{length};
 ghost use Rattle.words.specs.Words.{at, WORK};
 ghost use Rattle.work_layout.specs.Layout.{ENTRIES, PARENTS};
 ghost use Rattle.work_layout.specs.Rows.{parent-of, Tops};
-ghost use Rattle.spec_search.specs.Search.{upward};
+ghost use Rattle.spec_search.specs.Search.{upward, most-visits};
 ghost use Rattle.search_list.specs.Steps.{PathsOK, copies, stacked, Links, Nodes, Relisted, Visited};
-ghost use Rattle.search_list.specs.State.{seen-of, node-bits, trails-of, node-at, place-at, count-at};
+ghost use Rattle.search_list.specs.State.{seen-of, node-bits, trails-of, node-at, place-at, count-at, MOST-PATHS};
 
 // A visit by the path in `slot`: the next node has its bits and its position bit, and its entry is seen.
 pub fn add_node(work: &mut [u32], slot: usize, nodes: usize)
-    requires { ⌜ (WORK ≤ length (now work)) × (Nodes (now work) nodes) × (nodes < 1024) × (slot < 3333) ⌝ }
+    requires { ⌜ (WORK ≤ length (now work)) × (Nodes (now work) nodes) × (nodes < most-visits) × (slot < MOST-PATHS) ⌝ }
     requires { ⌜ (node-at (now work) slot ≤ nodes) × (place-at (now work) slot < 2 * ENTRIES) ⌝ }
     ensures { λ _. ⌜ Visited (now (work .entry)) (now (work .exit)) slot nodes ⌝ }
 {
@@ -29,7 +29,7 @@ pub fn add_node(work: &mut [u32], slot: usize, nodes: usize)
 // A path with the bits of the last node at parent i of entry e, unless that is seen.
 fn add_copy(work: &mut [u32], e: usize, i: usize, paths: usize, nodes: usize) -> usize
     requires { ⌜ (Links (now work)) × (Nodes (now work) nodes) × (PathsOK (now work) nodes paths) ⌝ }
-    requires { ⌜ (e < ENTRIES) × (i < count-at (now work) e) × (paths < 3333) ⌝ }
+    requires { ⌜ (e < ENTRIES) × (i < count-at (now work) e) × (paths < MOST-PATHS) ⌝ }
     ensures { λ r. ⌜
         Relisted (now (work .entry)) (now (work .exit)) nodes r
         (trails-of (now (work .entry)) paths
@@ -47,7 +47,7 @@ fn add_copy(work: &mut [u32], e: usize, i: usize, paths: usize, nodes: usize) ->
 // A path with the bits of the last node at each unseen parent of entry e from parent `first` on.
 pub fn add_copies(work: &mut [u32], e: usize, first: usize, s: Search) -> usize
     requires { ⌜ (Links (now work)) × (Nodes (now work) (s .nodes)) × (PathsOK (now work) (s .nodes) (s .paths)) ⌝ }
-    requires { ⌜ (e < ENTRIES) × (first ≤ count-at (now work) e) × (s .paths + (count-at (now work) e - first) ≤ 3333) ⌝ }
+    requires { ⌜ (e < ENTRIES) × (first ≤ count-at (now work) e) × (s .paths + (count-at (now work) e - first) ≤ MOST-PATHS) ⌝ }
     ensures { λ r. ⌜
         Relisted (now (work .entry)) (now (work .exit)) (s .nodes) r
         (trails-of (now (work .entry)) (s .paths) ++ copies (now (work .entry)) (s .nodes) e first) ⌝ }
@@ -65,7 +65,7 @@ pub fn add_copies(work: &mut [u32], e: usize, first: usize, s: Search) -> usize
 // For an entry on the stack a path there, with the bits of the last node and a further 0.
 pub fn add_stacked(work: &mut [u32], e: usize, s: Search) -> usize
     requires { ⌜ (Links (now work)) × (Tops (now work) (s .depth)) × (Nodes (now work) (s .nodes)) × (PathsOK (now work) (s .nodes) (s .paths)) ⌝ }
-    requires { ⌜ (e < ENTRIES) × (s .paths < 3333) ⌝ }
+    requires { ⌜ (e < ENTRIES) × (s .paths < MOST-PATHS) ⌝ }
     ensures { λ r. ⌜
         Relisted (now (work .entry)) (now (work .exit)) (s .nodes) r
         (trails-of (now (work .entry)) (s .paths) ++ stacked (now (work .entry)) (s .nodes) e (s .depth)) ⌝ }

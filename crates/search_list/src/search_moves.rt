@@ -9,7 +9,7 @@ ghost use Rattle.work_layout.specs.Layout.{ENTRIES, PARENTS};
 ghost use Rattle.work_layout.specs.Rows.{Tops};
 ghost use Rattle.spec_search.specs.Flat.{swap-remove};
 ghost use Rattle.search_list.specs.Steps.{PathsOK, copies, stacked, Links, Nodes, Relisted, FirstUnseen};
-ghost use Rattle.search_list.specs.State.{node-bits, trail-of, trails-of, trail, count-at};
+ghost use Rattle.search_list.specs.State.{node-bits, trail-of, trails-of, trail, count-at, MOST-PATHS};
 
 // The first parent of entry e that is not seen, or how many it has.
 pub fn first_unseen(work: &[u32], e: usize) -> usize
@@ -34,7 +34,7 @@ pub fn drop_path(work: &mut [u32], slot: usize, last: usize, nodes: usize)
         × (Nodes (now work) nodes)
         × (PathsOK (now work) nodes (last + 1))
         × (slot < last + 1)
-        × (last < 3333) ⌝ }
+        × (last < MOST-PATHS) ⌝ }
     ensures { λ _. ⌜
         Relisted (now (work .entry)) (now (work .exit)) nodes last
         (swap-remove (trails-of (now (work .entry)) (last + 1)) slot (trail-of (now (work .entry)) slot)) ⌝ }
@@ -49,7 +49,7 @@ pub fn drop_path(work: &mut [u32], slot: usize, last: usize, nodes: usize)
 // paths there are then.
 pub fn go_up(work: &mut [u32], slot: usize, s: Search, e: usize, k: usize) -> usize
     requires { ⌜ (Links (now work)) × (Tops (now work) (s .depth)) × (Nodes (now work) (s .nodes)) × (PathsOK (now work) (s .nodes) (s .paths)) ⌝ }
-    requires { ⌜ (slot < s .paths) × (e < ENTRIES) × (k < count-at (now work) e) × (s .paths + (count-at (now work) e - k) ≤ 3333) ⌝ }
+    requires { ⌜ (slot < s .paths) × (e < ENTRIES) × (k < count-at (now work) e) × (s .paths + (count-at (now work) e - k) ≤ MOST-PATHS) ⌝ }
     ensures { λ r. ⌜
         Relisted (now (work .entry)) (now (work .exit)) (s .nodes) r
         (set (trails-of (now (work .entry)) (s .paths)) slot
@@ -66,7 +66,7 @@ pub fn go_up(work: &mut [u32], slot: usize, s: Search, e: usize, k: usize) -> us
 // The path in `slot` is dropped, and the stack gets a copy.
 pub fn go_off(work: &mut [u32], slot: usize, s: Search, e: usize) -> usize
     requires { ⌜ (Links (now work)) × (Tops (now work) (s .depth)) × (Nodes (now work) (s .nodes)) × (PathsOK (now work) (s .nodes) (s .paths)) ⌝ }
-    requires { ⌜ (slot < s .paths) × (e < ENTRIES) × (s .paths < 3333) ⌝ }
+    requires { ⌜ (slot < s .paths) × (e < ENTRIES) × (s .paths < MOST-PATHS) ⌝ }
     ensures { λ r. ⌜
         Relisted (now (work .entry)) (now (work .exit)) (s .nodes) r
         (swap-remove (trails-of (now (work .entry)) (s .paths) ++ stacked (now (work .entry)) (s .nodes) e (s .depth)) slot

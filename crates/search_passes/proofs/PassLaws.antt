@@ -24,7 +24,7 @@ use Rattle.search_list.specs.declared.Turned.the-variants.{On, Result, Capped}
 use Rattle.search_passes.specs.declared.Passing.the-variants.{Ended, Over, Next}
 use Rattle.search_passes.specs.declared.Way.{Way}
 use Rattle.search_passes.specs.declared.Way.the-variants.{By, Nothing}
-use Rattle.work_layout.specs.Layout.{SEEN, LENS, COUNTS, ENTRIES}
+use Rattle.work_layout.specs.Layout.{SEEN, LENS, COUNTS, ENTRIES, DEPTH}
 use Rattle.path.specs.Bytes.{odd}
 use Rattle.search_list.specs.State.{seen-at, chain, node-bits, trail-of, trails-of, parents-of-all, seen-of, count-at}
 use Rattle.search_list.specs.Steps.{search-of, meaning, unseen, Links, Working, Kept, Stored, Turns, Cleared}
@@ -140,7 +140,7 @@ limited w d len e limit t h = go (decLe (8 * (len - 1)) 8192)
         → search (parents-of-all w) (stack-of w d) len e ≡ passes (parents-of-all w) (stack-of w d) (suc limit) 0 (at-entry [] e true ∷ []) []
     go (yes q) = ap (λ (k : ℕ). passes (parents-of-all w) (stack-of w d) (suc k) 0 (at-entry [] e true ∷ []) []) (sym (h .exact q))
     go (no q) =
-        let b : length (stack-of w d) ≤ 4097 = omega (arith, length-stack w d, t .deep) in
+        let b : length (stack-of w d) ≤ DEPTH = omega (arith, length-stack w d, t .deep) in
         let l : limit ≡ 8192 = h .beyond (omega arith) in
         search-enough (parents-of-all w) (stack-of w d) len e limit (omega arith) (omega arith)
 

@@ -6,8 +6,12 @@ use search_list::search_moves;
 ghost use mathlib.Core.Path.{_≡_};
 ghost use mathlib.Core.Bool.{false};
 ghost use Prim.Native.Nat.{_/_, _<_};
+ghost use Rattle.spec_search.specs.Search.{most-visits};
 ghost use Rattle.search_list.specs.Steps.{Working, Steps};
 ghost use Rattle.search_list.specs.State.{place-at, extra-at, seen-at};
+
+// The most visits of a search.
+const MOST_VISITS: usize = 1024;
 
 // The visit of the entry of the path in `slot`, which is not seen.
 fn visit(work: &mut [u32], slot: usize, s: Search) -> Turned
@@ -16,7 +20,7 @@ fn visit(work: &mut [u32], slot: usize, s: Search) -> Turned
         × (slot < s .paths)
         × (extra-at (now work) slot ≡ 0)
         × (false ≡ seen-at (now work) (place-at (now work) slot / 2))
-        × (s .nodes < 1024) ⌝ }
+        × (s .nodes < most-visits) ⌝ }
     ensures { λ r. ⌜ Steps (now (work .entry)) (now (work .exit)) (s .depth) slot (s .paths) (s .nodes) r ⌝ }
 {
     let e = words::wide(search_list::place_of(work, slot)) / 2;
@@ -45,7 +49,7 @@ pub fn step_entry(work: &mut [u32], slot: usize, s: Search) -> Turned
         search_moves::drop_path(work, slot, next.paths, s.nodes);
         return Turned::On(slot, next);
     }
-    if s.nodes == 1024 {
+    if s.nodes == MOST_VISITS {
         return Turned::Capped;
     }
     visit(work, slot, s)

@@ -1,5 +1,6 @@
 -- `search_list::search_copies::add_node` meets its contract: four stores make the node, and the mark its entry seen.
 -- Assumes nothing.
+use Rattle.spec_search.specs.Search.{most-visits}
 use Rattle.search_list.proofs.Copies.{node-added}
 use Rattle.words.specs.Words.{at}
 use lib.ListN.{length-set}
@@ -12,7 +13,7 @@ use Rattle.search_list.proofs.search_copies.add_node.Statement.{stateme
 use Rattle.search_list.proofs.search_copies.add_node.Tie as tie
 
 -- No node has more bits than there are nodes.
-short : (x : tie.After-len-of) → x .len-of .result ≤ 1024
+short : (x : tie.After-len-of) → x .len-of .result ≤ most-visits
 short x =
     let s = x .before .before .before .before .before .before .before .before in
     let a = x .before .before .before .before .before .node-of .ensures in

@@ -1,5 +1,6 @@
 -- `search_passes::search_step::step_stack` meets its contract: at the top it is the result, elsewhere it goes one place up with a 1 more.
 -- Assumes nothing.
+use Rattle.search_list.specs.State.{MOST-PATHS}
 use Rattle.search_list.proofs.TurnLaws.{few, stack-result, stack-nearer}
 use mathlib.Core.Path.{sym, _∙_}
 use Prim.Native.Nat.{_<_}
@@ -9,7 +10,7 @@ use Rattle.search_passes.proofs.search_step.step_stack.Statement.{state
 use Rattle.search_passes.proofs.search_step.step_stack.Tie as tie
 
 -- There is room for the path.
-low : (s : tie.Start) → s .args .slot < 3333
+low : (s : tie.Start) → s .args .slot < MOST-PATHS
 low s =
     let a = s .args in
     omega (arith, few (a .work .now) (a .s .depth) (a .slot) (a .s .paths) (a .s .nodes) (s .pre .0) (s .pre .1), s .pre .1)
