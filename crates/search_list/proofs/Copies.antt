@@ -8,12 +8,12 @@ use Prim.Native.Nat.{ℕ, zero, suc, _+_, _*_, _-_, _/_, _≤_, _<_}
 use native.Mathlib.Omega.{arith}
 use lib.ListN.{length, set, drop, length-append}
 use native.Mathlib.Decide.{ℕ-discrete}
-use Rattle.spec_search.specs.Search.{Trail, member, upward, sideward, distance}
+use Rattle.spec_search.specs.Search.{Trail, member, upward, sideward, distance, most-visits}
 use Rattle.words.specs.Choice.{cond-true, cond-false}
 use Rattle.words.specs.Words.{at, WORK}
 use Rattle.work_layout.specs.Layout.{PARENTS, COUNTS, PREVS, NODES, LENS, PATHS, COPIES, DEPTH, ENTRIES, TOPS}
 use Rattle.search_list.specs.Steps.{from-top, Links, Nodes, PathsOK, Stored, Relisted, Marked, Visited, FirstUnseen}
-use Rattle.search_list.specs.State.{seen-of, node-bits, trail, trails-of, node-at, place-at, seen-at, count-at}
+use Rattle.search_list.specs.State.{seen-of, node-bits, trail, trails-of, node-at, place-at, seen-at, count-at, MOST-PATHS}
 use Rattle.work_layout.specs.Rows.{parent-of, parents-of, stack-of, Tops}
 use Rattle.words.proofs.Words.{Store, stores, miss, hits}
 use Rattle.search_list.proofs.Nodes.{low-bits, low-seen, low-nodes, node-made}
@@ -23,7 +23,7 @@ use Rattle.search_list.proofs.Upward.{links-cons, links-end, length-upw
 
 -- ---- a node more
 
-pub node-added : (w y : List ℕ) (c m a v l : ℕ) → WORK ≤ length w → Nodes w m → m < 1024 → node-at w c ≤ m → place-at w c < 2 * ENTRIES
+pub node-added : (w y : List ℕ) (c m a v l : ℕ) → WORK ≤ length w → Nodes w m → m < most-visits → node-at w c ≤ m → place-at w c < 2 * ENTRIES
     → a ≡ node-at w c → v ≡ place-at w c → l ≡ at w (LENS + a)
     → Marked (set (set (set w (PREVS + (m + 1)) a) (NODES + (m + 1)) v) (LENS + (m + 1)) (l + 1)) y (v / 2) → Visited w y c m
 node-added w y c m a v l long ok h hn hp ea ev el mk =
@@ -49,7 +49,7 @@ module _ (w : List ℕ) (m n : ℕ) (ok : Nodes w m) (p : PathsOK w m n) where
       unchanged w m n (trails-of w n ++ upward (seen-of w m) (node-bits w m) (parent-of b ∷ [])) p
       (sym (ap (λ (x : List Trail). trails-of w n ++ x) (cond-true _ _ _ s) ∙ append-nil (trails-of w n)))
 
-  pub copy-new : (y : List ℕ) (v b : ℕ) → v ≡ b → v / 2 < ENTRIES → n < 3333 → false ≡ seen-at w (v / 2) → Stored w y n m v 0
+  pub copy-new : (y : List ℕ) (v b : ℕ) → v ≡ b → v / 2 < ENTRIES → n < MOST-PATHS → false ≡ seen-at w (v / 2) → Stored w y n m v 0
       → Relisted w y m (n + 1) (trails-of w n ++ upward (seen-of w m) (node-bits w m) (parent-of b ∷ []))
   copy-new y v b e h r t s =
       let f : member (b / 2) (seen-of w m) ≡ false = subst (λ (z : ℕ). member (z / 2) (seen-of w m) ≡ false) e (sym (ok .marks (v / 2) h) ∙ sym t) in
@@ -68,7 +68,7 @@ module _ (w : List ℕ) (m n : ℕ) (ok : Nodes w m) (p : PathsOK w m n) where
         unchanged w m n (trails-of w n ++ sideward (node-bits w m) (distance e (stack-of w d))) p
         (sym (ap (λ (o : Option ℕ). trails-of w n ++ sideward (node-bits w m) o) (side t q ∙ ap (from-top d) z) ∙ append-nil (trails-of w n)))
 
-    pub on-stack : (y : List ℕ) (t : ℕ) → t ≡ at w (TOPS + e) → (t ≡ 0 → ⊥) → n < 3333 → Stored w y n m (d - t) 1
+    pub on-stack : (y : List ℕ) (t : ℕ) → t ≡ at w (TOPS + e) → (t ≡ 0 → ⊥) → n < MOST-PATHS → Stored w y n m (d - t) 1
         → Relisted w y m (n + 1) (trails-of w n ++ sideward (node-bits w m) (distance e (stack-of w d)))
     on-stack y t q z r s = go t q z s
       where
@@ -144,10 +144,10 @@ copying-end w₀ w e m first count n i links h k l = record {
 }
 
 -- What the next copy asks.
-pub copying-asks : (w₀ w : List ℕ) (e m first count n i all : ℕ) → Links w₀ → Nodes w₀ m → e < ENTRIES → count + (count-at w₀ e - first) ≤ 3333
+pub copying-asks : (w₀ w : List ℕ) (e m first count n i all : ℕ) → Links w₀ → Nodes w₀ m → e < ENTRIES → count + (count-at w₀ e - first) ≤ MOST-PATHS
     → all ≡ count-at w₀ e
     → Copying w₀ w e m first count n i → i < all
-    → (Links w × Nodes w m × PathsOK w m n) × (e < ENTRIES × i < count-at w e × n < 3333)
+    → (Links w × Nodes w m × PathsOK w m n) × (e < ENTRIES × i < count-at w e × n < MOST-PATHS)
 copying-asks w₀ w e m first count n i all links ok h r q k l =
     let c : count-at w e ≡ count-at w₀ e = k .low (COUNTS + e) (omega arith) in
     ((low-links w₀ w links (λ j q. k .low j (omega arith)) (k .len), low-nodes w₀ w m ok (k .low), k .paths), (h, omega arith, omega (arith, k .room)))

@@ -11,7 +11,7 @@ use Rattle.spec_search.specs.Search.{Trail, upward, sideward, distance}
 use Rattle.spec_search.specs.Flat.{swap-remove}
 use Rattle.words.specs.Words.{at, WORK}
 use Rattle.work_layout.specs.Layout.{PARENTS, COUNTS, STACK, SEEN, PATHS, DEPTH, ENTRIES, TOPS}
-use Rattle.search_list.specs.State.{seen-of, node-bits, trail, trail-of, trails-of, count-at}
+use Rattle.search_list.specs.State.{seen-of, node-bits, trail, trail-of, trails-of, count-at, MOST-PATHS}
 use Rattle.search_list.specs.Steps.{Links, Nodes, PathsOK, Stored, Relisted}
 use Rattle.work_layout.specs.Rows.{parents-of, stack-of, Tops}
 use Rattle.search_list.proofs.Nodes.{low-bits, low-seen, low-nodes}
@@ -54,25 +54,38 @@ module _ (w w′ : List ℕ) (m : ℕ) (low : (k : ℕ) → k < PATHS → at w�
 
 -- ---- a path goes up
 
-module _ (w x y z : List ℕ) (c n m e k d v n₂ n₃ : ℕ) (links : Links w) (tops : Tops w d) (nodes : Nodes w m) (paths : PathsOK w m n)
-    (hc : c < n) (he : e < ENTRIES) (hk : k < count-at w e) (room : n + (count-at w e - k) ≤ 3333) (ev : v ≡ at w (PARENTS + e * 100 + k))
-    (s : Stored w x c m v 0) (lx : length x ≡ length w) where
-  few : n ≤ 3333
-  few = omega arith
+-- The path at c was stored at parent k of entry e, whose word is v.
+pub record Up (w x : List ℕ) (c n m e k d v : ℕ) : Type 0 where
+  pub links : Links w
+  pub tops : Tops w d
+  pub nodes : Nodes w m
+  pub paths : PathsOK w m n
+  pub slot : c < n
+  pub entry : e < ENTRIES
+  pub parent : k < count-at w e
+  pub room : n + (count-at w e - k) ≤ MOST-PATHS
+  pub word : v ≡ at w (PARENTS + e * 100 + k)
+  pub stored : Stored w x c m v 0
+  pub len : length x ≡ length w
 
+module _ {w x : List ℕ} {c n m e k d v : ℕ} (u : Up w x c n m e k d v) where
   hv : v < 2 * ENTRIES
-  hv = subst (λ (q : ℕ). q < 2 * ENTRIES) (sym ev) (links .links e k he hk)
+  hv = subst (λ (q : ℕ). q < 2 * ENTRIES) (sym (u .word)) (u .links .links e k (u .entry) (u .parent))
 
   first : Relisted w x m n (set (trails-of w n) c (trail 0 (node-bits w m) v))
-  first = store-at w x m c m v 0 nodes s (omega arith) (λ q. hv) (λ q. absurd (omega arith)) n hc few paths
+  first = store-at w x m c m v 0 (u .nodes) (u .stored) (omega arith) (λ q. hv) (λ q. absurd (omega arith)) n (u .slot) (omega (arith, u .room)) (u .paths)
 
   count-x : count-at x e ≡ count-at w e
-  count-x = first .low (COUNTS + e) (omega arith)
+  count-x = first .low (COUNTS + e) (omega (arith, u .entry))
 
-  pub up-asks : (Links x × Nodes x m × PathsOK x m n) × (e < ENTRIES × k + 1 ≤ count-at x e × n + (count-at x e - (k + 1)) ≤ 3333)
-  up-asks = let q = count-x in ((re-links w x m (first .low) lx links, re-nodes w x m (first .low) lx nodes, first .paths), (he, omega arith, omega arith))
+  pub up-asks : (Links x × Nodes x m × PathsOK x m n) × (e < ENTRIES × k + 1 ≤ count-at x e × n + (count-at x e - (k + 1)) ≤ MOST-PATHS)
+  up-asks =
+      let q = count-x in
+      let h = u .parent in
+      let g = u .room in
+      ((re-links w x m (first .low) (u .len) (u .links), re-nodes w x m (first .low) (u .len) (u .nodes), first .paths), (u .entry, omega arith, omega arith))
 
-  module _ (r : Relisted x y m n₂ (trails-of x n ++ upward (seen-of x m) (node-bits x m) (drop (k + 1) (parents-of x e)))) (ly : length y ≡ length x) where
+  module _ {y : List ℕ} {n₂ : ℕ} (r : Relisted x y m n₂ (trails-of x n ++ upward (seen-of x m) (node-bits x m) (drop (k + 1) (parents-of x e)))) (ly : length y ≡ length x) where
     S : List ℕ
     S = seen-of w m
 
@@ -87,7 +100,7 @@ module _ (w x y z : List ℕ) (c n m e k d v n₂ n₃ : ℕ) (links : Links w) 
     second =
         r .trails
         ∙ ap (λ (t : List Trail). t ++ upward (seen-of x m) (node-bits x m) (drop (k + 1) (parents-of x e))) (first .trails)
-        ∙ rw (low-seen w x m nodes (first .low), low-bits w x m nodes (first .low) m (omega arith), low-links-of w x links (λ j l. first .low j (omega arith)) lx e he)
+        ∙ rw (low-seen w x m (u .nodes) (first .low), low-bits w x m (u .nodes) (first .low) m (omega arith), low-links-of w x (u .links) (λ j l. first .low j (omega arith)) (u .len) e (u .entry))
 
     low-y : (j : ℕ) → j < PATHS → at y j ≡ at w j
     low-y j l = r .low j l ∙ first .low j l
@@ -95,26 +108,30 @@ module _ (w x y z : List ℕ) (c n m e k d v n₂ n₃ : ℕ) (links : Links w) 
     length-drop-links : length up ≤ count-at w e - (k + 1)
     unfolding S B up
     length-drop-links =
-        omega (arith, length-upward (seen-of w m) (node-bits w m) (drop (k + 1) (parents-of w e)), length-drop (k + 1) (parents-of w e), length-links w e links he)
+        omega (arith, length-upward (seen-of w m) (node-bits w m) (drop (k + 1) (parents-of w e)), length-drop (k + 1) (parents-of w e), length-links w e (u .links) (u .entry))
 
     pub up-count : n₂ ≤ n + (count-at w e - (k + 1))
     up-count =
         omega (arith, ap length second, length-trails y n₂, length-append (set (trails-of w n) c (trail 0 (node-bits w m) v)) up, length-set (trails-of w n) c (trail 0 (node-bits w m) v), length-trails w n, length-drop-links)
 
-    pub up-asks-2 : (Links y × Tops y d × Nodes y m × PathsOK y m n₂) × (e < ENTRIES × n₂ < 3333)
-    up-asks-2 = let q = up-count in
-        ((re-links w y m low-y (ly ∙ lx) links, re-tops w y m low-y (ly ∙ lx) d tops, re-nodes w y m low-y (ly ∙ lx) nodes, r .paths), (he, omega arith))
+    pub up-asks-2 : (Links y × Tops y d × Nodes y m × PathsOK y m n₂) × (e < ENTRIES × n₂ < MOST-PATHS)
+    up-asks-2 =
+        let q = up-count in
+        let h = u .parent in
+        let g = u .room in
+        let l = ly ∙ u .len in
+        ((re-links w y m low-y l (u .links), re-tops w y m low-y l d (u .tops), re-nodes w y m low-y l (u .nodes), r .paths), (u .entry, omega arith))
 
-    pub up-done : Relisted y z m n₃ (trails-of y n₂ ++ sideward (node-bits y m) (distance e (stack-of y d)))
+    pub up-done : {z : List ℕ} {n₃ : ℕ} → Relisted y z m n₃ (trails-of y n₂ ++ sideward (node-bits y m) (distance e (stack-of y d)))
         → Relisted w z m n₃ (set (trails-of w n) c (trail 0 (node-bits w m) (at w (PARENTS + e * 100 + k))) ++ (upward (seen-of w m) (node-bits w m) (drop (k + 1) (parents-of w e)) ++ sideward (node-bits w m) (distance e (stack-of w d))))
     unfolding S B up
     up-done t = record {
       trails =
           t .trails
           ∙ ap (λ (l : List Trail). l ++ sideward (node-bits y m) (distance e (stack-of y d))) second
-          ∙ rw (low-bits w y m nodes low-y m (omega arith), stack-same w y d (λ j l. low-y j (omega arith)) (tops .deep))
+          ∙ rw (low-bits w y m (u .nodes) low-y m (omega arith), stack-same w y d (λ j l. low-y j (omega arith)) (u .tops .deep))
           (append-assoc (set (trails-of w n) c (trail 0 (node-bits w m) v)) (upward (seen-of w m) (node-bits w m) (drop (k + 1) (parents-of w e))) (sideward (node-bits w m) (distance e (stack-of w d))))
-          ∙ ap (λ (q : ℕ). set (trails-of w n) c (trail 0 (node-bits w m) q) ++ (upward (seen-of w m) (node-bits w m) (drop (k + 1) (parents-of w e)) ++ sideward (node-bits w m) (distance e (stack-of w d)))) ev;
+          ∙ ap (λ (q : ℕ). set (trails-of w n) c (trail 0 (node-bits w m) q) ++ (upward (seen-of w m) (node-bits w m) (drop (k + 1) (parents-of w e)) ++ sideward (node-bits w m) (distance e (stack-of w d)))) (u .word);
       paths = t .paths;
       low = λ j l. t .low j l ∙ low-y j l;
       high = λ j l. t .high j l ∙ r .high j l ∙ first .high j l;
@@ -126,35 +143,46 @@ length-sideward : (bits : List Bool) (o : Option ℕ) → length (sideward bits 
 length-sideward bits none = omega arith
 length-sideward bits (some q) = omega arith
 
-module _ (w x y : List ℕ) (c n m e d n₂ : ℕ) (links : Links w) (tops : Tops w d) (nodes : Nodes w m) (paths : PathsOK w m n)
-    (hc : c < n) (hn : n < 3333) (lx : length x ≡ length w) (r : Relisted w x m n₂ (trails-of w n ++ sideward (node-bits w m) (distance e (stack-of w d))))
-  where
-    pub off-count : (n ≤ n₂) × (n₂ ≤ n + 1)
-    off-count =
-        let a = length-sideward (node-bits w m) (distance e (stack-of w d)) in
-        omega (arith, ap length (r .trails), length-trails x n₂, length-trails w n, length-append (trails-of w n) (sideward (node-bits w m) (distance e (stack-of w d))))
+-- The copy on the stack was added, and the path at c is still to be dropped.
+pub record Off (w x : List ℕ) (c n m e d n₂ : ℕ) : Type 0 where
+  pub long : WORK ≤ length w
+  pub nodes : Nodes w m
+  pub slot : c < n
+  pub room : n < MOST-PATHS
+  pub list : Relisted w x m n₂ (trails-of w n ++ sideward (node-bits w m) (distance e (stack-of w d)))
+  pub len : length x ≡ length w
 
-    pub off-one : n₂ - 1 + 1 ≡ n₂
-    off-one = omega (arith, off-count .0)
+module _ {w x : List ℕ} {c n m e d n₂ : ℕ} (u : Off w x c n m e d n₂) where
+  pub off-count : (n ≤ n₂) × (n₂ ≤ n + 1)
+  off-count =
+      let a = length-sideward (node-bits w m) (distance e (stack-of w d)) in
+      omega (arith, ap length (u .list .trails), length-trails x n₂, length-trails w n, length-append (trails-of w n) (sideward (node-bits w m) (distance e (stack-of w d))))
 
-    pub off-asks : (WORK ≤ length x) × Nodes x m × PathsOK x m (n₂ - 1 + 1) × (c < n₂ - 1 + 1) × (n₂ - 1 < 3333)
-    off-asks = let a = off-count in
-        (omega (arith, links .long), re-nodes w x m (r .low) lx nodes, rw off-one (r .paths), omega arith, omega arith)
+  pub off-one : n₂ - 1 + 1 ≡ n₂
+  off-one = omega (arith, off-count .0, u .slot)
 
-    here : trail-of x c ≡ trail-of w c
-    here =
-        let a = off-count in
-        sym (at-trails x n₂ c (trail-of w c) (omega arith))
-        ∙ ap (λ (l : List Trail). getD l c (trail-of w c)) (r .trails)
-        ∙ List·getD-append (trails-of w n) (sideward (node-bits w m) (distance e (stack-of w d))) (trail-of w c) c (rw length-trails hc)
-        ∙ at-trails w n c (trail-of w c) hc
+  pub off-asks : (WORK ≤ length x) × Nodes x m × PathsOK x m (n₂ - 1 + 1) × (c < n₂ - 1 + 1) × (n₂ - 1 < MOST-PATHS)
+  off-asks =
+      let a = off-count in
+      let h = u .slot in
+      let g = u .room in
+      (omega (arith, u .long, u .len), re-nodes w x m (u .list .low) (u .len) (u .nodes), rw off-one (u .list .paths), omega arith, omega arith)
 
-    pub off-done : Relisted x y m (n₂ - 1) (swap-remove (trails-of x (n₂ - 1 + 1)) c (trail-of x c))
-        → Relisted w y m (n₂ - 1) (swap-remove (trails-of w n ++ sideward (node-bits w m) (distance e (stack-of w d))) c (trail-of w c))
-    off-done t = record {
-      trails =
-          t .trails ∙ ap (λ (k : ℕ). swap-remove (trails-of x k) c (trail-of x c)) off-one ∙ ap₂ {C = List Trail} (λ l p. swap-remove l c p) (r .trails) here;
-      paths = t .paths;
-      low = λ j l. t .low j l ∙ r .low j l;
-      high = λ j l. t .high j l ∙ r .high j l;
-    }
+  here : trail-of x c ≡ trail-of w c
+  here =
+      let a = off-count in
+      let h = u .slot in
+      sym (at-trails x n₂ c (trail-of w c) (omega arith))
+      ∙ ap (λ (l : List Trail). getD l c (trail-of w c)) (u .list .trails)
+      ∙ List·getD-append (trails-of w n) (sideward (node-bits w m) (distance e (stack-of w d))) (trail-of w c) c (rw length-trails (u .slot))
+      ∙ at-trails w n c (trail-of w c) (u .slot)
+
+  pub off-done : {y : List ℕ} → Relisted x y m (n₂ - 1) (swap-remove (trails-of x (n₂ - 1 + 1)) c (trail-of x c))
+      → Relisted w y m (n₂ - 1) (swap-remove (trails-of w n ++ sideward (node-bits w m) (distance e (stack-of w d))) c (trail-of w c))
+  off-done t = record {
+    trails =
+        t .trails ∙ ap (λ (k : ℕ). swap-remove (trails-of x k) c (trail-of x c)) off-one ∙ ap₂ {C = List Trail} (λ l p. swap-remove l c p) (u .list .trails) here;
+    paths = t .paths;
+    low = λ j l. t .low j l ∙ u .list .low j l;
+    high = λ j l. t .high j l ∙ u .list .high j l;
+  }

@@ -9,7 +9,7 @@ use native.Mathlib.Numerals.{add-one}
 use native.Mathlib.Decide.{ℕ-discrete}
 use lib.ListN.{length}
 use borrow.Author.Tests.{eq-eqb, ne-eqb}
-use Rattle.spec_search.specs.Search.{member}
+use Rattle.spec_search.specs.Search.{member, most-visits}
 use Rattle.words.specs.Words.{at}
 use Rattle.work_layout.specs.Layout.{PREVS, NODES, LENS, PATHS, SEEN, ENTRIES}
 use Rattle.search_list.specs.State.{chain, node-bits, seen-of, seen-at, node-at, place-at}
@@ -88,7 +88,7 @@ or-true a b e = rw e
 or-false : (a b : Bool) → a ≡ false → (a || b) ≡ b
 or-false a b e = rw e
 
-module _ (w x y : List ℕ) (c m : ℕ) (ok : Nodes w m) (h : m < 1024) (hn : node-at w c ≤ m) (hp : place-at w c < 2 * ENTRIES)
+module _ (w x y : List ℕ) (c m : ℕ) (ok : Nodes w m) (h : m < most-visits) (hn : node-at w c ≤ m) (hp : place-at w c < 2 * ENTRIES)
     (prev : at x (PREVS + (m + 1)) ≡ node-at w c) (node : at x (NODES + (m + 1)) ≡ place-at w c) (len : at x (LENS + (m + 1)) ≡ at w (LENS + node-at w c) + 1)
     (other : (k : ℕ) → (k ≡ PREVS + (m + 1) → ⊥) → (k ≡ NODES + (m + 1) → ⊥) → (k ≡ LENS + (m + 1) → ⊥) → at x k ≡ at w k)
     (mk : Marked x y (place-at w c / 2)) where

@@ -12,12 +12,12 @@ use Rattle.spec_search.specs.Lists.{size}
 use Rattle.spec_search.specs.Flat.{swap-remove, last, init, last-seam, init-seam}
 use Rattle.words.specs.Words.{at, tabulate, WORK}
 use Rattle.work_layout.specs.Layout.{PATHS, DEPTH, ENTRIES, LENS}
-use Rattle.search_list.specs.State.{node-bits, trail, trues, trail-of, trails-of, path-at, Readable, node-at, place-at, extra-at}
+use Rattle.search_list.specs.State.{node-bits, trail, trues, trail-of, trails-of, path-at, Readable, node-at, place-at, extra-at, MOST-PATHS}
 use Rattle.search_list.specs.Steps.{Nodes, PathOK, PathsOK, Stored, Relisted}
 use Rattle.words.proofs.Words.{Store, miss, hits, length-tabulate, getD-tabulate, tabulate-set, tabulate-more}
 use Rattle.search_list.proofs.Nodes.{low-bits}
 
-pub stored : (w : List ℕ) (i a v x : ℕ) → WORK ≤ length w → i < 3333
+pub stored : (w : List ℕ) (i a v x : ℕ) → WORK ≤ length w → i < MOST-PATHS
     → Stored w (set (set (set w (PATHS + 3 * i) a) (PATHS + 3 * i + 1) v) (PATHS + 3 * i + 2) x) i a v x
 stored w i a v x long h =
     let ss : List Store =
@@ -94,7 +94,7 @@ module _ (w w′ : List ℕ) (m c a v x : ℕ) (ok : Nodes w m) (s : Stored w w�
         go (no e) = path-other i e (ps i l e)
 
     -- Path c is another one.
-    pub store-at : (n : ℕ) → c < n → n ≤ 3333 → PathsOK w m n → Relisted w w′ m n (set (trails-of w n) c (trail x (node-bits w a) v))
+    pub store-at : (n : ℕ) → c < n → n ≤ MOST-PATHS → PathsOK w m n → Relisted w w′ m n (set (trails-of w n) c (trail x (node-bits w a) v))
     unfolding trails-of
     store-at n l b p = record {
       trails = tabulate-set n (trail-of w) (trail-of w′) c l (λ k q d. trail-other k d (p k q .node)) ∙ ap (set (tabulate n (trail-of w)) c) trail-here;
@@ -104,7 +104,7 @@ module _ (w w′ : List ℕ) (m c a v x : ℕ) (ok : Nodes w m) (s : Stored w w�
     }
 
     -- One path more.
-    pub store-end : c < 3333 → PathsOK w m c → Relisted w w′ m (c + 1) (trails-of w c ++ trail x (node-bits w a) v ∷ [])
+    pub store-end : c < MOST-PATHS → PathsOK w m c → Relisted w w′ m (c + 1) (trails-of w c ++ trail x (node-bits w a) v ∷ [])
     unfolding trails-of
     store-end b p = record {
       trails =
@@ -128,7 +128,7 @@ unfolding trail-of
 last-is w d n = last-tabulate d n (trail-of w)
 
 -- The last path, n, took slot c.
-pub path-dropped : (w w′ : List ℕ) (m c n : ℕ) → Nodes w m → Stored w w′ c (node-at w n) (place-at w n) (extra-at w n) → c < n + 1 → n + 1 ≤ 3333
+pub path-dropped : (w w′ : List ℕ) (m c n : ℕ) → Nodes w m → Stored w w′ c (node-at w n) (place-at w n) (extra-at w n) → c < n + 1 → n + 1 ≤ MOST-PATHS
     → PathsOK w m (n + 1)
     → Relisted w w′ m n (swap-remove (trails-of w (n + 1)) c (trail-of w c))
 unfolding trails-of

@@ -19,8 +19,8 @@ use Rattle.search_list.proofs.CursorLaws.{over, over-mid, over-less, is
 use Rattle.search_list.specs.declared.Turned.the-variants.{On, Result, Capped}
 use Rattle.work_layout.specs.Layout.{PARENTS, COUNTS, PATHS, DEPTH, ENTRIES}
 use Rattle.work_layout.specs.Rows.{parents-of, stack-of, Tops}
-use Rattle.search_list.specs.State.{parents-of-all, seen-of, node-bits, trail, trail-of, trails-of, node-at, place-at, extra-at, seen-at, count-at, Readable}
-use Rattle.search_list.specs.Steps.{unseen, Links, Nodes, PathOK, PathsOK, Working, Kept, Stored, Relisted, Visited, FirstUnseen, Turns, Steps}
+use Rattle.search_list.specs.State.{parents-of-all, seen-of, node-bits, trail, trail-of, trails-of, node-at, place-at, extra-at, seen-at, count-at, Readable, MOST-PATHS}
+use Rattle.search_list.specs.Steps.{search-of, unseen, Links, Nodes, PathOK, PathsOK, Working, Kept, Stored, Relisted, Visited, FirstUnseen, Turns, Steps}
 use Rattle.path.specs.Bytes.{odd}
 use Rattle.words.proofs.Words.{tabulate-same}
 use Rattle.search_list.proofs.Nodes.{low-seen, length-seen}
@@ -48,18 +48,22 @@ module _ (w : List ℕ) (d c n m : ℕ) (ok : Working w d n m) (hc : c < n) wher
   here : getD (trails-of w n) c (trail-of w c) ≡ trail-of w c
   here = at-trails w n c (trail-of w c) hc
 
-  pub turned-over : (L : ℕ) → Mid L (trails-of w n) c → L < size (trail-of w c) → Turns w w d L c n m (On (c + 1) n m)
+  pub turned-over : (L : ℕ) → Mid L (trails-of w n) c → L < size (trail-of w c) → Turns w w d L c n m (On (c + 1) (search-of n m d))
   turned-over L mid l = record {
     same = over (parents-of-all w) (stack-of w d) L (trails-of w n) c (seen-of w m) (trail-of w c) in-list here mid l;
-    fine =
-        (ok, over-mid (parents-of-all w) (stack-of w d) L (trails-of w n) c (seen-of w m) (trail-of w c) in-list here mid l, over-less (parents-of-all w) (stack-of w d) L (trails-of w n) c (seen-of w m) (trail-of w c) in-list here mid l);
+    fine = (
+      ok,
+      over-mid (parents-of-all w) (stack-of w d) L (trails-of w n) c (seen-of w m) (trail-of w c) in-list here mid l,
+      over-less (parents-of-all w) (stack-of w d) L (trails-of w n) c (seen-of w m) (trail-of w c) in-list here mid l,
+      refl,
+    );
     kept = kept-none w;
   }
 
   readable : Readable w c
   readable =
       let p : PathOK w m c = ok .paths c hc in
-      let f : m ≤ 1024 = ok .nodes .few in
+      let f : m ≤ most-visits = ok .nodes .few in
       let q : node-at w c ≤ m = p .node in
       record {
         slot = omega (arith, few);
@@ -99,7 +103,7 @@ module _ (w : List ℕ) (d c n m : ℕ) (ok : Working w d n m) (hc : c < n) wher
 
     pub turned-stays : (q : Trail) (copies : List Trail) (seen′ : List ℕ)
         → step (parents-of-all w) (stack-of w d) (seen-of w m) (trail-of w c) ≡ stays q copies seen′
-        → trails-of y n′ ≡ set (trails-of w n) c q ++ copies → seen-of y m′ ≡ seen′ → Steps w y d c n m (On (c + 1) n′ m′)
+        → trails-of y n′ ≡ set (trails-of w n) c q ++ copies → seen-of y m′ ≡ seen′ → Steps w y d c n m (On (c + 1) (search-of n′ m′ d))
     turned-stays q copies seen′ s t e L mid l =
         let b : length (set (trails-of w n) c q ++ copies) < 4096 = omega (arith, few′, length-trails y n′, ap length t) in
         record {
@@ -112,12 +116,13 @@ module _ (w : List ℕ) (d c n m : ℕ) (ok : Working w d n m) (hc : c < n) wher
                 (stays-mid (parents-of-all w) (stack-of w d) L (trails-of w n) c (seen-of w m) (trail-of w c) in-list here mid l q copies seen′ s),
             subst (λ (x : List Trail). ahead L x (c + 1) < ahead L (trails-of w n) c) (sym t)
                 (stays-less (parents-of-all w) (stack-of w d) L (trails-of w n) c (seen-of w m) (trail-of w c) in-list here mid l q copies seen′ s b),
+            refl,
           );
           kept = kept;
         }
 
     pub turned-dropped : (copies : List Trail) (seen′ : List ℕ) → step (parents-of-all w) (stack-of w d) (seen-of w m) (trail-of w c) ≡ dropped copies seen′
-        → trails-of y n′ ≡ swap-remove (trails-of w n ++ copies) c (trail-of w c) → seen-of y m′ ≡ seen′ → Steps w y d c n m (On c n′ m′)
+        → trails-of y n′ ≡ swap-remove (trails-of w n ++ copies) c (trail-of w c) → seen-of y m′ ≡ seen′ → Steps w y d c n m (On c (search-of n′ m′ d))
     turned-dropped copies seen′ s t e L mid l =
         let b : length (swap-remove (trails-of w n ++ copies) c (trail-of w c)) < 4096 = omega (arith, few′, length-trails y n′, ap length t) in
         record {
@@ -130,6 +135,7 @@ module _ (w : List ℕ) (d c n m : ℕ) (ok : Working w d n m) (hc : c < n) wher
                 (dropped-mid (parents-of-all w) (stack-of w d) L (trails-of w n) c (seen-of w m) (trail-of w c) in-list here mid l copies seen′ s),
             subst (λ (x : List Trail). ahead L x c < ahead L (trails-of w n) c) (sym t)
                 (dropped-less (parents-of-all w) (stack-of w d) L (trails-of w n) c (seen-of w m) (trail-of w c) in-list here mid l copies seen′ s b),
+            refl,
           );
           kept = kept;
         }
@@ -175,7 +181,7 @@ module _ (w : List ℕ) (d c n m : ℕ) (ok : Working w d n m) (hc : c < n) (hx 
       turned-result w d c n m ok hc (at-top (parents-of-all w) (stack-of w d) (seen-of w m) (node-bits w (node-at w c)) (extra-at w c) (place-at w c) hx z)
 
   pub stack-nearer : (y : List ℕ) → (place-at w c ≡ 0 → ⊥) → length y ≡ length w → Stored w y c (node-at w c) (place-at w c - 1) (extra-at w c + 1)
-      → Steps w y d c n m (On (c + 1) n m)
+      → Steps w y d c n m (On (c + 1) (search-of n m d))
   unfolding trail-of
   stack-nearer y z len s =
       let q : PathOK w m c = ok .paths c hc in
@@ -230,7 +236,7 @@ module _ (w : List ℕ) (d c n m : ℕ) (ok : Working w d n m) (hc : c < n) (hx 
   step-at = ap (step P S seen) is-trail
 
   pub entry-seen : (y : List ℕ) → true ≡ seen-at w (place-at w c / 2) → length y ≡ length w
-      → Relisted w y m (n - 1) (swap-remove (trails-of w (n - 1 + 1)) c (trail-of w c)) → Steps w y d c n m (On c (n - 1) m)
+      → Relisted w y m (n - 1) (swap-remove (trails-of w (n - 1 + 1)) c (trail-of w c)) → Steps w y d c n m (On c (search-of (n - 1) m d))
   unfolding e P S seen
   entry-seen y t len r =
       let k : n - 1 + 1 ≡ n = omega arith in
@@ -245,13 +251,13 @@ module _ (w : List ℕ) (d c n m : ℕ) (ok : Working w d n m) (hc : c < n) (hx 
     unfolding e
     not-member = sym is-member ∙ sym un
 
-    pub entry-capped : m ≡ 1024 → Steps w w d c n m Capped
+    pub entry-capped : m ≡ most-visits → Steps w w d c n m Capped
     unfolding e P S seen
     entry-capped h =
         turned-capped w d c n m ok hc
         (step-at ∙ cond-false _ _ _ not-member ∙ cond-false _ _ _ (le-ltb (length (seen-of w m)) most-visits (omega (arith, length-seen w m))))
 
-    module _ (hm : m < 1024) (x : List ℕ) (lx : length x ≡ length w) (v : Visited w x c m) where
+    module _ (hm : m < most-visits) (x : List ℕ) (lx : length x ≡ length w) (v : Visited w x c m) where
       S′ : List ℕ
       S′ = seen-of x (m + 1)
 
@@ -295,11 +301,11 @@ module _ (w : List ℕ) (d c n m : ℕ) (ok : Working w d n m) (hc : c < n) (hx 
           ∙ rw (v .seen, v .bits, stack-same w x d (v .low) (ok .tops .deep), low-links-of w x (ok .links) (v .low) lx (place-at w c / 2) entry-low, parents-are w (place-at w c / 2) (ok .links) entry-low)
 
       pub visit-asks : (k : ℕ) → k < count-at x (place-at w c / 2)
-          → (Links x × Tops x d × Nodes x (m + 1) × PathsOK x (m + 1) n) × (c < n × place-at w c / 2 < ENTRIES × k < count-at x (place-at w c / 2) × n + (count-at x (place-at w c / 2) - k) ≤ 3333)
+          → (Links x × Tops x d × Nodes x (m + 1) × PathsOK x (m + 1) n) × (c < n × place-at w c / 2 < ENTRIES × k < count-at x (place-at w c / 2) × n + (count-at x (place-at w c / 2) - k) ≤ MOST-PATHS)
       unfolding e
       visit-asks k h = ((links-x, tops-x, v .nodes, paths-x), (hc, entry-low, h, omega (arith, spare, count-x)))
 
-      pub visit-asks-2 : (Links x × Tops x d × Nodes x (m + 1) × PathsOK x (m + 1) n) × (c < n × place-at w c / 2 < ENTRIES × n < 3333)
+      pub visit-asks-2 : (Links x × Tops x d × Nodes x (m + 1) × PathsOK x (m + 1) n) × (c < n × place-at w c / 2 < ENTRIES × n < MOST-PATHS)
       visit-asks-2 = ((links-x, tops-x, v .nodes, paths-x), (hc, entry-low, omega (arith, few w d c n m ok hc)))
 
       module _ (k : ℕ) (f : FirstUnseen x (place-at w c / 2) k) (y : List ℕ) (ly : length y ≡ length x) (n′ : ℕ) where
@@ -338,7 +344,7 @@ module _ (w : List ℕ) (d c n m : ℕ) (ok : Working w d n m) (hc : c < n) (hx 
         pub visit-up : k < count-at x (place-at w c / 2)
             → Relisted x y (m + 1) n′
             (set (trails-of x n) c (trail 0 (node-bits x (m + 1)) (at x (PARENTS + place-at w c / 2 * 100 + k))) ++ (upward (seen-of x (m + 1)) (node-bits x (m + 1)) (drop (k + 1) (parents-of x (place-at w c / 2))) ++ sideward (node-bits x (m + 1)) (distance (place-at w c / 2) (stack-of x d))))
-            → Steps w y d c n m (On (c + 1) n′ (m + 1))
+            → Steps w y d c n m (On (c + 1) (search-of n′ (m + 1) d))
         unfolding e P S seen S′ B′
         visit-up h r =
             let q : Trail = trail 0 (node-bits x (m + 1)) (at x (PARENTS + place-at w c / 2 * 100 + k)) in
@@ -358,7 +364,7 @@ module _ (w : List ℕ) (d c n m : ℕ) (ok : Working w d n m) (hc : c < n) (hx 
         pub visit-off : count-at x (place-at w c / 2) ≤ k
             → Relisted x y (m + 1) n′
             (swap-remove (trails-of x n ++ sideward (node-bits x (m + 1)) (distance (place-at w c / 2) (stack-of x d))) c (trail-of x c))
-            → Steps w y d c n m (On c n′ (m + 1))
+            → Steps w y d c n m (On c (search-of n′ (m + 1) d))
         unfolding e P S seen S′ B′
         visit-off h r =
             let side : List Trail = sideward (node-bits x (m + 1)) (distance (place-at w c / 2) (stack-of x d)) in

@@ -8,7 +8,7 @@ use lib.Dec.{ltb}
 use lib.ListN.{length}
 use Rattle.words.specs.Words.{at, tabulate}
 use Rattle.path.specs.Bytes.{odd}
-use Rattle.spec_search.specs.Search.{Trail, at-entry, at-stack, trail-bits, Parents}
+use Rattle.spec_search.specs.Search.{Trail, at-entry, at-stack, trail-bits, Parents, most-visits}
 use Rattle.work_layout.specs.Layout.{SEEN, PREVS, NODES, LENS, PATHS, COUNTS, ENTRIES, DEPTH}
 use Rattle.work_layout.specs.Rows.{parents-of}
 
@@ -44,6 +44,10 @@ unfoldable pub node-bits : List ℕ → ℕ → List Bool
 node-bits w k = chain w k k
 
 -- ---- paths: three words each
+
+-- The room for paths.
+abbrev pub MOST-PATHS : ℕ
+MOST-PATHS = 3333
 
 -- The node whose bits path i has.
 abbrev pub node-at : List ℕ → ℕ → ℕ
@@ -82,13 +86,13 @@ trails-of w n = tabulate n (trail-of w)
 
 -- The chain from node a ends.
 pub record Chain (w : List ℕ) (a : ℕ) : Type 0 where
-  pub few : a ≤ 1024
+  pub few : a ≤ most-visits
   pub prev : (k : ℕ) → k < a → at w (PREVS + suc k) ≤ k
 
 -- Path i has its bits, and not too many.
 pub record Readable (w : List ℕ) (i : ℕ) : Type 0 where
-  pub slot : i < 3333
+  pub slot : i < MOST-PATHS
   pub chain : Chain w (node-at w i)
   pub len : at w (LENS + node-at w i) ≡ length (node-bits w (node-at w i))
-  pub short : at w (LENS + node-at w i) ≤ 1024
+  pub short : at w (LENS + node-at w i) ≤ most-visits
   pub extra : extra-at w i ≤ DEPTH

@@ -8,10 +8,11 @@ use Prim.Native.Nat.{ℕ, zero, suc, _+_, _*_, _/_, _-_, _≤_, _<_}
 use lib.ListN.{length, drop}
 use Rattle.words.specs.Words.{at, WORK}
 use Rattle.path.specs.Bytes.{odd}
-use Rattle.spec_search.specs.Search.{Trail, member, distance, upward, sideward, Passed, found, gone}
+use Rattle.spec_search.specs.Search.{Trail, member, distance, upward, sideward, Passed, found, gone, most-visits}
 use Rattle.spec_search.specs.Lists.{size}
 use Rattle.work_layout.specs.Layout.{COUNTS, PARENTS, SEEN, PREVS, LENS, PATHS, COPIES, ENTRIES, DEPTH}
 use Rattle.work_layout.specs.Rows.{parents-of, stack-of, Tops}
+use Rattle.search_list.specs.declared.Search.{Search}
 use Rattle.search_list.specs.declared.Turned.{Turned}
 use Rattle.search_list.specs.declared.Turned.the-variants.{On, Result, Capped}
 use Rattle.search_list.specs.State.{parents-of-all, count-at, seen-of, seen-at, node-bits, node-at, place-at, extra-at, trail-of, path-at, trails-of, Readable}
@@ -27,7 +28,7 @@ pub record Links (w : List ℕ) : Type 0 where
 
 -- m nodes, and the bit set of the entries seen mirrors them.
 pub record Nodes (w : List ℕ) (m : ℕ) : Type 0 where
-  pub few : m ≤ 1024
+  pub few : m ≤ most-visits
   pub prev : (k : ℕ) → k < m → at w (PREVS + suc k) ≤ k
   pub lens : (k : ℕ) → k ≤ m → at w (LENS + k) ≡ length (node-bits w k)
   pub short : (k : ℕ) → k ≤ m → at w (LENS + k) ≤ k
@@ -126,21 +127,26 @@ from-top d (suc t) = some (d - suc t)
 
 -- ---- a turn
 
--- What a state stands for: how the pass will end.
-abbrev pub meaning : List ℕ → ℕ → ℕ → Turned → Passed
-meaning w d L (On c n m) = goes (parents-of-all w) (stack-of w d) L (trails-of w n) c (seen-of w m)
-meaning w d L (Result i) = found (path-at w i)
-meaning w d L Capped = gone
+-- n paths, m nodes, a stack of d entries.
+abbrev pub search-of : (n m d : ℕ) → Search
+search-of n m d = record { paths = n; nodes = m; depth = d }
 
--- The words are sound for it, and less than b is ahead.
+-- What a state stands for: how the pass will end.
+abbrev pub meaning : List ℕ → ℕ → Turned → Passed
+meaning w L (On c s) = goes (parents-of-all w) (stack-of w (s .depth)) L (trails-of w (s .paths)) c (seen-of w (s .nodes))
+meaning w L (Result i) = found (path-at w i)
+meaning w L Capped = gone
+
+-- The words are sound for it, the stack has d entries as before, and less than b is ahead.
 abbrev pub Fine : List ℕ → ℕ → ℕ → ℕ → Turned → Type 0
-Fine w d L b (On c n m) = Working w d n m × Mid L (trails-of w n) c × (ahead L (trails-of w n) c < b)
+Fine w d L b (On c s) =
+    Working w (s .depth) (s .paths) (s .nodes) × Mid L (trails-of w (s .paths)) c × (ahead L (trails-of w (s .paths)) c < b) × (s .depth ≡ d)
 Fine w d L b (Result i) = Readable w i
 Fine w d L b Capped = Unit {0}
 
 -- A turn of pass L at path c.
 pub record Turns (w w′ : List ℕ) (d L c n m : ℕ) (r : Turned) : Type 0 where
-  pub same : goes (parents-of-all w) (stack-of w d) L (trails-of w n) c (seen-of w m) ≡ meaning w′ d L r
+  pub same : goes (parents-of-all w) (stack-of w d) L (trails-of w n) c (seen-of w m) ≡ meaning w′ L r
   pub fine : Fine w′ d L (ahead L (trails-of w n) c) r
   pub kept : Kept w w′
 

@@ -9,14 +9,22 @@ use work_layout::SEEN;
 ghost use mathlib.Core.Path.{_≡_};
 ghost use Prim.Native.Nat.{_+_, _*_, _≤_, _<_};
 ghost use lib.ListN.{length};
+ghost use Rattle.spec_search.specs.Search.{most-visits};
 ghost use Rattle.words.specs.Words.{at, WORK};
 ghost use Rattle.work_layout.specs.Layout.{ENTRIES, COUNTS, TOPS, PARENTS, MAX-PARENTS, LENS};
-ghost use Rattle.search_list.specs.State.{node-at, place-at, extra-at, seen-at};
+ghost use Rattle.search_list.specs.State.{node-at, place-at, extra-at, seen-at, MOST-PATHS};
 ghost use Rattle.search_list.specs.Steps.{Stored, Marked};
 
-// After a turn: the slot of the next path, how many paths there are, and how many nodes; the slot of the path that is the result; visit 1,025.
+// A search under way: how many paths there are, how many nodes, and how many entries on the stack.
+pub struct Search {
+    pub paths: usize,
+    pub nodes: usize,
+    pub depth: usize,
+}
+
+// After a turn: the slot of the next path, and the search; the slot of the path that is the result; visit 1,025.
 pub enum Turned {
-    On(usize, usize, usize),
+    On(usize, Search),
     Result(usize),
     Capped,
 }
@@ -47,7 +55,7 @@ pub fn top_of(work: &[u32], e: usize) -> usize
 
 // The node whose bits path i has.
 pub fn node_of(work: &[u32], i: usize) -> u32
-    requires { ⌜ (WORK ≤ length (now work)) × (i < 3333) ⌝ }
+    requires { ⌜ (WORK ≤ length (now work)) × (i < MOST-PATHS) ⌝ }
     ensures { λ r. ⌜ r ≡ node-at (now (work .entry)) i ⌝ }
 {
     work[work_layout::PATHS + 3 * i]
@@ -55,7 +63,7 @@ pub fn node_of(work: &[u32], i: usize) -> u32
 
 // Where path i is: at an entry, doubled, and the position bit that it takes there; on the stack, the distance from the top.
 pub fn place_of(work: &[u32], i: usize) -> u32
-    requires { ⌜ (WORK ≤ length (now work)) × (i < 3333) ⌝ }
+    requires { ⌜ (WORK ≤ length (now work)) × (i < MOST-PATHS) ⌝ }
     ensures { λ r. ⌜ r ≡ place-at (now (work .entry)) i ⌝ }
 {
     work[work_layout::PATHS + 3 * i + 1]
@@ -63,7 +71,7 @@ pub fn place_of(work: &[u32], i: usize) -> u32
 
 // 0 where path i is at an entry; on the stack, how many bits it has after its node's: a 0, and then each a 1.
 pub fn extra_of(work: &[u32], i: usize) -> u32
-    requires { ⌜ (WORK ≤ length (now work)) × (i < 3333) ⌝ }
+    requires { ⌜ (WORK ≤ length (now work)) × (i < MOST-PATHS) ⌝ }
     ensures { λ r. ⌜ r ≡ extra-at (now (work .entry)) i ⌝ }
 {
     work[work_layout::PATHS + 3 * i + 2]
@@ -71,7 +79,7 @@ pub fn extra_of(work: &[u32], i: usize) -> u32
 
 // How many bits node k has.
 pub fn len_of(work: &[u32], k: usize) -> usize
-    requires { ⌜ (WORK ≤ length (now work)) × (k ≤ 1024) ⌝ }
+    requires { ⌜ (WORK ≤ length (now work)) × (k ≤ most-visits) ⌝ }
     ensures { λ r. ⌜ r ≡ at (now (work .entry)) (LENS + k) ⌝ }
 {
     wide(work[work_layout::LENS + k])
@@ -79,7 +87,7 @@ pub fn len_of(work: &[u32], k: usize) -> usize
 
 // How many bits path i has.
 pub fn size_of(work: &[u32], i: usize) -> usize
-    requires { ⌜ (WORK ≤ length (now work)) × (i < 3333) × (node-at (now work) i ≤ 1024) ⌝ }
+    requires { ⌜ (WORK ≤ length (now work)) × (i < MOST-PATHS) × (node-at (now work) i ≤ most-visits) ⌝ }
     ensures { λ r. ⌜ r ≡ at (now (work .entry)) (LENS + node-at (now (work .entry)) i) + extra-at (now (work .entry)) i ⌝ }
 {
     let a = wide(node_of(work, i));
@@ -108,7 +116,7 @@ pub fn mark(work: &mut [u32], e: usize)
 
 // Path i has the bits of node a, is at place v, and has x bits after the node's.
 pub fn put_path(work: &mut [u32], i: usize, a: u32, v: u32, x: u32)
-    requires { ⌜ (WORK ≤ length (now work)) × (i < 3333) ⌝ }
+    requires { ⌜ (WORK ≤ length (now work)) × (i < MOST-PATHS) ⌝ }
     ensures { λ _. ⌜ Stored (now (work .entry)) (now (work .exit)) i a v x ⌝ }
 {
     work[work_layout::PATHS + 3 * i] = a;

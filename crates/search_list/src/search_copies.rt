@@ -1,75 +1,79 @@
-// How the working list gets paths and nodes: a node made, copies at the parents and on the stack. In all of these e is an entry, c the slot of the path
-// that is stepped, n the number of paths, m the number of nodes, and d the number of entries on the stack.
+// How the working list gets paths and nodes: a node made, copies at the parents and on the stack. What adds paths gives how many there are then.
+use crate::Search;
 ghost use mathlib.Core.List.{_++_, _∷_, []};
 ghost use Prim.Native.Nat.{_+_, _-_, _*_, _≤_, _<_};
 ghost use lib.ListN.{length};
 ghost use Rattle.words.specs.Words.{at, WORK};
 ghost use Rattle.work_layout.specs.Layout.{ENTRIES, PARENTS, MAX-PARENTS};
 ghost use Rattle.work_layout.specs.Rows.{parent-of, Tops};
-ghost use Rattle.spec_search.specs.Search.{upward};
+ghost use Rattle.spec_search.specs.Search.{upward, most-visits};
 ghost use Rattle.search_list.specs.Steps.{PathsOK, copies, stacked, Links, Nodes, Relisted, Visited};
-ghost use Rattle.search_list.specs.State.{seen-of, node-bits, trails-of, node-at, place-at, count-at};
+ghost use Rattle.search_list.specs.State.{seen-of, node-bits, trails-of, node-at, place-at, count-at, MOST-PATHS};
 
-// A visit: node m + 1 has path c's bits and its position bit, and its entry is seen.
-pub fn add_node(work: &mut [u32], c: usize, m: usize)
-    requires { ⌜ (WORK ≤ length (now work)) × (Nodes (now work) m) × (m < 1024) × (c < 3333) ⌝ }
-    requires { ⌜ (node-at (now work) c ≤ m) × (place-at (now work) c < 2 * ENTRIES) ⌝ }
-    ensures { λ _. ⌜ Visited (now (work .entry)) (now (work .exit)) c m ⌝ }
+// A visit by the path in `slot`: the next node has its bits and its position bit, and its entry is seen.
+pub fn add_node(work: &mut [u32], slot: usize, nodes: usize)
+    requires { ⌜ (WORK ≤ length (now work)) × (Nodes (now work) nodes) × (nodes < most-visits) × (slot < MOST-PATHS) ⌝ }
+    requires { ⌜ (node-at (now work) slot ≤ nodes) × (place-at (now work) slot < 2 * ENTRIES) ⌝ }
+    ensures { λ _. ⌜ Visited (now (work .entry)) (now (work .exit)) slot nodes ⌝ }
 {
-    let a = crate::node_of(work, c);
-    let v = crate::place_of(work, c);
+    let a = crate::node_of(work, slot);
+    let v = crate::place_of(work, slot);
     let l = crate::len_of(work, words::wide(a));
-    let k = m + 1;
+    let k = nodes + 1;
     work[work_layout::PREVS + k] = a;
     work[work_layout::NODES + k] = v;
     work[work_layout::LENS + k] = (l + 1) as u32;
     crate::mark(work, words::wide(v) / 2);
 }
 
-// A path with the bits of node m at parent i of entry e, unless that is seen. Each of these functions gives how many paths there are then.
-fn add_copy(work: &mut [u32], e: usize, i: usize, n: usize, m: usize) -> usize
-    requires { ⌜ (Links (now work)) × (Nodes (now work) m) × (PathsOK (now work) m n) ⌝ }
-    requires { ⌜ (e < ENTRIES) × (i < count-at (now work) e) × (n < 3333) ⌝ }
+// A path with the bits of the last node at parent i of entry e, unless that is seen.
+fn add_copy(work: &mut [u32], e: usize, i: usize, paths: usize, nodes: usize) -> usize
+    requires { ⌜ (Links (now work)) × (Nodes (now work) nodes) × (PathsOK (now work) nodes paths) ⌝ }
+    requires { ⌜ (e < ENTRIES) × (i < count-at (now work) e) × (paths < MOST-PATHS) ⌝ }
     ensures { λ r. ⌜
-        Relisted (now (work .entry)) (now (work .exit)) m r
-        (trails-of (now (work .entry)) n
-        ++ upward (seen-of (now (work .entry)) m) (node-bits (now (work .entry)) m)
+        Relisted (now (work .entry)) (now (work .exit)) nodes r
+        (trails-of (now (work .entry)) paths
+        ++ upward (seen-of (now (work .entry)) nodes) (node-bits (now (work .entry)) nodes)
         (parent-of (at (now (work .entry)) (PARENTS + e * MAX-PARENTS + i)) ∷ [])) ⌝ }
 {
     let v = crate::parent_at(work, e, i);
     if crate::is_seen(work, words::wide(v) / 2) {
-        return n;
+        return paths;
     }
-    crate::put_path(work, n, m as u32, v, 0);
-    n + 1
+    crate::put_path(work, paths, nodes as u32, v, 0);
+    paths + 1
 }
 
-// A path with the bits of node m at each unseen parent of entry e from parent `first` on.
-pub fn add_copies(work: &mut [u32], e: usize, first: usize, count: usize, m: usize) -> usize
-    requires { ⌜ (Links (now work)) × (Nodes (now work) m) × (PathsOK (now work) m count) ⌝ }
-    requires { ⌜ (e < ENTRIES) × (first ≤ count-at (now work) e) × (count + (count-at (now work) e - first) ≤ 3333) ⌝ }
-    ensures { λ r. ⌜ Relisted (now (work .entry)) (now (work .exit)) m r (trails-of (now (work .entry)) count ++ copies (now (work .entry)) m e first) ⌝ }
+// A path with the bits of the last node at each unseen parent of entry e from parent `first` on.
+pub fn add_copies(work: &mut [u32], e: usize, first: usize, s: Search) -> usize
+    requires { ⌜ (Links (now work)) × (Nodes (now work) (s .nodes)) × (PathsOK (now work) (s .nodes) (s .paths)) ⌝ }
+    requires { ⌜ (e < ENTRIES) × (first ≤ count-at (now work) e) × (s .paths + (count-at (now work) e - first) ≤ MOST-PATHS) ⌝ }
+    ensures { λ r. ⌜
+        Relisted (now (work .entry)) (now (work .exit)) (s .nodes) r
+        (trails-of (now (work .entry)) (s .paths) ++ copies (now (work .entry)) (s .nodes) e first) ⌝ }
 {
     let all = crate::count_of(work, e);
-    let mut n = count;
+    let mut paths = s.paths;
     let mut i = first;
     while i < all {
-        n = add_copy(work, e, i, n, m);
+        paths = add_copy(work, e, i, paths, s.nodes);
         i += 1;
     }
-    n
+    paths
 }
 
-// For an entry on the stack a path there, with the bits of node m and a further 0.
-pub fn add_stacked(work: &mut [u32], e: usize, n: usize, m: usize, d: usize) -> usize
-    requires { ⌜ (Links (now work)) × (Tops (now work) d) × (Nodes (now work) m) × (PathsOK (now work) m n) ⌝ }
-    requires { ⌜ (e < ENTRIES) × (n < 3333) ⌝ }
-    ensures { λ r. ⌜ Relisted (now (work .entry)) (now (work .exit)) m r (trails-of (now (work .entry)) n ++ stacked (now (work .entry)) m e d) ⌝ }
+// For an entry on the stack a path there, with the bits of the last node and a further 0.
+pub fn add_stacked(work: &mut [u32], e: usize, s: Search) -> usize
+    requires { ⌜ (Links (now work)) × (Tops (now work) (s .depth)) × (Nodes (now work) (s .nodes)) × (PathsOK (now work) (s .nodes) (s .paths)) ⌝ }
+    requires { ⌜ (e < ENTRIES) × (s .paths < MOST-PATHS) ⌝ }
+    ensures { λ r. ⌜
+        Relisted (now (work .entry)) (now (work .exit)) (s .nodes) r
+        (trails-of (now (work .entry)) (s .paths) ++ stacked (now (work .entry)) (s .nodes) e (s .depth)) ⌝ }
 {
     let t = crate::top_of(work, e);
     if t == 0 {
-        return n;
+        return s.paths;
     }
-    crate::put_path(work, n, m as u32, (d - t) as u32, 1);
-    n + 1
+    crate::put_path(work, s.paths, s.nodes as u32, (s.depth - t) as u32, 1);
+    s.paths + 1
 }

@@ -1,5 +1,5 @@
-// How a step changes the working list: a path moved to a parent or to the stack, or dropped. In all of these e is an entry, c the slot of the path that
-// is stepped, n the number of paths, m the number of nodes, and d the number of entries on the stack.
+// How a step changes the working list: a path moved to a parent or to the stack, or dropped.
+use crate::Search;
 use crate::search_copies;
 ghost use mathlib.Core.List.{_++_};
 ghost use Prim.Native.Nat.{_+_, _-_, _*_, _≤_, _<_};
@@ -9,7 +9,7 @@ ghost use Rattle.work_layout.specs.Layout.{ENTRIES, PARENTS, MAX-PARENTS};
 ghost use Rattle.work_layout.specs.Rows.{Tops};
 ghost use Rattle.spec_search.specs.Flat.{swap-remove};
 ghost use Rattle.search_list.specs.Steps.{PathsOK, copies, stacked, Links, Nodes, Relisted, FirstUnseen};
-ghost use Rattle.search_list.specs.State.{node-bits, trail-of, trails-of, trail, count-at};
+ghost use Rattle.search_list.specs.State.{node-bits, trail-of, trails-of, trail, count-at, MOST-PATHS};
 
 // The first parent of entry e that is not seen, or how many it has.
 pub fn first_unseen(work: &[u32], e: usize) -> usize
@@ -27,46 +27,52 @@ pub fn first_unseen(work: &[u32], e: usize) -> usize
     i
 }
 
-// The last path, n, takes slot c.
-pub fn drop_path(work: &mut [u32], c: usize, n: usize, m: usize)
-    requires { ⌜ (WORK ≤ length (now work)) × (Nodes (now work) m) × (PathsOK (now work) m (n + 1)) × (c < n + 1) × (n < 3333) ⌝ }
+// The last path takes the slot.
+pub fn drop_path(work: &mut [u32], slot: usize, last: usize, nodes: usize)
+    requires { ⌜
+        (WORK ≤ length (now work))
+        × (Nodes (now work) nodes)
+        × (PathsOK (now work) nodes (last + 1))
+        × (slot < last + 1)
+        × (last < MOST-PATHS) ⌝ }
     ensures { λ _. ⌜
-        Relisted (now (work .entry)) (now (work .exit)) m n
-        (swap-remove (trails-of (now (work .entry)) (n + 1)) c (trail-of (now (work .entry)) c)) ⌝ }
+        Relisted (now (work .entry)) (now (work .exit)) nodes last
+        (swap-remove (trails-of (now (work .entry)) (last + 1)) slot (trail-of (now (work .entry)) slot)) ⌝ }
 {
-    let a = crate::node_of(work, n);
-    let v = crate::place_of(work, n);
-    let x = crate::extra_of(work, n);
-    crate::put_path(work, c, a, v, x);
+    let a = crate::node_of(work, last);
+    let v = crate::place_of(work, last);
+    let x = crate::extra_of(work, last);
+    crate::put_path(work, slot, a, v, x);
 }
 
-// Path c goes to parent k of entry e, each later unseen parent gets a copy, and then the stack. This function and the next give how many paths there
-// are then.
-pub fn go_up(work: &mut [u32], c: usize, n: usize, m: usize, e: usize, k: usize, d: usize) -> usize
-    requires { ⌜ (Links (now work)) × (Tops (now work) d) × (Nodes (now work) m) × (PathsOK (now work) m n) ⌝ }
-    requires { ⌜ (c < n) × (e < ENTRIES) × (k < count-at (now work) e) × (n + (count-at (now work) e - k) ≤ 3333) ⌝ }
+// The path in `slot` goes to parent k of entry e, each later unseen parent gets a copy, and then the stack. This function and the next give how many
+// paths there are then.
+pub fn go_up(work: &mut [u32], slot: usize, s: Search, e: usize, k: usize) -> usize
+    requires { ⌜ (Links (now work)) × (Tops (now work) (s .depth)) × (Nodes (now work) (s .nodes)) × (PathsOK (now work) (s .nodes) (s .paths)) ⌝ }
+    requires { ⌜ (slot < s .paths) × (e < ENTRIES) × (k < count-at (now work) e) × (s .paths + (count-at (now work) e - k) ≤ MOST-PATHS) ⌝ }
     ensures { λ r. ⌜
-        Relisted (now (work .entry)) (now (work .exit)) m r
-        (set (trails-of (now (work .entry)) n) c
-        (trail 0 (node-bits (now (work .entry)) m) (at (now (work .entry)) (PARENTS + e * MAX-PARENTS + k)))
-        ++ (copies (now (work .entry)) m e (k + 1) ++ stacked (now (work .entry)) m e d)) ⌝ }
+        Relisted (now (work .entry)) (now (work .exit)) (s .nodes) r
+        (set (trails-of (now (work .entry)) (s .paths)) slot
+        (trail 0 (node-bits (now (work .entry)) (s .nodes)) (at (now (work .entry)) (PARENTS + e * MAX-PARENTS + k)))
+        ++ (copies (now (work .entry)) (s .nodes) e (k + 1) ++ stacked (now (work .entry)) (s .nodes) e (s .depth))) ⌝ }
 {
     let v = crate::parent_at(work, e, k);
-    crate::put_path(work, c, m as u32, v, 0);
-    let more = search_copies::add_copies(work, e, k + 1, n, m);
-    search_copies::add_stacked(work, e, more, m, d)
+    crate::put_path(work, slot, s.nodes as u32, v, 0);
+    let mut more = s;
+    more.paths = search_copies::add_copies(work, e, k + 1, s);
+    search_copies::add_stacked(work, e, more)
 }
 
-// Path c is dropped, and the stack gets a copy.
-pub fn go_off(work: &mut [u32], c: usize, n: usize, m: usize, e: usize, d: usize) -> usize
-    requires { ⌜ (Links (now work)) × (Tops (now work) d) × (Nodes (now work) m) × (PathsOK (now work) m n) ⌝ }
-    requires { ⌜ (c < n) × (e < ENTRIES) × (n < 3333) ⌝ }
+// The path in `slot` is dropped, and the stack gets a copy.
+pub fn go_off(work: &mut [u32], slot: usize, s: Search, e: usize) -> usize
+    requires { ⌜ (Links (now work)) × (Tops (now work) (s .depth)) × (Nodes (now work) (s .nodes)) × (PathsOK (now work) (s .nodes) (s .paths)) ⌝ }
+    requires { ⌜ (slot < s .paths) × (e < ENTRIES) × (s .paths < MOST-PATHS) ⌝ }
     ensures { λ r. ⌜
-        Relisted (now (work .entry)) (now (work .exit)) m r
-        (swap-remove (trails-of (now (work .entry)) n ++ stacked (now (work .entry)) m e d) c
-        (trail-of (now (work .entry)) c)) ⌝ }
+        Relisted (now (work .entry)) (now (work .exit)) (s .nodes) r
+        (swap-remove (trails-of (now (work .entry)) (s .paths) ++ stacked (now (work .entry)) (s .nodes) e (s .depth)) slot
+        (trail-of (now (work .entry)) slot)) ⌝ }
 {
-    let last = search_copies::add_stacked(work, e, n, m, d) - 1;
-    drop_path(work, c, last, m);
+    let last = search_copies::add_stacked(work, e, s) - 1;
+    drop_path(work, slot, last, s.nodes);
     last
 }

@@ -3,6 +3,7 @@ mod search_limit;
 mod search_step;
 mod search_visit;
 
+use search_list::Search;
 use search_list::Turned;
 use words::slices;
 use work_layout::EntryIndex;
@@ -20,27 +21,25 @@ ghost use Rattle.search_list.specs.Steps.{Links, Working, Cleared, unseen};
 ghost use Rattle.search_passes.specs.Passes.{Passes, Started};
 ghost use Rattle.search_passes.specs.Finds.{Finds};
 
-// After a pass: the slot of the path that is the result; visit 1,025; how many paths and nodes there are for the next pass.
+// After a pass: the slot of the path that is the result; visit 1,025; the search for the next pass.
 pub enum Passing {
     Ended(usize),
     Over,
-    Next(usize, usize),
+    Next(Search),
 }
 
-// Pass l over the whole list of `count` paths.
-fn pass(work: &mut [u32], l: usize, count: usize, nodes: usize, d: usize) -> Passing
-    requires { ⌜ (Working (now work) d count nodes) × (Mid l (trails-of (now work) count) 0) ⌝ }
-    ensures { λ r. ⌜ Passes (now (work .entry)) (now (work .exit)) d l count nodes r ⌝ }
+// Pass l over the whole list.
+fn pass(work: &mut [u32], l: usize, first: Search) -> Passing
+    requires { ⌜ (Working (now work) (first .depth) (first .paths) (first .nodes)) × (Mid l (trails-of (now work) (first .paths)) 0) ⌝ }
+    ensures { λ r. ⌜ Passes (now (work .entry)) (now (work .exit)) l first r ⌝ }
 {
-    let mut c = 0;
-    let mut n = count;
-    let mut m = nodes;
-    while c < n {
-        match search_step::turn(work, l, c, n, m, d) {
-            Turned::On(c2, n2, m2) => {
-                c = c2;
-                n = n2;
-                m = m2;
+    let mut slot = 0;
+    let mut s = first;
+    while slot < s.paths {
+        match search_step::turn(work, l, slot, s) {
+            Turned::On(i, next) => {
+                slot = i;
+                s = next;
             }
             Turned::Result(i) => {
                 return Passing::Ended(i);
@@ -50,7 +49,7 @@ fn pass(work: &mut [u32], l: usize, count: usize, nodes: usize, d: usize) -> Pas
             }
         }
     }
-    Passing::Next(n, m)
+    Passing::Next(s)
 }
 
 // No entry is seen.
@@ -85,16 +84,18 @@ fn all_passes(work: &mut [u32], e: u32, len: u64, depth: usize) -> Way
     let limit = search_limit::limit_of(len);
     start(work, e);
     let mut l = 0;
-    let mut n = 1;
-    let mut m = 0;
+    let mut s = Search {
+        paths: 1,
+        nodes: 0,
+        depth,
+    };
     while l <= limit {
-        if n == 0 {
+        if s.paths == 0 {
             return Way::Nothing;
         }
-        match pass(work, l, n, m, depth) {
-            Passing::Next(n2, m2) => {
-                n = n2;
-                m = m2;
+        match pass(work, l, s) {
+            Passing::Next(next) => {
+                s = next;
             }
             Passing::Ended(i) => {
                 return Way::By(i);

@@ -1,39 +1,37 @@
-// A turn of the search. In all of these c is the slot of the path that is stepped, n the number of paths, m the number of nodes, l the pass, and d the
-// number of entries on the stack.
+// A turn of the search.
 use crate::search_visit;
+use search_list::Search;
 use search_list::Turned;
-ghost use Prim.Native.Nat.{ℕ, _≤_, _<_};
-ghost use lib.ListN.{length};
-ghost use Rattle.words.specs.Words.{WORK};
+ghost use Prim.Native.Nat.{_<_};
 ghost use Rattle.search_list.specs.Cursor.{Mid};
 ghost use Rattle.search_list.specs.Steps.{Working, Steps, Turns};
 ghost use Rattle.search_list.specs.State.{trails-of, extra-at};
 
-// The step of path c, which is on the stack.
-fn step_stack(work: &mut [u32], c: usize, n: usize, m: usize) -> Turned
-    requires { ⌜ (WORK ≤ length (now work)) × (c < 3073) × (0 < extra-at (now work) c) × (extra-at (now work) c ≤ 4097) ⌝ }
-    ensures { λ r. ⌜ ((d : ℕ) → Working (now (work .entry)) d n m → c < n → Steps (now (work .entry)) (now (work .exit)) d c n m r) ⌝ }
+// The step of the path in `slot`, which is on the stack.
+fn step_stack(work: &mut [u32], slot: usize, s: Search) -> Turned
+    requires { ⌜ (Working (now work) (s .depth) (s .paths) (s .nodes)) × (slot < s .paths) × (0 < extra-at (now work) slot) ⌝ }
+    ensures { λ r. ⌜ Steps (now (work .entry)) (now (work .exit)) (s .depth) slot (s .paths) (s .nodes) r ⌝ }
 {
-    let v = search_list::place_of(work, c);
+    let v = search_list::place_of(work, slot);
     if v == 0 {
-        return Turned::Result(c);
+        return Turned::Result(slot);
     }
-    let a = search_list::node_of(work, c);
-    let x = search_list::extra_of(work, c);
-    search_list::put_path(work, c, a, v - 1, x + 1);
-    Turned::On(c + 1, n, m)
+    let a = search_list::node_of(work, slot);
+    let x = search_list::extra_of(work, slot);
+    search_list::put_path(work, slot, a, v - 1, x + 1);
+    Turned::On(slot + 1, s)
 }
 
-// A turn of pass l: path c is passed over where it has more than l bits, and stepped otherwise.
-pub fn turn(work: &mut [u32], l: usize, c: usize, n: usize, m: usize, d: usize) -> Turned
-    requires { ⌜ (Working (now work) d n m) × (Mid l (trails-of (now work) n) c) × (c < n) ⌝ }
-    ensures { λ r. ⌜ Turns (now (work .entry)) (now (work .exit)) d l c n m r ⌝ }
+// A turn of pass l: the path in `slot` is passed over where it has more than l bits, and stepped otherwise.
+pub fn turn(work: &mut [u32], l: usize, slot: usize, s: Search) -> Turned
+    requires { ⌜ (Working (now work) (s .depth) (s .paths) (s .nodes)) × (Mid l (trails-of (now work) (s .paths)) slot) × (slot < s .paths) ⌝ }
+    ensures { λ r. ⌜ Turns (now (work .entry)) (now (work .exit)) (s .depth) l slot (s .paths) (s .nodes) r ⌝ }
 {
-    if search_list::size_of(work, c) > l {
-        return Turned::On(c + 1, n, m);
+    if search_list::size_of(work, slot) > l {
+        return Turned::On(slot + 1, s);
     }
-    if search_list::extra_of(work, c) > 0 {
-        return step_stack(work, c, n, m);
+    if search_list::extra_of(work, slot) > 0 {
+        return step_stack(work, slot, s);
     }
-    search_visit::step_entry(work, c, n, m, d)
+    search_visit::step_entry(work, slot, s)
 }

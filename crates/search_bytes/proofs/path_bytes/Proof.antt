@@ -2,6 +2,8 @@
 -- Assumes nothing.
 use native.Mathlib.Omega.{arith}
 use borrow.Author.Needs.{needs}
+use Prim.Native.Nat.{_≤_}
+use lib.ListN.{length}
 use mathlib.Core.Path.{_≡_, sym, subst, _∙_}
 use Rattle.search_list.specs.State.{Chain}
 use Rattle.search_bytes.proofs.BytesLaws.{Writing, writing-start, writing-more, writing-end}
@@ -13,6 +15,10 @@ Inv-loop work slot out₀ k x₀ a₀ j₀ out x a j = Writing work x₀ a₀ k 
 
 abbrev μ-loop : tie.MeasureT-loop
 μ-loop work slot out₀ k x₀ a₀ j₀ out x a j = j
+
+-- There is room for the bytes.
+fits : (x : tie.After-path-length Inv-loop μ-loop) → x .path-length .result ≤ length (x .before .before .before .args .out .now)
+fits x = omega (arith, x .path-length .ensures .0, x .before .before .before .pre .2)
 
 path-length-requires : tie.Need-path-length-requires Inv-loop μ-loop
 path-length-requires c κs = let s = c .before .before in (s .pre .0, s .pre .1)
@@ -32,7 +38,7 @@ wide-requires-2 c κs = search needs
 loop-holds : tie.Need-loop-holds Inv-loop μ-loop
 loop-holds c =
     let s = c .before .before .before .before .before .before .before in
-    writing-start (s .args .work .now) _ _ _ (s .args .out .now) (omega (arith, c .before .before .before .before .path-length .ensures .0, s .pre .2))
+    writing-start (s .args .work .now) _ _ _ (s .args .out .now) (fits (c .before .before .before .before))
     (subst (Chain (s .args .work .now)) (sym (c .wide2 .ensures ∙ c .before .node-of .ensures)) (s .pre .1 .chain))
 
 next-byte-requires : tie.Need-next-byte-requires Inv-loop μ-loop
@@ -46,9 +52,8 @@ sub-out c = omega arith
 
 slice-write-out : tie.Need-slice-write-out Inv-loop μ-loop
 slice-write-out c =
-    let s = c .before .before .before .before .before .before .before .before .before .before .before in
-    let k = c .before .before .before .loop in
-    omega (arith, k .inv .len, k .inv .within, c .before .before .before .before .before .before .before .before .path-length .ensures .0, s .pre .2, c .before .before .loop-test .taken)
+    let k = c .before .before .before .loop .inv in
+    omega (arith, k .len, k .within, fits (c .before .before .before .before .before .before .before .before), c .before .before .loop-test .taken)
 
 sub-j : tie.Need-sub-j Inv-loop μ-loop
 sub-j c = omega arith
@@ -58,9 +63,9 @@ loop-less c = omega arith
 
 loop-again : tie.Need-loop-again Inv-loop μ-loop
 loop-again c =
-    let s = c .before .before .before .before .before .before .before .before .before .before .before in
-    let h = c .before .before .before .before .before .before .before .before .path-length .ensures .0 in
-    writing-more (s .args .work .now) _ _ _ (s .args .out .now) _ _ _ _ _ _ _ (omega (arith, h, s .pre .2)) (c .before .before .before .loop .inv)
+    let p = c .before .before .before .before .before .before .before .before in
+    let a = p .before .before .before .args in
+    writing-more (a .work .now) _ _ _ (a .out .now) _ _ _ _ _ _ _ (fits p) (c .before .before .before .loop .inv)
     (c .before .before .loop-test .taken) (c .before .next-byte .ensures)
 
 same-length : tie.Need-same-length Inv-loop μ-loop
@@ -68,13 +73,14 @@ same-length c = c .before .loop .inv .len
 
 returns : tie.Need-returns Inv-loop μ-loop
 returns c =
-    let s = c .before .before .before .before .before .before .before .before .before in
     let k = c .before .loop in
+    let a = c .before .before in
+    let x = a .before .before in
+    let p = x .before .before in
+    let s = p .before .before .before in
     let e : k .j ≡ 0 = omega (arith, c .loop-test .left) in
-    let start =
-    rw (c .before .before .before .before .wide .ensures, c .before .before .before .before .before .extra-of .ensures, c .before .before .wide2 .ensures, c .before .before .before .node-of .ensures) at (k .inv) in
-    writing-end (s .args .work .now) (s .args .slot) _ (s .args .out .now) (k .out) (k .x) (k .a) (k .j)
-    (c .before .before .before .before .before .before .path-length .ensures .0) e start
+    let m = rw (x .wide .ensures, x .before .extra-of .ensures, a .wide2 .ensures, a .before .node-of .ensures) at (k .inv) in
+    writing-end (s .args .work .now) (s .args .slot) _ (s .args .out .now) (k .out) (k .x) (k .a) (k .j) (p .path-length .ensures .0) e m
 
 pub path-bytes-spec : {M : Type 1} → statement M
 path-bytes-spec =

@@ -10,13 +10,17 @@ used-of-requires : tie.Need-used-of-requires
 used-of-requires c κs = search needs
 
 returns : tie.Need-returns
-returns c = let s = c .before .before .before .before in length-past (s .args .work .now) (s .args .e .0) (omega (arith, c .before .before .used-of .ensures))
+returns c =
+    let s = c .before .before .before .before in
+    length-past (s .args .work .now) (s .args .e .0) (omega (arith, c .before .before .used-of .ensures))
 
 length-of-requires : tie.Need-length-of-requires
 length-of-requires c κs = search needs
 
 returns-2 : tie.Need-returns-2
-returns-2 c = let s = c .before .before .before .before .before in length-here (s .args .work .now) (s .args .e .0) (c .length-of .result) (omega (arith, c .before .before .before .used-of .ensures)) (c .length-of .ensures)
+returns-2 c =
+    let s = c .before .before .before .before .before in
+    length-here (s .args .work .now) (s .args .e .0) (c .length-of .result) (omega (arith, c .before .before .before .used-of .ensures)) (c .length-of .ensures)
 
 pub length-at-spec : {M : Type 1} → statement M
 length-at-spec = tie.close (tie.spec used-of-requires returns length-of-requires returns-2)

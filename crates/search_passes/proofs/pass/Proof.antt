@@ -9,67 +9,55 @@ use Rattle.search_passes.proofs.pass.Statement.{statement}
 use Rattle.search_passes.proofs.pass.Tie as tie
 
 abbrev Inv-loop : tie.InvT-loop
-Inv-loop work₀ l count nodes d c₀ n₀ m₀ work c n m = Walking work₀ work d l count nodes c n m
+Inv-loop work₀ l slot₀ s₀ work slot s = Walking work₀ work l s₀ slot s
 
 abbrev μ-loop : tie.MeasureT-loop
-μ-loop work₀ l count nodes d c₀ n₀ m₀ work c n m = ahead l (trails-of work n) c
+μ-loop work₀ l slot₀ s₀ work slot s = ahead l (trails-of work (s .paths)) slot
 
 loop-holds : tie.Need-loop-holds Inv-loop μ-loop
-loop-holds c = let s = c .before in walking-start (s .args .work .now) (s .args .d) (s .args .l) (s .args .count) (s .args .nodes) (s .pre .0) (s .pre .1)
+loop-holds c = let s = c .before in walking-start (s .args .work .now) (s .args .l) (s .args .first) (s .pre .0) (s .pre .1)
 
 turn-requires : tie.Need-turn-requires Inv-loop μ-loop
-turn-requires c κs = let k = c .before .before .loop .inv in (k .sound, k .mid, c .before .loop-test .taken)
-
-enum-known-c2 : tie.Need-enum-known-c2 Inv-loop μ-loop
-enum-known-c2 c = search needs
-
-loop-less : tie.Need-loop-less Inv-loop μ-loop
-loop-less c = (rw (c .before .c2 .given .1) at (c .before .before .before .before .before .turn .ensures)) .fine .2
-
-loop-again : tie.Need-loop-again Inv-loop μ-loop
-loop-again c =
-    let s = c .before .before .before .before .before .before .before .before .before .before in
-    let k = c .before .before .before .before .before .before .before .before .loop in
-    walking-more (s .args .work .now) (k .work) (s .args .d) (s .args .l) (s .args .count) (s .args .nodes) (k .c) (k .n) (k .m) (k .inv)
-    (c .before .before .before .before .before .turn .last .0) (c .before .before .before .before .before .turn .kept .0) _ _ _
-    (rw (c .before .c2 .given .1) at (c .before .before .before .before .before .turn .ensures))
+turn-requires c κs = let k = c .before .before .before .loop .inv in (k .sound, k .mid, c .before .if1 .taken)
 
 enum-known-i : tie.Need-enum-known-i Inv-loop μ-loop
 enum-known-i c = search needs
 
+loop-less : tie.Need-loop-less Inv-loop μ-loop
+loop-less c = (rw (c .before .i .given .1) at (c .before .before .before .before .before .turn .ensures)) .fine .2
+
+loop-again : tie.Need-loop-again Inv-loop μ-loop
+loop-again c =
+    let t = c .before .before .before .before .before .turn in
+    walking-more (c .before .before .before .before .before .before .before .before .before .loop .inv) (t .kept .0) (rw (c .before .i .given .1) at (t .ensures))
+
+enum-known-i-2 : tie.Need-enum-known-i-2 Inv-loop μ-loop
+enum-known-i-2 c = search needs
+
 same-length : tie.Need-same-length Inv-loop μ-loop
-same-length c = c .before .before .before .before .before .turn .kept .0 ∙ c .before .before .before .before .before .before .before .before .loop .inv .len
+same-length c = c .before .before .before .before .before .turn .kept .0 ∙ c .before .before .before .before .before .before .before .before .before .loop .inv .len
 
 returns : tie.Need-returns Inv-loop μ-loop
 returns c =
-    let s = c .before .before .before .before .before .before .before .before .before .before in
-    let k = c .before .before .before .before .before .before .before .before .loop in
-    walking-result (s .args .work .now) (k .work) (s .args .d) (s .args .l) (s .args .count) (s .args .nodes) (k .c) (k .n) (k .m) (k .inv)
-    (c .before .before .before .before .before .turn .last .0) (c .before .before .before .before .before .turn .kept .0) _
-    (rw (c .before .i .given .1) at (c .before .before .before .before .before .turn .ensures))
+    let t = c .before .before .before .before .before .turn in
+    walking-result (c .before .before .before .before .before .before .before .before .before .loop .inv) (t .kept .0) (rw (c .before .i2 .given .1) at (t .ensures))
 
 enum-told : tie.Need-enum-told Inv-loop μ-loop
 enum-told c = search needs
 
 same-length-2 : tie.Need-same-length-2 Inv-loop μ-loop
-same-length-2 c = c .before .before .before .before .turn .kept .0 ∙ c .before .before .before .before .before .before .before .loop .inv .len
+same-length-2 c = c .before .before .before .before .turn .kept .0 ∙ c .before .before .before .before .before .before .before .before .loop .inv .len
 
 returns-2 : tie.Need-returns-2 Inv-loop μ-loop
 returns-2 c =
-    let s = c .before .before .before .before .before .before .before .before .before in
-    let k = c .before .before .before .before .before .before .before .loop in
-    walking-capped (s .args .work .now) (k .work) (s .args .d) (s .args .l) (s .args .count) (s .args .nodes) (k .c) (k .n) (k .m) (k .inv)
-    (c .before .before .before .before .turn .last .0) (c .before .before .before .before .turn .kept .0)
-    (rw (c .enum-told .given .1) at (c .before .before .before .before .turn .ensures))
+    let t = c .before .before .before .before .turn in
+    walking-capped (c .before .before .before .before .before .before .before .before .loop .inv) (t .kept .0) (rw (c .enum-told .given .1) at (t .ensures))
 
 same-length-3 : tie.Need-same-length-3 Inv-loop μ-loop
-same-length-3 c = c .before .loop .inv .len
+same-length-3 c = c .before .before .loop .inv .len
 
 returns-3 : tie.Need-returns-3 Inv-loop μ-loop
-returns-3 c =
-    let s = c .before .before .before in
-    let k = c .before .loop in
-    walking-end (s .args .work .now) (k .work) (s .args .d) (s .args .l) (s .args .count) (s .args .nodes) (k .c) (k .n) (k .m) (k .inv) (c .loop-test .left)
+returns-3 c = walking-end (c .before .before .loop .inv) (c .if1 .left)
 
 pub pass-spec : {M : Type 1} → statement M
 pass-spec =
@@ -79,10 +67,10 @@ pass-spec =
     μ-loop
     loop-holds
     turn-requires
-    enum-known-c2
+    enum-known-i
     loop-less
     loop-again
-    enum-known-i
+    enum-known-i-2
     same-length
     returns
     enum-told

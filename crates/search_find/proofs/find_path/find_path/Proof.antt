@@ -1,12 +1,27 @@
 -- `search_find::find_path::find_path` meets its contract: the first bit of a path found is set, so the number of its bits gives what is counted.
 -- Assumes nothing.
 use native.Mathlib.Omega.{arith}
-use mathlib.Core.Path.{_∙_}
+use mathlib.Core.Path.{_≡_, _∙_}
+use lib.ListN.{length}
+use Rattle.search_passes.specs.declared.Way.the-variants.{By}
+use Rattle.search_passes.specs.Finds.{Finds}
+use Rattle.search_list.specs.State.{path-at}
 use Rattle.search_list.proofs.Trails.{readable-size}
 use Rattle.search_find.proofs.find_path.Ends.{path-none, path-long, path-used}
 use borrow.Author.Needs.{needs}
 use Rattle.search_find.proofs.find_path.find_path.Statement.{statement}
 use Rattle.search_find.proofs.find_path.find_path.Tie as tie
+
+-- The call, from where a path is known to be found; what was found; and its bits, counted.
+abbrev start : tie.After-known-told → tie.Start
+start x = x .before .before .before .before .before .before .before .before
+
+found : (x : tie.After-known-told)
+    → Finds (start x .args .work .now) (x .before .before .before .before .before .search .last .0) (start x .args .depth) (start x .args .len) (start x .args .e .0) (By (x .before .i .given .0 .0))
+found x = rw (x .before .i .given .1) at (x .before .before .before .before .before .search .ensures)
+
+measured : (x : tie.After-size-of) → x .size-of .result ≡ length (path-at (x .before .before .before .before .before .before .before .search .last .0) (x .before .before .before .i .given .0 .0))
+measured x = x .size-of .ensures ∙ readable-size (x .before .before .before .before .before .before .before .search .last .0) _ (found (x .before .before) .usable)
 
 search-requires : tie.Need-search-requires
 search-requires c κs = search needs
@@ -16,14 +31,12 @@ enum-known-i c = search needs
 
 size-of-requires : tie.Need-size-of-requires
 size-of-requires c κs =
-    let s = c .before .before .before .before .before .before .before .before .before in
-    let f = rw (c .before .before .i .given .1) at (c .before .before .before .before .before .before .search .ensures) in
-    (omega (arith, c .before .before .before .before .before .before .search .kept .0, s .pre .0 .long), f .usable .slot, f .usable .chain .few)
+    let x = c .before in
+    let u = found x .usable in
+    (omega (arith, x .before .before .before .before .before .search .kept .0, start x .pre .0 .long), u .slot, u .chain .few)
 
 counted-requires : tie.Need-counted-requires
-counted-requires c κs =
-    let f = rw (c .before .before .before .i .given .1) at (c .before .before .before .before .before .before .before .search .ensures) in
-    omega (arith, c .size-of .ensures, f .usable .short, f .usable .extra)
+counted-requires c κs = let u = found (c .before .before) .usable in omega (arith, c .size-of .ensures, u .short, u .extra)
 
 wide-len-requires : tie.Need-wide-len-requires
 wide-len-requires c κs = search needs
@@ -33,13 +46,12 @@ same-length c = search needs
 
 returns : tie.Need-returns
 returns c =
-    let s = c .before .before .before .before .before .before .before .before .before .before .before .before .before in
-    let g = c .before .before .before .before .before .before .before .before .before .before .search in
-    let f = rw (c .before .before .before .before .before .before .i .given .1) at (g .ensures) in
-    let t = c .before .before .before .size-of in
     let k = c .before .before .counted in
-    path-used (s .args .work .now) (g .last .0) (s .args .depth) (s .args .len) _ _ f (t .result) (k .result)
-    (t .ensures ∙ readable-size (g .last .0) _ (f .usable)) (k .ensures) (rw (c .before .wide-len .ensures) at (c .if1 .taken))
+    let t = c .before .before .before in
+    let x = t .before .before in
+    let a = start x .args in
+    path-used (a .work .now) (x .before .before .before .before .before .search .last .0) (a .depth) (a .len) _ _ (found x) (t .size-of .result) (k .result) (measured t) (k .ensures)
+    (rw (c .before .wide-len .ensures) at (c .if1 .taken))
 
 enum-told : tie.Need-enum-told
 enum-told c = search needs
@@ -49,13 +61,12 @@ same-length-2 c = search needs
 
 returns-2 : tie.Need-returns-2
 returns-2 c =
-    let s = c .before .before .before .before .before .before .before .before .before .before .before .before .before in
-    let g = c .before .before .before .before .before .before .before .before .before .before .search in
-    let f = rw (c .before .before .before .before .before .before .i .given .1) at (g .ensures) in
-    let t = c .before .before .before .size-of in
     let k = c .before .before .counted in
-    path-long (s .args .work .now) (g .last .0) (s .args .depth) (s .args .len) _ _ f (t .result) (k .result)
-    (t .ensures ∙ readable-size (g .last .0) _ (f .usable)) (k .ensures) (rw (c .before .wide-len .ensures) at (c .if1 .left))
+    let t = c .before .before .before in
+    let x = t .before .before in
+    let a = start x .args in
+    path-long (a .work .now) (x .before .before .before .before .before .search .last .0) (a .depth) (a .len) _ _ (found x) (t .size-of .result) (k .result) (measured t) (k .ensures)
+    (rw (c .before .wide-len .ensures) at (c .if1 .left))
 
 same-length-3 : tie.Need-same-length-3
 same-length-3 c = search needs

@@ -7,10 +7,10 @@ use Rattle.search_list.proofs.search_copies.add_copies.Statement.{state
 use Rattle.search_list.proofs.search_copies.add_copies.Tie as tie
 
 abbrev Inv-loop : tie.InvT-loop
-Inv-loop work₀ e first count m all n₀ i₀ work n i = Copying work₀ work e m first count n i
+Inv-loop work₀ e first s all paths₀ i₀ work paths i = Copying work₀ work e (s .nodes) first (s .paths) paths i
 
 abbrev μ-loop : tie.MeasureT-loop
-μ-loop work₀ e first count m all n₀ i₀ work n i = all - i
+μ-loop work₀ e first s all paths₀ i₀ work paths i = all - i
 
 count-of-requires : tie.Need-count-of-requires Inv-loop μ-loop
 count-of-requires c κs = (c .before .before .pre .0 .0 .long, c .before .before .pre .1 .0)
@@ -18,14 +18,15 @@ count-of-requires c κs = (c .before .before .pre .0 .0 .long, c .before .before
 loop-holds : tie.Need-loop-holds Inv-loop μ-loop
 loop-holds c =
     let s = c .before .before .before in
-    copying-start (s .args .work .now) (s .args .e) (s .args .m) (s .args .first) (s .args .count) (s .pre .1 .1) (s .pre .0 .2)
+    copying-start (s .args .work .now) (s .args .e) (s .args .s .nodes) (s .args .first) (s .args .s .paths) (s .pre .1 .1) (s .pre .0 .2)
 
 add-copy-requires : tie.Need-add-copy-requires Inv-loop μ-loop
 add-copy-requires c κs =
     let s = c .before .before .before .before .before .before in
     let k = c .before .before .loop in
-    copying-asks (s .args .work .now) _ (s .args .e) (s .args .m) (s .args .first) (s .args .count) (k .n) (k .i) (c .before .before .before .count-of .result)
-    (s .pre .0 .0) (s .pre .0 .1) (s .pre .1 .0) (s .pre .1 .2) (c .before .before .before .count-of .ensures) (k .inv) (c .before .loop-test .taken)
+    let a = c .before .before .before .count-of in
+    copying-asks (s .args .work .now) _ (s .args .e) (s .args .s .nodes) (s .args .first) (s .args .s .paths) (k .paths) (k .i) (a .result)
+    (s .pre .0 .0) (s .pre .0 .1) (s .pre .1 .0) (s .pre .1 .2) (a .ensures) (k .inv) (c .before .loop-test .taken)
 
 add-i : tie.Need-add-i Inv-loop μ-loop
 add-i c =
@@ -40,9 +41,8 @@ loop-again c =
     let s = c .before .before .before .before .before .before .before .before .before in
     let k = c .before .before .before .before .before .loop in
     let a = c .before .before .add-copy in
-    copying-more (s .args .work .now) _ (a .last .0) (s .args .e) (s .args .m) (s .args .first) (s .args .count) (k .n) (a .result) (k .i)
-    (s .pre .0 .0) (s .pre .0 .1) (s .pre .1 .0) (k .inv)
-    (omega (arith, c .before .before .before .before .loop-test .taken, c .before .before .before .before .before .before .count-of .ensures)) (a .kept .0)
+    copying-more (s .args .work .now) _ (a .last .0) (s .args .e) (s .args .s .nodes) (s .args .first) (s .args .s .paths) (k .paths) (a .result) (k .i)
+    (s .pre .0 .0) (s .pre .0 .1) (s .pre .1 .0) (k .inv) (omega (arith, c .before .before .before .before .loop-test .taken, c .before .before .before .before .before .before .count-of .ensures)) (a .kept .0)
     (a .ensures)
 
 same-length : tie.Need-same-length Inv-loop μ-loop
@@ -51,9 +51,9 @@ same-length c = c .before .loop .inv .len
 returns : tie.Need-returns Inv-loop μ-loop
 returns c =
     let s = c .before .before .before .before .before in
-    copying-end (s .args .work .now) _ (s .args .e) (s .args .m) (s .args .first) (s .args .count) (c .before .loop .n) (c .before .loop .i) (s .pre .0 .0)
-    (s .pre .1 .0) (c .before .loop .inv)
-    (omega (arith, c .loop-test .left, c .before .before .count-of .ensures))
+    let k = c .before .loop in
+    copying-end (s .args .work .now) _ (s .args .e) (s .args .s .nodes) (s .args .first) (s .args .s .paths) (k .paths) (k .i) (s .pre .0 .0)
+    (s .pre .1 .0) (k .inv) (omega (arith, c .loop-test .left, c .before .before .count-of .ensures))
 
 pub add-copies-spec : {M : Type 1} → statement M
 add-copies-spec =

@@ -2,12 +2,23 @@
 -- Assumes nothing.
 use Rattle.search_list.proofs.Copies.{copy-seen, copy-new}
 use Rattle.search_list.specs.State.{seen-at}
-use Prim.Native.Nat.{ℕ, _/_}
-use mathlib.Core.Path.{ap, sym, _∙_}
+use Prim.Native.Nat.{ℕ, _/_, _<_}
+use Rattle.work_layout.specs.Layout.{ENTRIES}
+use mathlib.Core.Path.{_≡_, ap, sym, _∙_}
 use native.Mathlib.Omega.{arith}
 use borrow.Author.Needs.{needs}
 use Rattle.search_list.proofs.search_copies.add_copy.Statement.{statement}
 use Rattle.search_list.proofs.search_copies.add_copy.Tie as tie
+
+-- The parent is an entry.
+low : (x : tie.After-parent-at) → x .parent-at .result / 2 < ENTRIES
+low x =
+    let s = x .before .before .before in
+    omega (arith, x .parent-at .ensures, s .pre .0 .0 .links (s .args .e) (s .args .i) (s .pre .1 .0) (s .pre .1 .1))
+
+-- Whether it is seen.
+seen : (x : tie.After-is-seen) → x .is-seen .result ≡ seen-at (x .before .before .before .before .before .before .args .work .now) (x .before .before .before .parent-at .result / 2)
+seen x = x .is-seen .ensures ∙ ap (λ (k : ℕ). seen-at (x .before .before .before .before .before .before .args .work .now) (k / 2)) (x .before .wide .ensures)
 
 parent-at-requires : tie.Need-parent-at-requires
 parent-at-requires c κs =
@@ -18,20 +29,17 @@ wide-requires : tie.Need-wide-requires
 wide-requires c κs = search needs
 
 is-seen-requires : tie.Need-is-seen-requires
-is-seen-requires c κs =
-    let s = c .before .before .before .before .before in
-    (s .pre .0 .0 .long, omega (arith, c .wide .ensures, c .before .before .parent-at .ensures, s .pre .0 .0 .links (s .args .e) (s .args .i) (s .pre .1 .0) (s .pre .1 .1)))
+is-seen-requires c κs = (c .before .before .before .before .before .pre .0 .0 .long, omega (arith, c .wide .ensures, low (c .before .before)))
 
 same-length : tie.Need-same-length
 same-length c = search needs
 
 returns : tie.Need-returns
 returns c =
-    let s = c .before .before .before .before .before .before .before in
-    let v = c .before .before .before .before .parent-at in
-    copy-seen (s .args .work .now) (s .args .m) (s .args .n) (s .pre .0 .1) (s .pre .0 .2) (v .result) _ (v .ensures)
-    (omega (arith, v .ensures, s .pre .0 .0 .links (s .args .e) (s .args .i) (s .pre .1 .0) (s .pre .1 .1)))
-    (sym (c .if1 .taken) ∙ c .before .is-seen .ensures ∙ ap (λ (k : ℕ). seen-at (s .args .work .now) (k / 2)) (c .before .before .wide .ensures))
+    let v = c .before .before .before .before in
+    let s = v .before .before .before in
+    copy-seen (s .args .work .now) (s .args .nodes) (s .args .paths) (s .pre .0 .1) (s .pre .0 .2) (v .parent-at .result) _ (v .parent-at .ensures) (low v)
+    (sym (c .if1 .taken) ∙ seen (c .before))
 
 cast-put-path : tie.Need-cast-put-path
 cast-put-path c = search needs
@@ -47,12 +55,11 @@ same-length-2 c = search needs
 
 returns-2 : tie.Need-returns-2
 returns-2 c =
-    let s = c .before .before .before .before .before .before .before .before .before .before .before in
-    let v = c .before .before .before .before .before .before .before .before .parent-at in
-    copy-new (s .args .work .now) (s .args .m) (s .args .n) (s .pre .0 .1) (s .pre .0 .2) (c .before .before .put-path .last .0) (v .result) _ (v .ensures)
-    (omega (arith, v .ensures, s .pre .0 .0 .links (s .args .e) (s .args .i) (s .pre .1 .0) (s .pre .1 .1))) (s .pre .1 .2)
-    (sym (c .before .before .before .before .if1 .left) ∙ c .before .before .before .before .before .is-seen .ensures ∙ ap (λ (k : ℕ). seen-at (s .args .work .now) (k / 2)) (c .before .before .before .before .before .before .wide .ensures))
-    (c .before .before .put-path .ensures)
+    let p = c .before .before .put-path in
+    let v = c .before .before .before .before .before .before .before .before in
+    let s = v .before .before .before in
+    copy-new (s .args .work .now) (s .args .nodes) (s .args .paths) (s .pre .0 .1) (s .pre .0 .2) (p .last .0) (v .parent-at .result) _
+    (v .parent-at .ensures) (low v) (s .pre .1 .2) (sym (c .before .before .before .before .if1 .left) ∙ seen (c .before .before .before .before .before)) (p .ensures)
 
 pub add-copy-spec : {M : Type 1} → statement M
 add-copy-spec =

@@ -1,15 +1,24 @@
 -- `search_list::search_copies::add_node` meets its contract: four stores make the node, and the mark its entry seen.
 -- Assumes nothing.
+use Rattle.spec_search.specs.Search.{most-visits}
 use Rattle.search_list.proofs.Copies.{node-added}
 use Rattle.words.specs.Words.{at}
 use lib.ListN.{length-set}
-use Prim.Native.Nat.{ℕ, _+_}
+use Prim.Native.Nat.{ℕ, _+_, _≤_}
 use mathlib.Core.Path.{ap, _∙_}
 use native.Mathlib.Omega.{arith}
 use borrow.Author.Needs.{needs}
 use Rattle.work_layout.specs.Layout.{LENS}
 use Rattle.search_list.proofs.search_copies.add_node.Statement.{statement}
 use Rattle.search_list.proofs.search_copies.add_node.Tie as tie
+
+-- No node has more bits than there are nodes.
+short : (x : tie.After-len-of) → x .len-of .result ≤ most-visits
+short x =
+    let s = x .before .before .before .before .before .before .before .before in
+    let a = x .before .before .before .before .before .node-of .ensures in
+    let l = x .before .wide in
+    omega (arith, s .pre .0 .1 .short (l .result) (omega (arith, a, s .pre .1 .0, l .ensures)), x .len-of .ensures, l .ensures, a, s .pre .1 .0, s .pre .0 .2)
 
 node-of-requires : tie.Need-node-of-requires
 node-of-requires c κs = search needs
@@ -45,16 +54,10 @@ slice-write-work-2 : tie.Need-slice-write-work-2
 slice-write-work-2 c = simp length-set (omega arith)
 
 add-work-3 : tie.Need-add-work-3
-add-work-3 c =
-    let s = c .before .before .before .before .before .before .before .before in
-    let a = c .before .before .before .before .before .node-of in
-    omega (arith, s .pre .0 .1 .short (c .before .wide .result) (omega (arith, a .ensures, s .pre .1 .0, c .before .wide .ensures)), c .len-of .ensures, c .before .wide .ensures, a .ensures, s .pre .1 .0)
+add-work-3 c = omega (arith, short c)
 
 cast-work : tie.Need-cast-work
-cast-work c =
-    let s = c .before .before .before .before .before .before .before .before in
-    let a = c .before .before .before .before .before .node-of in
-    omega (arith, s .pre .0 .1 .short (c .before .wide .result) (omega (arith, a .ensures, s .pre .1 .0, c .before .wide .ensures)), c .len-of .ensures, c .before .wide .ensures, a .ensures, s .pre .1 .0)
+cast-work c = omega (arith, short c)
 
 add-work-4 : tie.Need-add-work-4
 add-work-4 c = search needs
@@ -79,14 +82,15 @@ same-length c =
 
 returns : tie.Need-returns
 returns c =
-    let n = c .before .before .before .before .before .before .before .before .before .before .node-of in
-    let p = c .before .before .before .before .before .before .before .before .place-of in
-    let l = c .before .before .before .before .before .len-of in
-    let s = c .before .before .before .before .before .before .before .before .before .before .before .before .before in
-    node-added (s .args .work .now) (c .before .before .mark .last .0) (s .args .c) (s .args .m) (n .result) (p .result) (l .result)
+    let l = c .before .before .before .before .before in
+    let p = l .before .before .before .place-of in
+    let n = l .before .before .before .before .before .node-of in
+    let s = l .before .before .before .before .before .before .before .before in
+    let k = c .before .before .mark in
+    node-added (s .args .work .now) (k .last .0) (s .args .slot) (s .args .nodes) (n .result) (p .result) (l .len-of .result)
     (s .pre .0 .0) (s .pre .0 .1) (s .pre .0 .2) (s .pre .1 .0) (s .pre .1 .1) (n .ensures) (p .ensures)
-    (l .ensures ∙ ap (λ (k : ℕ). at (s .args .work .now) (LENS + k)) (c .before .before .before .before .before .before .wide .ensures))
-    (rw (c .before .before .before .wide2 .ensures) at (c .before .before .mark .ensures))
+    (l .len-of .ensures ∙ ap (λ (k : ℕ). at (s .args .work .now) (LENS + k)) (l .before .wide .ensures))
+    (rw (c .before .before .before .wide2 .ensures) at (k .ensures))
 
 pub add-node-spec : {M : Type 1} → statement M
 add-node-spec =

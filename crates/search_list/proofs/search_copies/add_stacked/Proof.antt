@@ -15,7 +15,7 @@ same-length c = search needs
 returns : tie.Need-returns
 returns c =
     let s = c .before .before .before .before in
-    off-stack (s .args .work .now) (s .args .m) (s .args .n) (s .pre .0 .2) (s .pre .0 .3) (s .args .d) (s .args .e) (s .pre .0 .1) (s .pre .1 .0)
+    off-stack (s .args .work .now) (s .args .s .nodes) (s .args .s .paths) (s .pre .0 .2) (s .pre .0 .3) (s .args .s .depth) (s .args .e) (s .pre .0 .1) (s .pre .1 .0)
     (c .before .top-of .result) (c .before .top-of .ensures) (c .if1 .taken)
 
 cast-put-path : tie.Need-cast-put-path
@@ -23,8 +23,9 @@ cast-put-path c = search needs
 
 sub-put-path : tie.Need-sub-put-path
 sub-put-path c =
-    let s = c .before .before .before .before .before in
-    omega (arith, s .pre .0 .1 .tops (s .args .e) (s .pre .1 .0), c .before .before .top-of .ensures)
+    let t = c .before .before .before .before in
+    let s = t .before .before .before in
+    omega (arith, s .pre .0 .1 .tops (s .args .e) (s .pre .1 .0), t .top-of .ensures)
 
 cast-put-path-2 : tie.Need-cast-put-path-2
 cast-put-path-2 c = search needs
@@ -40,11 +41,11 @@ same-length-2 c = search needs
 
 returns-2 : tie.Need-returns-2
 returns-2 c =
-    let s = c .before .before .before .before .before .before .before .before in
-    let t = c .before .before .before .before .before .top-of in
-    on-stack (s .args .work .now) (s .args .m) (s .args .n) (s .pre .0 .2) (s .pre .0 .3) (s .args .d) (s .args .e) (s .pre .0 .1) (s .pre .1 .0)
-    (c .before .before .put-path .last .0) (t .result) (t .ensures) (c .before .before .before .before .if1 .left) (s .pre .1 .1)
-    (c .before .before .put-path .ensures)
+    let p = c .before .before .before .put-path in
+    let t = c .before .before .before .before .before .before .before .before in
+    let s = t .before .before .before in
+    on-stack (s .args .work .now) (s .args .s .nodes) (s .args .s .paths) (s .pre .0 .2) (s .pre .0 .3) (s .args .s .depth) (s .args .e) (s .pre .0 .1)
+    (s .pre .1 .0) (p .last .0) (t .top-of .result) (t .top-of .ensures) (c .before .before .before .before .before .before .before .if1 .left) (s .pre .1 .1) (p .ensures)
 
 pub add-stacked-spec : {M : Type 1} → statement M
 add-stacked-spec =

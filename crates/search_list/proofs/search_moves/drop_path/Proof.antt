@@ -23,12 +23,11 @@ same-length c = search needs
 
 returns : tie.Need-returns
 returns c =
-    let a = c .before .before .before .before .before .before .before .before .node-of in
-    let v = c .before .before .before .before .before .before .place-of in
-    let x = c .before .before .before .before .extra-of in
-    let s = c .before .before .before .before .before .before .before .before .before .before .before in
-    path-dropped (s .args .work .now) (c .before .before .put-path .last .0) (s .args .m) (s .args .c) (s .args .n) (s .pre .1)
-    (rw (a .ensures, v .ensures, x .ensures) at (c .before .before .put-path .ensures))
+    let x = c .before .before .before .before in
+    let s = x .before .before .before .before .before .before .before in
+    let p = c .before .before .put-path in
+    path-dropped (s .args .work .now) (p .last .0) (s .args .nodes) (s .args .slot) (s .args .last) (s .pre .1)
+    (rw (x .before .before .before .before .node-of .ensures, x .before .before .place-of .ensures, x .extra-of .ensures) at (p .ensures))
     (s .pre .3) (omega arith) (s .pre .2)
 
 pub drop-path-spec : {M : Type 1} → statement M

@@ -1,49 +1,66 @@
 -- `search_passes::search_step::step_stack` meets its contract: at the top it is the result, elsewhere it goes one place up with a 1 more.
 -- Assumes nothing.
-use Rattle.search_list.proofs.TurnLaws.{stack-result, stack-nearer}
+use Rattle.search_list.specs.State.{MOST-PATHS}
+use Rattle.search_list.proofs.TurnLaws.{few, stack-result, stack-nearer}
 use mathlib.Core.Path.{sym, _∙_}
+use Prim.Native.Nat.{_<_}
+use native.Mathlib.Omega.{arith}
 use borrow.Author.Needs.{needs}
 use Rattle.search_passes.proofs.search_step.step_stack.Statement.{statement}
 use Rattle.search_passes.proofs.search_step.step_stack.Tie as tie
 
+-- There is room for the path.
+low : (s : tie.Start) → s .args .slot < MOST-PATHS
+low s =
+    let a = s .args in
+    omega (arith, few (a .work .now) (a .s .depth) (a .slot) (a .s .paths) (a .s .nodes) (s .pre .0) (s .pre .1), s .pre .1)
+
 place-of-requires : tie.Need-place-of-requires
-place-of-requires c κs = search needs
+place-of-requires c κs = let s = c .before .before in (s .pre .0 .links .long, low s)
 
 same-length : tie.Need-same-length
 same-length c = search needs
 
 returns : tie.Need-returns
 returns c =
-    λ d ok hc. let s = c .before .before .before .before in stack-result (s .args .work .now) d (s .args .c) (s .args .n) (s .args .m) ok hc (s .pre .2)
+    let s = c .before .before .before .before in
+    let a = s .args in
+    stack-result (a .work .now) (a .s .depth) (a .slot) (a .s .paths) (a .s .nodes) (s .pre .0) (s .pre .1) (s .pre .2)
     (sym (c .before .place-of .ensures) ∙ c .if1 .taken)
 
 node-of-requires : tie.Need-node-of-requires
-node-of-requires c κs = search needs
+node-of-requires c κs = let s = c .before .before .before .before .before in (s .pre .0 .links .long, low s)
 
 extra-of-requires : tie.Need-extra-of-requires
-extra-of-requires c κs = search needs
+extra-of-requires c κs = let s = c .before .before .before .before .before .before .before in (s .pre .0 .links .long, low s)
 
 sub-put-path : tie.Need-sub-put-path
 sub-put-path c = search needs
 
 add-put-path : tie.Need-add-put-path
-add-put-path c = search needs
+add-put-path c =
+    let s = c .before .before .before .before .before .before .before .before .before in
+    omega (arith, c .before .extra-of .ensures, s .pre .0 .paths (s .args .slot) (s .pre .1) .stack (s .pre .2))
 
 put-path-requires : tie.Need-put-path-requires
-put-path-requires c κs = search needs
+put-path-requires c κs = let s = c .before .before .before .before .before .before .before .before .before in (s .pre .0 .links .long, low s)
 
-add-t20 : tie.Need-add-t20
-add-t20 c = search needs
+add-t19 : tie.Need-add-t19
+add-t19 c = search needs
 
 same-length-2 : tie.Need-same-length-2
 same-length-2 c = search needs
 
 returns-2 : tie.Need-returns-2
-returns-2 c = λ d ok hc.
-    let s = c .before .before .before .before .before .before .before .before .before .before .before .before in
-    stack-nearer (s .args .work .now) d (s .args .c) (s .args .n) (s .args .m) ok hc (s .pre .2) (c .before .before .put-path .last .0)
-    (λ z. c .before .before .before .before .before .before .before .before .if1 .left (c .before .before .before .before .before .before .before .before .before .place-of .ensures ∙ z)) (c .before .before .put-path .kept .0)
-    (rw (c .before .before .before .before .before .before .node-of .ensures, c .before .before .before .before .before .before .before .before .before .place-of .ensures, c .before .before .before .before .extra-of .ensures) at (c .before .before .put-path .ensures))
+returns-2 c =
+    let p = c .before .before .put-path in
+    let x = c .before .before .before .before in
+    let v = x .before .before .before .before .before in
+    let s = v .before .before .before in
+    let a = s .args in
+    stack-nearer (a .work .now) (a .s .depth) (a .slot) (a .s .paths) (a .s .nodes) (s .pre .0) (s .pre .1) (s .pre .2) (p .last .0)
+    (λ z. x .before .before .before .before .if1 .left (v .place-of .ensures ∙ z)) (p .kept .0)
+    (rw (x .before .before .node-of .ensures, v .place-of .ensures, x .extra-of .ensures) at (p .ensures))
 
 pub step-stack-spec : {M : Type 1} → statement M
 step-stack-spec =
@@ -57,6 +74,6 @@ step-stack-spec =
     sub-put-path
     add-put-path
     put-path-requires
-    add-t20
+    add-t19
     same-length-2
     returns-2)

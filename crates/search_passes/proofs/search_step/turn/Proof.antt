@@ -2,18 +2,30 @@
 -- Assumes nothing.
 use Rattle.search_list.proofs.TurnLaws.{few, turned-over}
 use Rattle.search_list.proofs.Trails.{size-of}
+use Rattle.search_list.specs.State.{trail-of}
+use Rattle.spec_search.specs.Lists.{size}
+use mathlib.Core.Path.{_≡_, sym, _∙_}
 use native.Mathlib.Omega.{arith}
 use borrow.Author.Needs.{needs}
 use Rattle.search_passes.proofs.search_step.turn.Statement.{statement}
 use Rattle.search_passes.proofs.search_step.turn.Tie as tie
 
+-- The path's bits are counted.
+counted : (x : tie.After-size-of) → x .size-of .result ≡ size (trail-of (x .before .before .before .args .work .now) (x .before .before .before .args .slot))
+counted x =
+    let s = x .before .before .before in
+    let a = s .args in
+    x .size-of .ensures ∙ sym (size-of (a .work .now) (a .s .nodes) (a .slot) (s .pre .0 .nodes) (s .pre .0 .paths (a .slot) (s .pre .2)))
+
 size-of-requires : tie.Need-size-of-requires
 size-of-requires c κs =
     let s = c .before .before in
-    (s .pre .0 .links .long, omega (arith, few (s .args .work .now) (s .args .d) (s .args .c) (s .args .n) (s .args .m) (s .pre .0) (s .pre .2), s .pre .2), omega (arith, s .pre .0 .paths (s .args .c) (s .pre .2) .node, s .pre .0 .nodes .few))
+    let a = s .args in
+    let f = few (a .work .now) (a .s .depth) (a .slot) (a .s .paths) (a .s .nodes) (s .pre .0) (s .pre .2) in
+    (s .pre .0 .links .long, omega (arith, f, s .pre .2), omega (arith, s .pre .0 .paths (a .slot) (s .pre .2) .node, s .pre .0 .nodes .few))
 
-add-t11 : tie.Need-add-t11
-add-t11 c = search needs
+add-t9 : tie.Need-add-t9
+add-t9 c = search needs
 
 same-length : tie.Need-same-length
 same-length c = search needs
@@ -21,27 +33,25 @@ same-length c = search needs
 returns : tie.Need-returns
 returns c =
     let s = c .before .before .before .before in
-    turned-over (s .args .work .now) (s .args .d) (s .args .c) (s .args .n) (s .args .m) (s .pre .0) (s .pre .2) (s .args .l) (s .pre .1)
-    (omega (arith, size-of (s .args .work .now) (s .args .m) (s .args .c) (s .pre .0 .nodes) (s .pre .0 .paths (s .args .c) (s .pre .2)), c .if1 .taken, c .before .size-of .ensures))
+    let a = s .args in
+    turned-over (a .work .now) (a .s .depth) (a .slot) (a .s .paths) (a .s .nodes) (s .pre .0) (s .pre .2) (a .l) (s .pre .1)
+    (omega (arith, counted (c .before), c .if1 .taken))
 
 extra-of-requires : tie.Need-extra-of-requires
 extra-of-requires c κs = search needs
 
 step-stack-requires : tie.Need-step-stack-requires
 step-stack-requires c κs =
-    let s = c .before .before .before .before .before .before .before .before in
-    let h = c .before .if2 .taken in
-    let x = c .before .before .extra-of .ensures in
-    (s .pre .0 .links .long, omega (arith, few (s .args .work .now) (s .args .d) (s .args .c) (s .args .n) (s .args .m) (s .pre .0) (s .pre .2), s .pre .2), omega (arith, h, x), omega (arith, s .pre .0 .paths (s .args .c) (s .pre .2) .stack (omega (arith, h, x))))
+    let p = c .before .before .before .before .before .before .before .before .pre in
+    (p .0, p .2, omega (arith, c .before .if2 .taken, c .before .before .extra-of .ensures))
 
 same-length-2 : tie.Need-same-length-2
 same-length-2 c = search needs
 
 returns-2 : tie.Need-returns-2
 returns-2 c =
-    let s = c .before .before .before .before .before .before .before .before .before .before .before in
-    c .before .before .step-stack .ensures (s .args .d) (s .pre .0) (s .pre .2) (s .args .l) (s .pre .1)
-    (omega (arith, size-of (s .args .work .now) (s .args .m) (s .args .c) (s .pre .0 .nodes) (s .pre .0 .paths (s .args .c) (s .pre .2)), c .before .before .before .before .before .before .before .if1 .left, c .before .before .before .before .before .before .before .before .size-of .ensures))
+    let x = c .before .before .before .before .before .before .before .before in
+    c .before .before .step-stack .ensures (x .before .before .before .args .l) (x .before .before .before .pre .1) (omega (arith, counted x, c .before .before .before .before .before .before .before .if1 .left))
 
 step-entry-requires : tie.Need-step-entry-requires
 step-entry-requires c κs = search needs
@@ -51,16 +61,15 @@ same-length-3 c = search needs
 
 returns-3 : tie.Need-returns-3
 returns-3 c =
-    let s = c .before .before .before .before .before .before .before .before .before .before .before in
-    c .before .before .step-entry .ensures (s .args .l) (s .pre .1)
-    (omega (arith, size-of (s .args .work .now) (s .args .m) (s .args .c) (s .pre .0 .nodes) (s .pre .0 .paths (s .args .c) (s .pre .2)), c .before .before .before .before .before .before .before .if1 .left, c .before .before .before .before .before .before .before .before .size-of .ensures))
+    let x = c .before .before .before .before .before .before .before .before in
+    c .before .before .step-entry .ensures (x .before .before .before .args .l) (x .before .before .before .pre .1) (omega (arith, counted x, c .before .before .before .before .before .before .before .if1 .left))
 
 pub turn-spec : {M : Type 1} → statement M
 turn-spec =
     tie.close
     (tie.spec
     size-of-requires
-    add-t11
+    add-t9
     same-length
     returns
     extra-of-requires
