@@ -67,7 +67,7 @@ atoms-same input place (x ∷ xs) (y ∷ ys) e h k =
     let rest : xs ≡ ys = atoms-same input (place + 2 + length x) xs ys (omega arith) (h .3) (subst (λ (n : ℕ). AtomsAt input (place + 2 + n) ys) (sym size) (k .3)) in
     rw (same, rest)
 
-module _ (input : List ℕ) (count : ℕ) (w w′ : List ℕ) (place i : ℕ) (s : LoadingAtoms input count w w′ place i) where
+module _ {input : List ℕ} {count : ℕ} {w w′ : List ℕ} {place i : ℕ} (s : LoadingAtoms input count w w′ place i) where
   pub atoms-loaded : count ≤ i → i ≤ count → (ys : List (List ℕ)) → length ys ≡ count → AtomsAt input 7 ys → AtomsLoaded input ys w w′
   atoms-loaded l m ys e h =
       subst (λ (z : List (List ℕ)). AtomsLoaded input z w w′) (atoms-same input 7 (s .xs) ys (s .long ∙ sym e) (s .there) h)
@@ -99,15 +99,18 @@ module _ (input : List ℕ) (count : ℕ) (w w′ : List ℕ) (place i : ℕ) (s
             xs = s .xs;
             long = s .long;
             there = s .there;
-            left = subst (λ (n : ℕ). AtomsAt input (place + 2 + v) (drop n (s .xs))) (sym (add-one i)) (subst (λ (n : ℕ). AtomsAt input (place + 2 + n) (drop (suc i) (s .xs))) (sym size) (next-atom .3));
+            left = subst (λ (n : ℕ). AtomsAt input (place + 2 + v) (drop n (s .xs))) (sym (add-one i))
+                (subst (λ (n : ℕ). AtomsAt input (place + 2 + n) (drop (suc i) (s .xs))) (sym size) (next-atom .3));
             places = λ k l. by-lt k i (λ m. old k m) (λ m. new k (le-antisymm (omega arith) m));
             others = λ k l. two-other w′ i (place + 2) (place + 2 + v) room k (λ q. omega arith) (λ q. omega arith) ∙ s .others k (omega arith);
           }
         where
           old : (k : ℕ) → k < i → AtomPlace input (at (two w′ i (place + 2) (place + 2 + v)) (2 * k)) (at (two w′ i (place + 2) (place + 2 + v)) (2 * k + 1)) (getD (s .xs) k [])
           old k m =
-              subst (λ (a : ℕ). AtomPlace input a (at (two w′ i (place + 2) (place + 2 + v)) (2 * k + 1)) (getD (s .xs) k [])) (sym (two-other w′ i (place + 2) (place + 2 + v) room (2 * k) (λ q. omega arith) (λ q. omega arith)))
-              (subst (λ (a : ℕ). AtomPlace input (at w′ (2 * k)) a (getD (s .xs) k [])) (sym (two-other w′ i (place + 2) (place + 2 + v) room (2 * k + 1) (λ q. omega arith) (λ q. omega arith))) (s .places k m))
+              subst (λ (a : ℕ). AtomPlace input a (at (two w′ i (place + 2) (place + 2 + v)) (2 * k + 1)) (getD (s .xs) k []))
+              (sym (two-other w′ i (place + 2) (place + 2 + v) room (2 * k) (λ q. omega arith) (λ q. omega arith)))
+              (subst (λ (a : ℕ). AtomPlace input (at w′ (2 * k)) a (getD (s .xs) k []))
+              (sym (two-other w′ i (place + 2) (place + 2 + v) room (2 * k + 1) (λ q. omega arith) (λ q. omega arith))) (s .places k m))
 
           new : (k : ℕ) → k ≡ i → AtomPlace input (at (two w′ i (place + 2) (place + 2 + v)) (2 * k)) (at (two w′ i (place + 2) (place + 2 + v)) (2 * k + 1)) (getD (s .xs) k [])
           new k q =
@@ -151,7 +154,7 @@ pairs-same input place (p ∷ ps) (q ∷ qs) e h k =
     let rest : ps ≡ qs = pairs-same input (place + 8) ps qs (omega arith) (h .3) (k .3) in
     rw (same, rest)
 
-module _ (input : List ℕ) (from count : ℕ) (w w′ : List ℕ) (place i : ℕ) (s : LoadingPairs input from count w w′ place i) where
+module _ {input : List ℕ} {from count : ℕ} {w w′ : List ℕ} {place i : ℕ} (s : LoadingPairs input from count w w′ place i) where
   pub pairs-loaded : count ≤ i → i ≤ count → (qs : List Pair) → length qs ≡ count → PairsAt input from qs → PairsLoaded qs w w′
   pairs-loaded l m qs e h =
       subst (λ (z : List Pair). PairsLoaded z w w′) (pairs-same input from (s .ps) qs (s .long ∙ sym e) (s .there) h)

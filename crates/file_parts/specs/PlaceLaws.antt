@@ -122,7 +122,8 @@ module _ (input : List ℕ) where
       let t = then-of (one-step a p (length done) most (drop at input)) _ xs r (more-left n a p most done at h ∙ e) in
       let s = step-at input a p (length done) most at (t .first) (t .rest) (t .first-is) in
       one a p most at done xs r (t .first) (s .is) (s .names) (s .few)
-      (steps-read n a p most (at + step-size (t .first)) (done ++ t .first ∷ []) xs r (omega (arith, size-low (t .first))) (ap (steps n a p most (done ++ t .first ∷ [])) (sym (s .rest-is)) ∙ t .then-is)))
+      (steps-read n a p most (at + step-size (t .first)) (done ++ t .first ∷ []) xs r (omega (arith, size-low (t .first)))
+      (ap (steps n a p most (done ++ t .first ∷ [])) (sym (s .rest-is)) ∙ t .then-is)))
       (λ h. steps-done a p most at done xs r h (none-left n a p most done at h ∙ e))
 
 drop-none : (r : List ℕ) → drop 0 r ≡ r

@@ -21,7 +21,7 @@ use Rattle.file_tables.proofs.Chains.{chain-first, chain-none, chain-sa
 
 -- ---- one atom more
 
-module _ (b : ℕ → List ℕ) (w : List ℕ) (i s first size : ℕ) (L : Loading b w i) (room : i < 1024) (hs : s ≡ slot-of (b i))
+module _ {b : ℕ → List ℕ} {w : List ℕ} {i s first size : ℕ} (L : Loading b w i) (room : i < 1024) (hs : s ≡ slot-of (b i))
     (hf : first ≡ first-of b i) (hz : size ≡ serialized-length (b i)) where
   s-low : s < 1024
   s-low = omega (arith, slot-low (b i))

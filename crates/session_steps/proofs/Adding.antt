@@ -256,10 +256,12 @@ module _ {input : List ℕ} {f : File} {w words : List ℕ} {rows : List Checkpo
 
   -- The run up to this add, and the add.
   run : whole-run f (length out′)
-      ≡ after-words (take (p .steps) words) (after-add (settle s c₂ (comes-to f c₂ (length out) w′ (ended (a .outcome)) (meant .last))) (λ t. run-steps counted (length out′) f rest (u .past ++ undo-state s ∷ []) t))
+      ≡ after-words (take (p .steps) words) (after-add (settle s c₂ (comes-to f c₂ (length out) w′ (ended (a .outcome)) (meant .last)))
+      (λ t. run-steps counted (length out′) f rest (u .past ++ undo-state s ∷ []) t))
   run =
       subst (λ (n : ℕ). whole-run f n
-      ≡ after-words (take (p .steps) words) (after-add (settle s c₂ (comes-to f c₂ (length out) w′ (ended (a .outcome)) (meant .last))) (λ t. run-steps counted n f rest (u .past ++ undo-state s ∷ []) t)))
+      ≡ after-words (take (p .steps) words) (after-add (settle s c₂ (comes-to f c₂ (length out) w′ (ended (a .outcome)) (meant .last)))
+      (λ t. run-steps counted n f rest (u .past ++ undo-state s ∷ []) t)))
       (sym (a .out-long))
       (u .same
       ∙ ap (λ (ss : List Step). after-words (take (p .steps) words) (run-steps counted (length out) f ss (u .past) s)) e

@@ -53,18 +53,21 @@ returns-3 : tie.Need-returns-3
 returns-3 c =
     let a = c .before .before .before .before .before .before .before .before .before .args in
     c .whole-atom .ensures
-    ∙ parsed-sized (a .input .now) (a .position) (omega arith) (c .before .before .before .before .before .if2 .left) (c .before .before .offset .given .0 .0) (c .before .before .offset .given .0 .1 .0)
+    ∙ parsed-sized (a .input .now) (a .position) (omega arith) (c .before .before .before .before .before .if2 .left)
+    (c .before .before .offset .given .0 .0) (c .before .before .offset .given .0 .1 .0)
     (sym (c .before .before .before .before .decode-size-with-offset .ensures) ∙ ap decoded-size (c .before .before .offset .given .1))
 
 returns-4 : tie.Need-returns-4
 returns-4 c =
     let a = c .before .before .before .before .before .before .before .args in
-    parsed-refused (a .input .now) (a .position) (omega arith) (c .before .before .before .if2 .left) 14 (sym (c .before .before .decode-size-with-offset .ensures) ∙ ap decoded-size (c .enum-told .given .1))
+    parsed-refused (a .input .now) (a .position) (omega arith) (c .before .before .before .if2 .left) 14
+    (sym (c .before .before .decode-size-with-offset .ensures) ∙ ap decoded-size (c .enum-told .given .1))
 
 returns-5 : tie.Need-returns-5
 returns-5 c =
     let a = c .before .before .before .before .before .before .before .args in
-    parsed-refused (a .input .now) (a .position) (omega arith) (c .before .before .before .if2 .left) 15 (sym (c .before .before .decode-size-with-offset .ensures) ∙ ap decoded-size (c .enum-told2 .given .1))
+    parsed-refused (a .input .now) (a .position) (omega arith) (c .before .before .before .if2 .left) 15
+    (sym (c .before .before .decode-size-with-offset .ensures) ∙ ap decoded-size (c .enum-told2 .given .1))
 
 pub parse-atom-spec : {M : Type 1} → statement M
 parse-atom-spec =

@@ -21,13 +21,21 @@ turned-down-requires-2 : tie.Need-turned-down-requires-2
 turned-down-requires-2 c κs = search needs
 
 returns-2 : tie.Need-returns-2
-returns-2 c = file-unmarked (c .before .before .before .before .before .args .file .now) (c .turned-down2 .result) (omega arith) (sym (c .before .before .has-mark .ensures) ∙ not-true (c .before .before .has-mark .result) (c .before .if2 .taken)) (c .turned-down2 .ensures)
+returns-2 c =
+    let has-mark = c .before .before .has-mark in
+    file-unmarked (c .before .before .before .before .before .args .file .now) (c .turned-down2 .result) (omega arith)
+    (sym (has-mark .ensures) ∙ not-true (has-mark .result) (c .before .if2 .taken)) (c .turned-down2 .ensures)
 
 after-mark-requires : tie.Need-after-mark-requires
-after-mark-requires c κs = (mark-there (c .before .before .before .before .args .file .now) (sym (c .before .has-mark .ensures) ∙ not-false (c .before .has-mark .result) (c .if2 .left)), omega arith)
+after-mark-requires c κs =
+    let has-mark = c .before .has-mark in
+    (mark-there (c .before .before .before .before .args .file .now) (sym (has-mark .ensures) ∙ not-false (has-mark .result) (c .if2 .left)), omega arith)
 
 returns-3 : tie.Need-returns-3
-returns-3 c = file-marked (c .before .before .before .before .before .args .file .now) (c .after-mark .result) (omega arith) (sym (c .before .before .has-mark .ensures) ∙ not-false (c .before .before .has-mark .result) (c .before .if2 .left)) (c .after-mark .ensures)
+returns-3 c =
+    let has-mark = c .before .before .has-mark in
+    file-marked (c .before .before .before .before .before .args .file .now) (c .after-mark .result) (omega arith)
+    (sym (has-mark .ensures) ∙ not-false (has-mark .result) (c .before .if2 .left)) (c .after-mark .ensures)
 
 pub check-spec : {M : Type 1} → statement M
 check-spec =

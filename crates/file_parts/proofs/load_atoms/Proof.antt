@@ -18,16 +18,16 @@ loop-holds : tie.Need-loop-holds Inv-loop μ-loop
 loop-holds c = let s = c .before .before in (omega arith, refl, loading-atoms (s .args .file .now) (s .args .count) (s .args .table .now) (s .pre .0))
 
 add-start : tie.Need-add-start Inv-loop μ-loop
-add-start c = let a = c .before .before .before .before .args in let l = c .before .loop in omega (arith, atom-room (a .file .now) (a .count) (a .table .now) (l .table) (l .place) (l .i) (l .inv .2) (omega arith))
+add-start c = omega (arith, atom-room (c .before .loop .inv .2) (omega arith))
 
 number-at-requires : tie.Need-number-at-requires Inv-loop μ-loop
-number-at-requires c κs = let a = c .before .before .before .before .args in let l = c .before .loop in (atom-room (a .file .now) (a .count) (a .table .now) (l .table) (l .place) (l .i) (l .inv .2) (omega arith), omega arith)
+number-at-requires c κs = (atom-room (c .before .loop .inv .2) (omega arith), omega arith)
 
 cast-end : tie.Need-cast-end Inv-loop μ-loop
 cast-end c = omega arith
 
 add-end : tie.Need-add-end Inv-loop μ-loop
-add-end c = let a = c .before .before .before .before .before .args in let l = c .before .before .loop in omega (arith, atom-end (a .file .now) (a .count) (a .table .now) (l .table) (l .place) (l .i) (l .inv .2) (omega arith) (c .number-at .result) (c .number-at .ensures))
+add-end c = omega (arith, atom-end (c .before .before .loop .inv .2) (omega arith) (c .number-at .result) (c .number-at .ensures))
 
 mul-first : tie.Need-mul-first Inv-loop μ-loop
 mul-first c = omega arith
@@ -36,7 +36,7 @@ add-second : tie.Need-add-second Inv-loop μ-loop
 add-second c = omega arith
 
 cast-table : tie.Need-cast-table Inv-loop μ-loop
-cast-table c = let a = c .before .before .before .before .before .args in let l = c .before .before .loop in omega (arith, c .before .before .before .before .before .pre .0 .short, atom-room (a .file .now) (a .count) (a .table .now) (l .table) (l .place) (l .i) (l .inv .2) (omega arith))
+cast-table c = omega (arith, c .before .before .before .before .before .pre .0 .short, atom-room (c .before .before .loop .inv .2) (omega arith))
 
 mul-table : tie.Need-mul-table Inv-loop μ-loop
 mul-table c = omega arith
@@ -45,7 +45,9 @@ slice-write-table : tie.Need-slice-write-table Inv-loop μ-loop
 slice-write-table c = omega arith
 
 cast-table-2 : tie.Need-cast-table-2 Inv-loop μ-loop
-cast-table-2 c = let a = c .before .before .before .before .before .args in let l = c .before .before .loop in omega (arith, c .before .before .before .before .before .pre .0 .short, atom-end (a .file .now) (a .count) (a .table .now) (l .table) (l .place) (l .i) (l .inv .2) (omega arith) (c .number-at .result) (c .number-at .ensures))
+cast-table-2 c =
+    let l = c .before .before .loop in
+    omega (arith, c .before .before .before .before .before .pre .0 .short, atom-end (l .inv .2) (omega arith) (c .number-at .result) (c .number-at .ensures))
 
 mul-table-2 : tie.Need-mul-table-2 Inv-loop μ-loop
 mul-table-2 c = omega arith
@@ -61,18 +63,17 @@ loop-less c = omega arith
 
 loop-again : tie.Need-loop-again Inv-loop μ-loop
 loop-again c =
-    let a = c .before .before .before .before .before .args in
     let l = c .before .before .loop in (
       omega arith,
       simp length-set (l .inv .1),
-      atoms-turn (a .file .now) (a .count) (a .table .now) (l .table) (l .place) (l .i) (l .inv .2) (omega arith) (c .number-at .result) (c .number-at .ensures) (omega arith),
+      atoms-turn (l .inv .2) (omega arith) (c .number-at .result) (c .number-at .ensures) (omega arith),
     )
 
 same-length : tie.Need-same-length Inv-loop μ-loop
 same-length c = c .before .loop .inv .1
 
 returns : tie.Need-returns Inv-loop μ-loop
-returns c = let a = c .before .before .before .before .args in let l = c .before .loop in atoms-loaded (a .file .now) (a .count) (a .table .now) (l .table) (l .place) (l .i) (l .inv .2) (omega arith) (omega arith)
+returns c = atoms-loaded (c .before .loop .inv .2) (omega arith) (omega arith)
 
 pub load-atoms-spec : {M : Type 1} → statement M
 load-atoms-spec =

@@ -18,13 +18,13 @@ loop-holds : tie.Need-loop-holds Inv-loop μ-loop
 loop-holds c = let s = c .before .before in (omega arith, refl, loading-pairs (s .args .file .now) (s .args .from) (s .args .count) (s .args .table .now) (s .pre .0))
 
 number-at-requires : tie.Need-number-at-requires Inv-loop μ-loop
-number-at-requires c κs = let a = c .before .before .before .before .args in let l = c .before .loop in (omega (arith, pair-room (a .file .now) (a .from) (a .count) (a .table .now) (l .table) (l .place) (l .i) (l .inv .2) (omega arith)), omega arith)
+number-at-requires c κs = (omega (arith, pair-room (c .before .loop .inv .2) (omega arith)), omega arith)
 
 add-number-at : tie.Need-add-number-at Inv-loop μ-loop
-add-number-at c = let a = c .before .before .before .before .before .args in let l = c .before .before .loop in omega (arith, pair-room (a .file .now) (a .from) (a .count) (a .table .now) (l .table) (l .place) (l .i) (l .inv .2) (omega arith))
+add-number-at c = omega (arith, pair-room (c .before .before .loop .inv .2) (omega arith))
 
 number-at-requires-2 : tie.Need-number-at-requires-2 Inv-loop μ-loop
-number-at-requires-2 c κs = let a = c .before .before .before .before .before .args in let l = c .before .before .loop in (omega (arith, pair-room (a .file .now) (a .from) (a .count) (a .table .now) (l .table) (l .place) (l .i) (l .inv .2) (omega arith)), omega arith)
+number-at-requires-2 c κs = (omega (arith, pair-room (c .before .before .loop .inv .2) (omega arith)), omega arith)
 
 mul-first : tie.Need-mul-first Inv-loop μ-loop
 mul-first c = omega arith
@@ -45,7 +45,7 @@ slice-write-table-2 : tie.Need-slice-write-table-2 Inv-loop μ-loop
 slice-write-table-2 c = simp length-set (omega arith)
 
 add-place : tie.Need-add-place Inv-loop μ-loop
-add-place c = let a = c .before .before .before .before .before .before .args in let l = c .before .before .before .loop in omega (arith, pair-room (a .file .now) (a .from) (a .count) (a .table .now) (l .table) (l .place) (l .i) (l .inv .2) (omega arith))
+add-place c = omega (arith, pair-room (c .before .before .before .loop .inv .2) (omega arith))
 
 add-i : tie.Need-add-i Inv-loop μ-loop
 add-i c = omega arith
@@ -55,18 +55,17 @@ loop-less c = omega arith
 
 loop-again : tie.Need-loop-again Inv-loop μ-loop
 loop-again c =
-    let a = c .before .before .before .before .before .before .args in
     let l = c .before .before .before .loop in (
       omega arith,
       simp length-set (l .inv .1),
-      pairs-turn (a .file .now) (a .from) (a .count) (a .table .now) (l .table) (l .place) (l .i) (l .inv .2) (omega arith) (c .before .number-at .result) (c .number-at2 .result) (c .before .number-at .ensures) (c .number-at2 .ensures) (omega arith),
+      pairs-turn (l .inv .2) (omega arith) (c .before .number-at .result) (c .number-at2 .result) (c .before .number-at .ensures) (c .number-at2 .ensures) (omega arith),
     )
 
 same-length : tie.Need-same-length Inv-loop μ-loop
 same-length c = c .before .loop .inv .1
 
 returns : tie.Need-returns Inv-loop μ-loop
-returns c = let a = c .before .before .before .before .args in let l = c .before .loop in pairs-loaded (a .file .now) (a .from) (a .count) (a .table .now) (l .table) (l .place) (l .i) (l .inv .2) (omega arith) (omega arith)
+returns c = pairs-loaded (c .before .loop .inv .2) (omega arith) (omega arith)
 
 pub load-pairs-spec : {M : Type 1} → statement M
 load-pairs-spec =

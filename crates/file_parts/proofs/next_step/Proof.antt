@@ -16,7 +16,10 @@ number-at-requires : tie.Need-number-at-requires
 number-at-requires c κs = search needs
 
 returns-2 : tie.Need-returns-2
-returns-2 c = let a = c .before .before .before .before .before .args in add-short (a .file .now) (a .at) (c .before .before .number-at .result) (c .before .before .number-at .ensures) (c .before .if2 .taken) (omega arith)
+returns-2 c =
+    let a = c .before .before .before .before .before .args in
+    let number-at = c .before .before .number-at in
+    add-short (a .file .now) (a .at) (number-at .result) (number-at .ensures) (c .before .if2 .taken) (omega arith)
 
 add-number-at : tie.Need-add-number-at
 add-number-at c = search needs
@@ -28,10 +31,17 @@ add-t11 : tie.Need-add-t11
 add-t11 c = search needs
 
 returns-3 : tie.Need-returns-3
-returns-3 c = let a = c .before .before .before .before .before .before .args in add-step (a .file .now) (a .at) (c .before .before .before .number-at .result) (c .before .before .before .number-at .ensures) (c .before .before .if2 .taken) (omega arith) (c .number-at2 .result) (c .number-at2 .ensures)
+returns-3 c =
+    let a = c .before .before .before .before .before .before .args in
+    let number-at = c .before .before .before .number-at in
+    add-step (a .file .now) (a .at) (number-at .result) (number-at .ensures) (c .before .before .if2 .taken) (omega arith) (c .number-at2 .result)
+    (c .number-at2 .ensures)
 
 returns-4 : tie.Need-returns-4
-returns-4 c = let a = c .before .before .before .before .before .args in restore-short (a .file .now) (a .at) (c .before .before .number-at .result) (c .before .before .number-at .ensures) (c .before .if2 .left) (omega arith)
+returns-4 c =
+    let a = c .before .before .before .before .before .args in
+    let number-at = c .before .before .number-at in
+    restore-short (a .file .now) (a .at) (number-at .result) (number-at .ensures) (c .before .if2 .left) (omega arith)
 
 add-number-at-2 : tie.Need-add-number-at-2
 add-number-at-2 c = search needs
@@ -43,7 +53,11 @@ add-t12 : tie.Need-add-t12
 add-t12 c = search needs
 
 returns-5 : tie.Need-returns-5
-returns-5 c = let a = c .before .before .before .before .before .before .args in restore-step (a .file .now) (a .at) (c .before .before .before .number-at .result) (c .before .before .before .number-at .ensures) (c .before .before .if2 .left) (omega arith) (c .number-at3 .result) (c .number-at3 .ensures)
+returns-5 c =
+    let a = c .before .before .before .before .before .before .args in
+    let number-at = c .before .before .before .number-at in
+    restore-step (a .file .now) (a .at) (number-at .result) (number-at .ensures) (c .before .before .if2 .left) (omega arith) (c .number-at3 .result)
+    (c .number-at3 .ensures)
 
 pub next-step-spec : {M : Type 1} → statement M
 next-step-spec =

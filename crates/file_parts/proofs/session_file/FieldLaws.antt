@@ -121,7 +121,8 @@ module _ (input : List ℕ) (p : Part) (at most : ℕ) (h : Answers input itself
     pub count-there : p .value ≤ most → Answers input itself p (count 2 most (drop at input))
     count-there l =
         then-taken input itself itself p p (field 2 (drop at input)) _ read-count
-        (gives input itself p _ (read-count .value) (yes-asked 5 (leb (read-count .value) most) _ (le-leb (read-count .value) most (omega (arith, read-count .word-is)))) z (read-count .word-is) (read-count .inside))
+        (gives input itself p _ (read-count .value) (yes-asked 5 (leb (read-count .value) most) _ (le-leb (read-count .value) most (omega (arith, read-count .word-is))))
+        z (read-count .word-is) (read-count .inside))
 
 -- ---- an atom
 
@@ -151,7 +152,8 @@ module _ (input : List ℕ) (q : Part) (start n used : ℕ) (h : start ≤ lengt
   pub atom-short : length input - start < n → q .number ≡ 4 → Answers input sized q (atom-of used n (drop start input))
   atom-short l e =
       refuses input sized q (atom-of used n (drop start input)) 4
-      (ap (λ (g : Got (List ℕ)). and-then g (λ b s. asked 5 (leb (used + n) 32768) (asked 6 (listed (fits-in-small-atom b)) (got b s)))) (no-asked 4 (leb n (length (drop start input))) _ (lt-leb n (length (drop start input)) (simp length-drop (omega arith)))))
+      (ap (λ (g : Got (List ℕ)). and-then g (λ b s. asked 5 (leb (used + n) 32768) (asked 6 (listed (fits-in-small-atom b)) (got b s))))
+      (no-asked 4 (leb n (length (drop start input))) _ (lt-leb n (length (drop start input)) (simp length-drop (omega arith)))))
       e (omega arith) (omega arith)
 
   module _ (l : n ≤ length input - start) where
@@ -185,7 +187,8 @@ module _ (input : List ℕ) (q : Part) (start n used : ℕ) (h : start ≤ lengt
       pub atom-there : r ≡ Listed → q .number ≡ 0 → q .value ≡ n → q .next ≡ start + n → Answers input sized q (atom-of used n (drop start input))
       atom-there k z v e =
           gives input sized q (atom-of used n (drop start input)) (part input start n)
-          (few ∙ yes-asked 6 (listed (fits-in-small-atom (part input start n))) _ (listed-yes (fits-in-small-atom (part input start n)) (sym k ∙ answer)) ∙ ap (λ (j : ℕ). got (part input start n) (drop j input)) (sym e))
+          (few ∙ yes-asked 6 (listed (fits-in-small-atom (part input start n))) _ (listed-yes (fits-in-small-atom (part input start n)) (sym k ∙ answer))
+          ∙ ap (λ (j : ℕ). got (part input start n) (drop j input)) (sym e))
           z (v ∙ sym (part-length input start n (omega arith))) (omega arith)
 
 -- ---- handles
@@ -245,17 +248,20 @@ module _ (input : List ℕ) (p : Part) (at na np : ℕ) (h : Answers input itsel
     pub sentinel-none : p .value ≡ 0xffffffff → Answers input sentinel-word p (format.sentinel na np (drop at input))
     sentinel-none e =
         then-taken input itself sentinel-word p p (field 4 (drop at input)) _ read-handle
-        (gives input sentinel-word p _ none (cond-true (eqb (read-handle .value) 0xffffffff) _ _ (eq-eqb (read-handle .value) 0xffffffff (sym (read-handle .word-is) ∙ e))) z e (read-handle .inside))
+        (gives input sentinel-word p _ none
+        (cond-true (eqb (read-handle .value) 0xffffffff) _ _ (eq-eqb (read-handle .value) 0xffffffff (sym (read-handle .word-is) ∙ e))) z e (read-handle .inside))
 
     module _ (d : p .value ≡ 0xffffffff → ⊥) where
-      some-there : cond (eqb (read-handle .value) 0xffffffff) (got none (drop (p .next) input)) (asked 7 (named na np (node-of (read-handle .value))) (got (some (read-handle .value)) (drop (p .next) input)))
+      some-there : cond (eqb (read-handle .value) 0xffffffff) (got none (drop (p .next) input))
+          (asked 7 (named na np (node-of (read-handle .value))) (got (some (read-handle .value)) (drop (p .next) input)))
           ≡ asked 7 (named na np (node-of (read-handle .value))) (got (some (read-handle .value)) (drop (p .next) input))
       some-there = cond-false (eqb (read-handle .value) 0xffffffff) _ _ (ne-eqb (read-handle .value) 0xffffffff (λ e. d (read-handle .word-is ∙ e)))
 
       pub sentinel-there : named na np (node-of (p .value)) ≡ true → Answers input sentinel-word p (format.sentinel na np (drop at input))
       sentinel-there e =
           then-taken input itself sentinel-word p p (field 4 (drop at input)) _ read-handle
-          (gives input sentinel-word p _ (some (read-handle .value)) (some-there ∙ yes-asked 7 (named na np (node-of (read-handle .value))) _ (seven true e)) z (read-handle .word-is) (read-handle .inside))
+          (gives input sentinel-word p _ (some (read-handle .value)) (some-there ∙ yes-asked 7 (named na np (node-of (read-handle .value))) _ (seven true e))
+          z (read-handle .word-is) (read-handle .inside))
 
       pub sentinel-unnamed : (q : Part) → named na np (node-of (p .value)) ≡ false → q .number ≡ 7 → Answers input sentinel-word q (format.sentinel na np (drop at input))
       sentinel-unnamed q e n =
@@ -310,7 +316,8 @@ module _ (input : List ℕ) (p : Part) (at na np done : ℕ) (h : Answers input 
       then-taken input itself operand-word p q (field 1 (drop at input)) _ (taken input itself p (field 1 (drop at input)) h z)
       (refuses input operand-word q _ 5 (no-asked 5 (ltb done 1024) _ (le-ltb done 1024 l)) e (omega arith) (omega arith))
 
-  pub step-then : p .number ≡ 0 → (q : Part) → done < 1024 → Answers input operand-word q (operand na np (p .value) (drop (p .next) input)) → Answers input operand-word q (one-step na np done 1024 (drop at input))
+  pub step-then : p .number ≡ 0 → (q : Part) → done < 1024 → Answers input operand-word q (operand na np (p .value) (drop (p .next) input))
+      → Answers input operand-word q (one-step na np done 1024 (drop at input))
   step-then z q l a =
       let t = taken input itself p (field 1 (drop at input)) h z in
       then-taken input itself operand-word p q (field 1 (drop at input)) (λ code r. asked 5 (ltb done 1024) (operand na np code r)) t

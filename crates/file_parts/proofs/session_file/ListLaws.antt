@@ -37,7 +37,7 @@ pub record AtomsSoFar (input : List ℕ) (at count next used done : ℕ) : Type 
 pub atoms-start : (input : List ℕ) (at count : ℕ) → AtomsSoFar input at count at 0 0
 atoms-start input at count = record { read = []; long = refl; same = ap (λ (n : ℕ). atoms version-1 n 0 [] (drop at input)) (all-left count) }
 
-module _ (input : List ℕ) (at count next used done : ℕ) (s : AtomsSoFar input at count next used done) where
+module _ {input : List ℕ} {at count next used done : ℕ} (s : AtomsSoFar input at count next used done) where
   pub atoms-end : (p : Part) → count ≤ done → done ≤ count → next ≤ length input → p .number ≡ 0 → p .value ≡ count → p .next ≡ next
       → Answers input counted p (atoms version-1 count 0 [] (drop at input))
   unfolding atoms
@@ -87,7 +87,7 @@ pub record PairsSoFar (input : List ℕ) (at na count next done : ℕ) : Type 0 
 pub pairs-start : (input : List ℕ) (at na count : ℕ) → PairsSoFar input at na count at 0
 pairs-start input at na count = record { read = []; long = refl; same = ap (λ (n : ℕ). pairs na n [] (drop at input)) (all-left count) }
 
-module _ (input : List ℕ) (at na count next done : ℕ) (s : PairsSoFar input at na count next done) where
+module _ {input : List ℕ} {at na count next done : ℕ} (s : PairsSoFar input at na count next done) where
   pub pairs-end : (p : Part) → count ≤ done → done ≤ count → next ≤ length input → p .number ≡ 0 → p .value ≡ count → p .next ≡ next
       → Answers input counted p (pairs na count [] (drop at input))
   unfolding pairs
@@ -151,7 +151,7 @@ size-low : (x : Step) → 3 ≤ step-size x
 size-low (add h) = omega arith
 size-low (restore k) = omega arith
 
-module _ (input : List ℕ) (at na np next done : ℕ) (s : StepsSoFar input at na np next done) where
+module _ {input : List ℕ} {at na np next done : ℕ} (s : StepsSoFar input at na np next done) where
   pub steps-end : (p : Part) → length input ≤ next → next ≤ length input → p .number ≡ 0 → p .value ≡ done → p .next ≡ next
       → Answers input counted p (steps (length (drop at input)) na np 1024 [] (drop at input))
   steps-end p l i z v e =

@@ -61,12 +61,14 @@ wide-requires-2 c κs = search needs
 loop-less : tie.Need-loop-less Inv-loop μ-loop
 loop-less c =
     let s = c .before .before .before .before .before .before .before .before .before .before in
-    seek-less _ _ _ _ (s .pre .2) (s .pre .1) (c .before .before .before .before .before .loop .head) (c .before .before .before .before .before .loop .inv) (c .before .before .before .before .loop-test .taken) (c .wide2 .result) (c .wide2 .ensures)
+    let l = c .before .before .before .before .before .loop in
+    seek-less _ _ _ _ (s .pre .2) (s .pre .1) (l .head) (l .inv) (c .before .before .before .before .loop-test .taken) (c .wide2 .result) (c .wide2 .ensures)
 
 loop-again : tie.Need-loop-again Inv-loop μ-loop
 loop-again c =
     let s = c .before .before .before .before .before .before .before .before .before .before in
-    seek-next _ _ _ _ (s .pre .2) (s .pre .1) (c .before .before .before .before .before .loop .head) (c .before .before .before .before .before .loop .inv) (c .before .before .before .before .loop-test .taken) (c .wide2 .result) (c .wide2 .ensures)
+    let l = c .before .before .before .before .before .loop in
+    seek-next _ _ _ _ (s .pre .2) (s .pre .1) (l .head) (l .inv) (c .before .before .before .before .loop-test .taken) (c .wide2 .result) (c .wide2 .ensures)
     (sym (c .before .before .before .same-atoms .ensures) ∙ c .before .before .if1 .left)
 
 returns-2 : tie.Need-returns-2 Inv-loop μ-loop

@@ -15,9 +15,9 @@ use Rattle.atom.specs.WriteLaws.{length-some, length-none}
 use Rattle.file_tables.specs.Listed.{start-of, end-of, atom-bytes, wrapped-sum, slot-of}
 
 -- The part of the file from an atom's start to its end.
-pub bytes-are : (file w : List ℕ) (i s e : ℕ) → s ≡ start-of w i → e ≡ end-of w i → take (e - s) (drop s file) ≡ atom-bytes file w i
+pub bytes-are : (file w : List ℕ) (i : ℕ) {s e : ℕ} → s ≡ start-of w i → e ≡ end-of w i → take (e - s) (drop s file) ≡ atom-bytes file w i
 unfolding atom-bytes
-bytes-are file w i s e p q = rw (p, q)
+bytes-are file w i p q = rw (p, q)
 
 -- ---- lengths
 

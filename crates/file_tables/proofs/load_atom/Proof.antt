@@ -20,16 +20,25 @@ length-at-requires : tie.Need-length-at-requires
 length-at-requires c κs = let s = c .before .before .before .before .before .before .before in (s .pre .2 .long, s .pre .0, s .pre .3 (s .args .i) (omega arith), s .pre .1)
 
 add-head : tie.Need-add-head
-add-head c = let a = c .before .before .before .before .before .before .before .before .args in omega (arith, slot-low (atom-bytes (a .file .now) (a .work .now) (a .i)), c .before .before .before .before .slot-at .ensures)
+add-head c =
+    let a = c .before .before .before .before .before .before .before .before .args in
+    omega (arith, slot-low (atom-bytes (a .file .now) (a .work .now) (a .i)), c .before .before .before .before .slot-at .ensures)
 
 mul-head : tie.Need-mul-head
-mul-head c = let a = c .before .before .before .before .before .before .before .before .args in omega (arith, slot-low (atom-bytes (a .file .now) (a .work .now) (a .i)), c .before .before .before .before .slot-at .ensures)
+mul-head c =
+    let a = c .before .before .before .before .before .before .before .before .args in
+    omega (arith, slot-low (atom-bytes (a .file .now) (a .work .now) (a .i)), c .before .before .before .before .slot-at .ensures)
 
 slice-read-head : tie.Need-slice-read-head
-slice-read-head c = let s = c .before .before .before .before .before .before .before .before .before in let a = s .args in omega (arith, slot-low (atom-bytes (a .file .now) (a .work .now) (a .i)), c .before .before .before .before .before .slot-at .ensures, s .pre .2 .long)
+slice-read-head c =
+    let s = c .before .before .before .before .before .before .before .before .before in
+    let a = s .args in
+    omega (arith, slot-low (atom-bytes (a .file .now) (a .work .now) (a .i)), c .before .before .before .before .before .slot-at .ensures, s .pre .2 .long)
 
 cast-work : tie.Need-cast-work
-cast-work c = let a = c .before .before .before .before .before .before .before .before .before .args in omega (arith, first-of-le (atom-bytes (a .file .now) (a .work .now)) (a .i), c .before .before .before .find-first .ensures)
+cast-work c =
+    let a = c .before .before .before .before .before .before .before .before .before .args in
+    omega (arith, first-of-le (atom-bytes (a .file .now) (a .work .now)) (a .i), c .before .before .before .find-first .ensures)
 
 add-work : tie.Need-add-work
 add-work c = search needs
@@ -55,9 +64,7 @@ same-length c = search needs
 returns : tie.Need-returns
 returns c =
     let s = c .before .before .before .before .before .before .before .before .before .before in
-    let a = s .args in
-    known-turn (atom-bytes (a .file .now) (a .work .now)) (a .work .now) (a .i) (c .before .before .before .before .before .before .slot-at .result) (c .before .before .before .before .find-first .result) (c .before .before .length-at .result)
-    (s .pre .2) (s .pre .0) (c .before .before .before .before .before .before .slot-at .ensures) (c .before .before .before .before .find-first .ensures) (c .before .before .length-at .ensures) (c .if1 .taken)
+    known-turn (s .pre .2) (s .pre .0) (c .before .before .before .before .before .before .slot-at .ensures) (c .before .before .before .before .find-first .ensures) (c .before .before .length-at .ensures) (c .if1 .taken)
 
 add-work-3 : tie.Need-add-work-3
 add-work-3 c = search needs
@@ -75,13 +82,21 @@ cast-work-2 : tie.Need-cast-work-2
 cast-work-2 c = search needs
 
 add-work-5 : tie.Need-add-work-5
-add-work-5 c = let a = c .before .before .before .before .before .before .before .before .before .before .args in omega (arith, slot-low (atom-bytes (a .file .now) (a .work .now) (a .i)), c .before .before .before .before .before .before .slot-at .ensures)
+add-work-5 c =
+    let a = c .before .before .before .before .before .before .before .before .before .before .args in
+    omega (arith, slot-low (atom-bytes (a .file .now) (a .work .now) (a .i)), c .before .before .before .before .before .before .slot-at .ensures)
 
 mul-work-4 : tie.Need-mul-work-4
-mul-work-4 c = let a = c .before .before .before .before .before .before .before .before .before .before .args in omega (arith, slot-low (atom-bytes (a .file .now) (a .work .now) (a .i)), c .before .before .before .before .before .before .slot-at .ensures)
+mul-work-4 c =
+    let a = c .before .before .before .before .before .before .before .before .before .before .args in
+    omega (arith, slot-low (atom-bytes (a .file .now) (a .work .now) (a .i)), c .before .before .before .before .before .before .slot-at .ensures)
 
 slice-write-work-4 : tie.Need-slice-write-work-4
-slice-write-work-4 c = let s = c .before .before .before .before .before .before .before .before .before .before in let a = s .args in simp length-set (omega (arith, slot-low (atom-bytes (a .file .now) (a .work .now) (a .i)), c .before .before .before .before .before .before .slot-at .ensures, s .pre .2 .long))
+slice-write-work-4 c =
+    let s = c .before .before .before .before .before .before .before .before .before .before in
+    let a = s .args in
+    simp length-set
+    (omega (arith, slot-low (atom-bytes (a .file .now) (a .work .now) (a .i)), c .before .before .before .before .before .before .slot-at .ensures, s .pre .2 .long))
 
 same-length-2 : tie.Need-same-length-2
 same-length-2 c = search needs
@@ -89,9 +104,7 @@ same-length-2 c = search needs
 returns-2 : tie.Need-returns-2
 returns-2 c =
     let s = c .before .before .before .before .before .before .before .before .before .before in
-    let a = s .args in
-    new-turn (atom-bytes (a .file .now) (a .work .now)) (a .work .now) (a .i) (c .before .before .before .before .before .before .slot-at .result) (c .before .before .before .before .find-first .result) (c .before .before .length-at .result)
-    (s .pre .2) (s .pre .0) (c .before .before .before .before .before .before .slot-at .ensures) (c .before .before .before .before .find-first .ensures) (c .before .before .length-at .ensures) (c .if1 .left)
+    new-turn (s .pre .2) (s .pre .0) (c .before .before .before .before .before .before .slot-at .ensures) (c .before .before .before .before .find-first .ensures) (c .before .before .length-at .ensures) (c .if1 .left)
 
 pub load-atom-spec : {M : Type 1} → statement M
 load-atom-spec =

@@ -30,13 +30,28 @@ enum-told-2 : tie.Need-enum-told-2
 enum-told-2 c = search needs
 
 returns : tie.Need-returns
-returns c = let s = c .before .before .before .before .before .args in let n = c .before .before .before .next-step in (c .within .ensures .0, slot-told (s .file .now) (s .at) (s .adds) _ (n .result) _ (StepsAt (s .file .now) (s .at)) (n .ensures) (c .before .enum-told .given .1) (c .within .ensures .1))
+returns c =
+    let s = c .before .before .before .before .before .args in
+    let n = c .before .before .before .next-step in (
+      c .within .ensures .0,
+      slot-told (s .file .now) (s .at) (s .adds) _ (n .result) _ (StepsAt (s .file .now) (s .at)) (n .ensures)
+          (c .before .enum-told .given .1) (c .within .ensures .1),
+    )
 
 returns-2 : tie.Need-returns-2
-returns-2 c = let s = c .before .before .before .before .before .before .args in let n = c .before .before .before .before .next-step in (c .within2 .ensures .0, slot-told (s .file .now) (s .at) (s .adds) _ (n .result) _ (StepsAt (s .file .now) (s .at)) (n .ensures) (c .before .before .number .given .1) (c .within2 .ensures .1))
+returns-2 c =
+    let s = c .before .before .before .before .before .before .args in
+    let n = c .before .before .before .before .next-step in (
+      c .within2 .ensures .0,
+      slot-told (s .file .now) (s .at) (s .adds) _ (n .result) _ (StepsAt (s .file .now) (s .at)) (n .ensures)
+          (c .before .before .number .given .1) (c .within2 .ensures .1),
+    )
 
 returns-3 : tie.Need-returns-3
-returns-3 c = let s = c .before .before .before .before .args in let n = c .before .before .next-step in (omega arith, slot-told (s .file .now) (s .at) (s .adds) 0 (n .result) _ (StepsAt (s .file .now) (s .at)) (n .ensures) (c .enum-told2 .given .1) refl)
+returns-3 c =
+    let s = c .before .before .before .before .args in
+    let n = c .before .before .next-step in
+    (omega arith, slot-told (s .file .now) (s .at) (s .adds) 0 (n .result) _ (StepsAt (s .file .now) (s .at)) (n .ensures) (c .enum-told2 .given .1) refl)
 
 pub slot-of-spec : {M : Type 1} → statement M
 slot-of-spec =

@@ -21,7 +21,10 @@ sub-t6 : tie.Need-sub-t6 Inv-loop μ-loop
 sub-t6 c = omega arith
 
 returns : tie.Need-returns Inv-loop μ-loop
-returns c = let l = c .before .before .loop in ones-end (c .before .before .before .args .byte) (l .left) (l .rest) (l .top) (c .before .loop-test .taken) (l .inv .0) (l .inv .1) (l .inv .2) (l .inv .3) (c .if1 .taken)
+returns c =
+    let l = c .before .before .loop in
+    ones-end (c .before .before .before .args .byte) (l .left) (l .rest) (l .top) (c .before .loop-test .taken) (l .inv .0) (l .inv .1) (l .inv .2) (l .inv .3)
+    (c .if1 .taken)
 
 sub-left : tie.Need-sub-left Inv-loop μ-loop
 sub-left c = omega arith
@@ -30,7 +33,10 @@ loop-less : tie.Need-loop-less Inv-loop μ-loop
 loop-less c = omega arith
 
 loop-again : tie.Need-loop-again Inv-loop μ-loop
-loop-again c = let l = c .before .before .loop in let t = ones-turn (c .before .before .before .args .byte) (l .left) (l .rest) (l .top) (c .before .loop-test .taken) (l .inv .0) (l .inv .1) (l .inv .2) (l .inv .3) (c .if1 .left) in (omega arith, t .0, t .1, t .2)
+loop-again c =
+    let l = c .before .before .loop in
+    let t = ones-turn (c .before .before .before .args .byte) (l .left) (l .rest) (l .top) (c .before .loop-test .taken) (l .inv .0) (l .inv .1) (l .inv .2) (l .inv .3) (c .if1 .left) in
+    (omega arith, t .0, t .1, t .2)
 
 returns-2 : tie.Need-returns-2 Inv-loop μ-loop
 returns-2 c = let l = c .before .loop in ones-all (c .before .before .args .byte) (l .left) (l .rest) (c .loop-test .left) (l .inv .2) (l .inv .3)

@@ -25,7 +25,10 @@ enum-told : tie.Need-enum-told
 enum-told c = search needs
 
 returns : tie.Need-returns
-returns c = sym (length-some (c .before .before .before .before .before .args .atom .now) (c .before .width .given .0 .0) (sym (c .before .before .before .prefix-width .ensures) ∙ ap width-of (c .before .width .given .1)))
+returns c =
+    let width = c .before .width in
+    sym
+    (length-some (c .before .before .before .before .before .args .atom .now) (width .given .0 .0) (sym (c .before .before .before .prefix-width .ensures) ∙ ap width-of (width .given .1)))
 
 returns-2 : tie.Need-returns-2
 returns-2 c = sym (length-none (c .before .before .before .before .args .atom .now) (sym (c .before .before .prefix-width .ensures) ∙ ap width-of (c .enum-told .given .1)))

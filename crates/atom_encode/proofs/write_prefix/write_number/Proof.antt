@@ -45,7 +45,8 @@ loop-again c =
     let a = c .before .before .args in
     let l = c .before .loop in
     let b = big-endian (a .width) (a .number) in
-    let t = numbers.turn (a .output .now) b (a .position) (a .width) (c .before .before .pre) (length-big-endian (a .width) (a .number)) (l .left) (l .rest) (c .loop-test .taken) (l .inv .0) (l .inv .2) in
+    let t = numbers.turn (a .output .now) b (a .position) (a .width) (c .before .before .pre) (length-big-endian (a .width) (a .number))
+    (l .left) (l .rest) (c .loop-test .taken) (l .inv .0) (l .inv .2) in
     (omega arith, simp length-set (l .inv .1), t .1, ap (λ (x : List ℕ). set x (a .position + (l .left - 1)) (l .rest % 256)) (l .inv .3) ∙ t .0)
 
 same-length : tie.Need-same-length Inv-loop μ-loop

@@ -21,10 +21,13 @@ atom-requires : tie.Need-atom-requires Inv-loop μ-loop
 atom-requires c κs = (omega arith, omega arith)
 
 returns : tie.Need-returns Inv-loop μ-loop
-returns c = let a = c .before .before .before .before .before .before .args in let l = c .before .before .before .before .loop in atoms-refused (a .file .now) (a .at) (a .count) (l .next) (l .used) (l .done) (l .inv .3) (omega arith) (c .before .before .atom .result) (c .before .before .atom .ensures) (c .if1 .taken)
+returns c = let l = c .before .before .before .before .loop in atoms-refused (l .inv .3) (omega arith) (c .before .before .atom .result) (c .before .before .atom .ensures) (c .if1 .taken)
 
 add-used : tie.Need-add-used Inv-loop μ-loop
-add-used c = let a = c .before .before .before .before .before .before .before .args in let l = c .before .before .before .before .before .loop in omega (arith, atoms-few (a .file .now) (a .at) (a .count) (l .next) (l .used) (l .done) (l .inv .3) (omega arith) (c .before .before .before .atom .result) (c .before .before .before .atom .ensures) (c .before .if1 .left))
+add-used c =
+    let l = c .before .before .before .before .before .loop in
+    let atom = c .before .before .before .atom in
+    omega (arith, atoms-few (l .inv .3) (omega arith) (atom .result) (atom .ensures) (c .before .if1 .left))
 
 add-done : tie.Need-add-done Inv-loop μ-loop
 add-done c = omega arith
@@ -34,16 +37,15 @@ loop-less c = omega arith
 
 loop-again : tie.Need-loop-again Inv-loop μ-loop
 loop-again c =
-    let a = c .before .before .before .before .before .before .before .args in
     let l = c .before .before .before .before .before .loop in (
       omega arith,
-      atoms-inside (a .file .now) (a .at) (a .count) (l .next) (l .used) (l .done) (l .inv .3) (omega arith) (c .before .before .before .atom .result) (c .before .before .before .atom .ensures) (c .before .if1 .left),
-      atoms-few (a .file .now) (a .at) (a .count) (l .next) (l .used) (l .done) (l .inv .3) (omega arith) (c .before .before .before .atom .result) (c .before .before .before .atom .ensures) (c .before .if1 .left),
-      atoms-turn (a .file .now) (a .at) (a .count) (l .next) (l .used) (l .done) (l .inv .3) (omega arith) (c .before .before .before .atom .result) (c .before .before .before .atom .ensures) (c .before .if1 .left),
+      atoms-inside (l .inv .3) (omega arith) (c .before .before .before .atom .result) (c .before .before .before .atom .ensures) (c .before .if1 .left),
+      atoms-few (l .inv .3) (omega arith) (c .before .before .before .atom .result) (c .before .before .before .atom .ensures) (c .before .if1 .left),
+      atoms-turn (l .inv .3) (omega arith) (c .before .before .before .atom .result) (c .before .before .before .atom .ensures) (c .before .if1 .left),
     )
 
 returns-2 : tie.Need-returns-2 Inv-loop μ-loop
-returns-2 c = let a = c .before .before .before .args in let l = c .before .loop in atoms-end (a .file .now) (a .at) (a .count) (l .next) (l .used) (l .done) (l .inv .3) _ (omega arith) (omega arith) (omega arith) refl refl refl
+returns-2 c = let l = c .before .loop in atoms-end (l .inv .3) _ (omega arith) (omega arith) (omega arith) refl refl refl
 
 pub atoms-spec : {M : Type 1} → statement M
 atoms-spec =

@@ -10,16 +10,26 @@ field-requires : tie.Need-field-requires
 field-requires c κs = search needs
 
 returns : tie.Need-returns
-returns c = let a = c .before .before .before .before .args in count-refused (a .file .now) (c .before .before .field .result) (a .at) (a .most) (c .before .before .field .ensures) (c .if1 .taken)
+returns c =
+    let a = c .before .before .before .before .args in
+    let field = c .before .before .field in
+    count-refused (a .file .now) (field .result) (a .at) (a .most) (field .ensures) (c .if1 .taken)
 
 returns-2 : tie.Need-returns-2
-returns-2 c = let a = c .before .before .before .before .before .before .args in count-there (a .file .now) (c .before .before .before .before .field .result) (a .at) (a .most) (c .before .before .before .before .field .ensures) (c .before .before .if1 .left) (omega arith)
+returns-2 c =
+    let a = c .before .before .before .before .before .before .args in
+    let field = c .before .before .before .before .field in
+    count-there (a .file .now) (field .result) (a .at) (a .most) (field .ensures) (c .before .before .if1 .left) (omega arith)
 
 refusal-requires : tie.Need-refusal-requires
 refusal-requires c κs = search needs
 
 returns-3 : tie.Need-returns-3
-returns-3 c = let a = c .before .before .before .before .before .before .before .args in count-large (a .file .now) (c .before .before .before .before .before .field .result) (a .at) (a .most) (c .before .before .before .before .before .field .ensures) (c .before .before .before .if1 .left) (c .refusal .result) (omega arith) (c .refusal .ensures)
+returns-3 c =
+    let a = c .before .before .before .before .before .before .before .args in
+    let field = c .before .before .before .before .before .field in
+    count-large (a .file .now) (field .result) (a .at) (a .most) (field .ensures) (c .before .before .before .if1 .left) (c .refusal .result) (omega arith)
+    (c .refusal .ensures)
 
 pub count-spec : {M : Type 1} → statement M
 count-spec = tie.close (tie.spec field-requires returns returns-2 refusal-requires returns-3)

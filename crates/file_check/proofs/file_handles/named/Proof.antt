@@ -28,16 +28,30 @@ enum-told-4 : tie.Need-enum-told-4
 enum-told-4 c = search needs
 
 returns : tie.Need-returns
-returns c = let a = c .before .before .before .before .args in named-pair (a .atoms) (a .pairs) (node-of (a .node .0)) (c .before .before .before .object-type .result) (c .index .result) (c .before .before .before .object-type .ensures) (c .index .ensures) (c .before .enum-told .given .1)
+returns c =
+    let a = c .before .before .before .before .args in
+    let object-type = c .before .before .before .object-type in
+    named-pair (a .atoms) (a .pairs) (node-of (a .node .0)) (object-type .result) (c .index .result) (object-type .ensures) (c .index .ensures)
+    (c .before .enum-told .given .1)
 
 returns-2 : tie.Need-returns-2
-returns-2 c = let a = c .before .before .before .before .args in named-bytes (a .atoms) (a .pairs) (node-of (a .node .0)) (c .before .before .before .object-type .result) (c .index2 .result) (c .before .before .before .object-type .ensures) (c .index2 .ensures) (c .before .enum-told2 .given .1)
+returns-2 c =
+    let a = c .before .before .before .before .args in
+    let object-type = c .before .before .before .object-type in
+    named-bytes (a .atoms) (a .pairs) (node-of (a .node .0)) (object-type .result) (c .index2 .result) (object-type .ensures) (c .index2 .ensures)
+    (c .before .enum-told2 .given .1)
 
 returns-3 : tie.Need-returns-3
-returns-3 c = let a = c .before .before .before .args in named-small (a .atoms) (a .pairs) (node-of (a .node .0)) (c .before .before .object-type .result) (c .before .before .object-type .ensures) (c .enum-told3 .given .1)
+returns-3 c =
+    let a = c .before .before .before .args in
+    let object-type = c .before .before .object-type in
+    named-small (a .atoms) (a .pairs) (node-of (a .node .0)) (object-type .result) (object-type .ensures) (c .enum-told3 .given .1)
 
 returns-4 : tie.Need-returns-4
-returns-4 c = let a = c .before .before .before .args in named-unknown (a .atoms) (a .pairs) (node-of (a .node .0)) (c .before .before .object-type .result) (c .before .before .object-type .ensures) (c .enum-told4 .given .1)
+returns-4 c =
+    let a = c .before .before .before .args in
+    let object-type = c .before .before .object-type in
+    named-unknown (a .atoms) (a .pairs) (node-of (a .node .0)) (object-type .result) (object-type .ensures) (c .enum-told4 .given .1)
 
 pub named-spec : {M : Type 1} → statement M
 named-spec =

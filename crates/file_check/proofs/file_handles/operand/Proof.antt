@@ -15,13 +15,19 @@ field-requires : tie.Need-field-requires
 field-requires c κs = search needs
 
 returns-2 : tie.Need-returns-2
-returns-2 c = let a = c .before .before .before .before .args in operand-restore (a .file .now) (c .field .result) (a .at) (a .atoms) (a .pairs) (a .code) (c .before .before .if1 .left) (c .before .if2 .taken) (c .field .ensures)
+returns-2 c =
+    let a = c .before .before .before .before .args in
+    operand-restore (a .file .now) (c .field .result) (a .at) (a .atoms) (a .pairs) (a .code) (c .before .before .if1 .left) (c .before .if2 .taken)
+    (c .field .ensures)
 
 refusal-requires : tie.Need-refusal-requires
 refusal-requires c κs = search needs
 
 returns-3 : tie.Need-returns-3
-returns-3 c = let a = c .before .before .before .before .args in operand-unknown (a .file .now) (c .refusal .result) (a .at) (a .atoms) (a .pairs) (a .code) (c .before .before .if1 .left) (c .before .if2 .left) (c .refusal .ensures)
+returns-3 c =
+    let a = c .before .before .before .before .args in
+    operand-unknown (a .file .now) (c .refusal .result) (a .at) (a .atoms) (a .pairs) (a .code) (c .before .before .if1 .left) (c .before .if2 .left)
+    (c .refusal .ensures)
 
 pub operand-spec : {M : Type 1} → statement M
 operand-spec =

@@ -21,7 +21,7 @@ pair-requires : tie.Need-pair-requires Inv-loop μ-loop
 pair-requires c κs = omega arith
 
 returns : tie.Need-returns Inv-loop μ-loop
-returns c = let a = c .before .before .before .before .before .before .args in let l = c .before .before .before .before .loop in pairs-refused (a .file .now) (a .at) (a .atoms) (a .count) (l .next) (l .done) (l .inv .2) (omega arith) (c .before .before .pair .result) (c .before .before .pair .ensures) (c .if1 .taken)
+returns c = let l = c .before .before .before .before .loop in pairs-refused (l .inv .2) (omega arith) (c .before .before .pair .result) (c .before .before .pair .ensures) (c .if1 .taken)
 
 add-done : tie.Need-add-done Inv-loop μ-loop
 add-done c = omega arith
@@ -31,15 +31,14 @@ loop-less c = omega arith
 
 loop-again : tie.Need-loop-again Inv-loop μ-loop
 loop-again c =
-    let a = c .before .before .before .before .before .before .args in
     let l = c .before .before .before .before .loop in (
       omega arith,
-      pairs-inside (a .file .now) (a .at) (a .atoms) (a .count) (l .next) (l .done) (l .inv .2) (omega arith) (c .before .before .pair .result) (c .before .before .pair .ensures) (c .if1 .left),
-      pairs-turn (a .file .now) (a .at) (a .atoms) (a .count) (l .next) (l .done) (l .inv .2) (omega arith) (c .before .before .pair .result) (c .before .before .pair .ensures) (c .if1 .left),
+      pairs-inside (l .inv .2) (omega arith) (c .before .before .pair .result) (c .before .before .pair .ensures) (c .if1 .left),
+      pairs-turn (l .inv .2) (omega arith) (c .before .before .pair .result) (c .before .before .pair .ensures) (c .if1 .left),
     )
 
 returns-2 : tie.Need-returns-2 Inv-loop μ-loop
-returns-2 c = let a = c .before .before .before .args in let l = c .before .loop in pairs-end (a .file .now) (a .at) (a .atoms) (a .count) (l .next) (l .done) (l .inv .2) _ (omega arith) (omega arith) (omega arith) refl refl refl
+returns-2 c = let l = c .before .loop in pairs-end (l .inv .2) _ (omega arith) (omega arith) (omega arith) refl refl refl
 
 pub pairs-spec : {M : Type 1} → statement M
 pairs-spec =

@@ -21,25 +21,27 @@ step-requires : tie.Need-step-requires Inv-loop μ-loop
 step-requires c κs = omega arith
 
 returns : tie.Need-returns Inv-loop μ-loop
-returns c = let a = c .before .before .before .before .before .before .args in let l = c .before .before .before .before .loop in steps-refused (a .file .now) (a .at) (a .atoms) (a .pairs) (l .next) (l .done) (l .inv .2) (omega arith) (c .before .before .step .result) (c .before .before .step .ensures) (c .if1 .taken)
+returns c = let l = c .before .before .before .before .loop in steps-refused (l .inv .2) (omega arith) (c .before .before .step .result) (c .before .before .step .ensures) (c .if1 .taken)
 
 add-done : tie.Need-add-done Inv-loop μ-loop
 add-done c = omega arith
 
 loop-less : tie.Need-loop-less Inv-loop μ-loop
-loop-less c = let a = c .before .before .before .before .before .before .args in let l = c .before .before .before .before .loop in omega (arith, steps-on (a .file .now) (a .at) (a .atoms) (a .pairs) (l .next) (l .done) (l .inv .2) (omega arith) (c .before .before .step .result) (c .before .before .step .ensures) (c .if1 .left))
+loop-less c =
+    let l = c .before .before .before .before .loop in
+    let step = c .before .before .step in
+    omega (arith, steps-on (l .inv .2) (omega arith) (step .result) (step .ensures) (c .if1 .left))
 
 loop-again : tie.Need-loop-again Inv-loop μ-loop
 loop-again c =
-    let a = c .before .before .before .before .before .before .args in
     let l = c .before .before .before .before .loop in (
-      steps-few (a .file .now) (a .at) (a .atoms) (a .pairs) (l .next) (l .done) (l .inv .2) (omega arith) (c .before .before .step .result) (c .before .before .step .ensures) (c .if1 .left),
-      steps-inside (a .file .now) (a .at) (a .atoms) (a .pairs) (l .next) (l .done) (l .inv .2) (omega arith) (c .before .before .step .result) (c .before .before .step .ensures) (c .if1 .left),
-      steps-turn (a .file .now) (a .at) (a .atoms) (a .pairs) (l .next) (l .done) (l .inv .2) (omega arith) (c .before .before .step .result) (c .before .before .step .ensures) (c .if1 .left),
+      steps-few (l .inv .2) (omega arith) (c .before .before .step .result) (c .before .before .step .ensures) (c .if1 .left),
+      steps-inside (l .inv .2) (omega arith) (c .before .before .step .result) (c .before .before .step .ensures) (c .if1 .left),
+      steps-turn (l .inv .2) (omega arith) (c .before .before .step .result) (c .before .before .step .ensures) (c .if1 .left),
     )
 
 returns-2 : tie.Need-returns-2 Inv-loop μ-loop
-returns-2 c = let a = c .before .before .before .args in let l = c .before .loop in steps-end (a .file .now) (a .at) (a .atoms) (a .pairs) (l .next) (l .done) (l .inv .2) _ (omega arith) (omega arith) refl refl refl
+returns-2 c = let l = c .before .loop in steps-end (l .inv .2) _ (omega arith) (omega arith) refl refl refl
 
 pub steps-spec : {M : Type 1} → statement M
 steps-spec =

@@ -26,7 +26,8 @@ number-at-requires c κs = search needs
 cast-result : tie.Need-cast-result
 cast-result c =
     let a = c .before .before .args in
-    omega (arith, c .number-at .ensures, four-bytes (a .file .now) (a .at) (a .count) (all-of (λ (x : ℕ). x < 256) (a .file .now) 0 (λ i l. omega (arith, c .before .shared-slice-known .given i))) (omega arith) (omega arith))
+    let bytes = all-of (λ (x : ℕ). x < 256) (a .file .now) 0 (λ i l. omega (arith, c .before .shared-slice-known .given i)) in
+    omega (arith, c .number-at .ensures, four-bytes (a .file .now) (a .at) (a .count) bytes (omega arith) (omega arith))
 
 returns : tie.Need-returns
 returns c = search needs

@@ -27,13 +27,15 @@ serialized-length-atom-requires : tie.Need-serialized-length-atom-requires
 serialized-length-atom-requires c κs = search needs
 
 cast-result : tie.Need-cast-result
-cast-result c = omega (arith, part-length-fits (c .before .before .before .before .before .before .args .file .now) (c .before .before .before .start-of .result) (c .before .before .end-of .result) (omega arith) (omega arith), c .serialized-length-atom .ensures)
+cast-result c =
+    let a = c .before .before .before .before .before .before .args in
+    omega (arith, part-length-fits (a .file .now) (c .before .before .before .start-of .result) (c .before .before .end-of .result) (omega arith) (omega arith), c .serialized-length-atom .ensures)
 
 returns : tie.Need-returns
 returns c =
     let a = c .before .before .before .before .before .before .args in
     c .serialized-length-atom .ensures
-    ∙ ap serialized-length (bytes-are (a .file .now) (a .work .now) (a .i) (c .before .before .before .start-of .result) (c .before .before .end-of .result) (c .before .before .before .start-of .ensures) (c .before .before .end-of .ensures))
+    ∙ ap serialized-length (bytes-are (a .file .now) (a .work .now) (a .i) (c .before .before .before .start-of .ensures) (c .before .before .end-of .ensures))
 
 pub length-at-spec : {M : Type 1} → statement M
 length-at-spec =

@@ -44,8 +44,8 @@ returns c =
     let a = c .before .before .before .before .before .before .before .before .before .args in
     c .same-bytes .ensures
     ∙ rw (
-      bytes-are (a .file .now) (a .work .now) (a .i) (c .before .before .before .before .before .before .start-of .result) (c .before .before .before .before .before .end-of .result) (c .before .before .before .before .before .before .start-of .ensures) (c .before .before .before .before .before .end-of .ensures),
-      bytes-are (a .file .now) (a .work .now) (a .j) (c .before .before .before .before .start-of2 .result) (c .before .before .before .end-of2 .result) (c .before .before .before .before .start-of2 .ensures) (c .before .before .before .end-of2 .ensures),
+      bytes-are (a .file .now) (a .work .now) (a .i) (c .before .before .before .before .before .before .start-of .ensures) (c .before .before .before .before .before .end-of .ensures),
+      bytes-are (a .file .now) (a .work .now) (a .j) (c .before .before .before .before .start-of2 .ensures) (c .before .before .before .end-of2 .ensures),
     )
 
 pub same-atoms-spec : {M : Type 1} → statement M

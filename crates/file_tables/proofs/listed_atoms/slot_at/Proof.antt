@@ -29,7 +29,7 @@ returns : tie.Need-returns
 returns c =
     let a = c .before .before .before .before .before .before .args in
     c .slot-of .ensures
-    ∙ ap slot-of (bytes-are (a .file .now) (a .work .now) (a .i) (c .before .before .before .start-of .result) (c .before .before .end-of .result) (c .before .before .before .start-of .ensures) (c .before .before .end-of .ensures))
+    ∙ ap slot-of (bytes-are (a .file .now) (a .work .now) (a .i) (c .before .before .before .start-of .ensures) (c .before .before .end-of .ensures))
 
 pub slot-at-spec : {M : Type 1} → statement M
 slot-at-spec =

@@ -1,4 +1,5 @@
--- `session_state::checkpoints::clear_first` meets its contract: a walk of its MIR, by hand, with a loop. The borrow is opened once, before the loop, and closed once, after it; between the two the row of records is the function's own.
+-- `session_state::checkpoints::clear_first` meets its contract: a walk of its MIR, by hand, with a loop.
+-- The borrow is opened once, before the loop, and closed once, after it; between the two the row of records is the function's own.
 -- The loop's state is i with a proof that i ≤ n, the count of records to clear, and the records are then `fill-to i blank ys`.
 -- Assumes nothing.
 use mathlib.Core.Path.{_≡_, refl, sym, _∙_, ap, subst}
@@ -24,7 +25,8 @@ use contract.Monad.{Fun}
 use contract.Running.{givenOf, tables, tablesOf}
 use types.Kit.{Given, Item, Sq, runs, anyQ, atRet, ‵, _⊛_, ⋆, _$_, _∵_, !, qed, by, move, keep, drop, split, join, rewrite, fsplit, fjoin, feqI, suffices, frame, done}
 use types.Part.{agg, whole, sub, look-in}
-use types.Run.{look, init, store, store-raw, forget, stop, hop, fld, from, load, lit, unit-lit, no-more, and-then, of-opd, bin, assigns, assigns-last, first, skips, jumps, blocks, branches, returns, enter, alloc1, alloc0, params1, pass1, pass0, free1, free0, exec, Below, again, loops}
+use types.Run.{look, init, store, store-raw, forget, stop, hop, fld, from, load, lit, unit-lit, no-more, and-then, of-opd, bin, assigns, assigns-last}
+use types.Run.{first, skips, jumps, blocks, branches, returns, enter, alloc1, alloc0, params1, pass1, pass0, free1, free0, exec, Below, again, loops}
 use sound.WpLaws.{WpFn-mono}
 use denote.RattleType.{owns}
 use denote.Shadow.{pureI}
@@ -68,7 +70,8 @@ word = tyInt w64
 blank-is : Is T.the-row blank (the-vals blank)
 blank-is = LL.owes T.the-type T′.the-laws blank ((refl, lit< tt), ((refl, lit< tt), ((refl, lit< tt), ((refl, lit< tt), tt))))
 
-module _ {M : Type 1} (𝓤 : URA M) (H : Heap 𝓤) (A : Atoms 𝓤) (W : Given 𝓤 H A) (mem : Memory → SProp 𝓤) (run : Routine → Fun 𝓤) (κ : Lft) (q : Share) (b o : ℕ) (γ : GName) (ys : List Checkpoint) (n : ℕ) (n-fits : n < 2 ^ 64) (enough : n ≤ length ys) (room : Room T.the-row (length ys)) where
+module _ {M : Type 1} (𝓤 : URA M) (H : Heap 𝓤) (A : Atoms 𝓤) (W : Given 𝓤 H A) (mem : Memory → SProp 𝓤) (run : Routine → Fun 𝓤)
+    (κ : Lft) (q : Share) (b o : ℕ) (γ : GName) (ys : List Checkpoint) (n : ℕ) (n-fits : n < 2 ^ 64) (enough : n ≤ length ys) (room : Room T.the-row (length ys)) where
   abbrev Arg : Type 0
   Arg = RefT (List Checkpoint) × (ℕ × Unit {0})
 
@@ -90,13 +93,15 @@ module _ {M : Type 1} (𝓤 : URA M) (H : Heap 𝓤) (A : Atoms 𝓤) (W : Given
   abbrev Post : Val → SProp 𝓤
   Post = walkOf 𝓤 H A clear.ended stayed (clear.clauses 𝓤 H A mem run) .post (((κ, tt), (q, tt), tt, x, at), tt)
 
-  exits : (zs : List Checkpoint) → zs ≡ replicate n blank ++ skip n ys → length zs ≡ length ys → ent 𝓤 (⋆ 𝓤 H A (‵ (fobs γ (codedHoleys T.the-row .code (heres T.the-row zs))) ∷ ‵ (fbor κ (Held T.the-row (length zs) b o γ)) ∷ ‵ (flft κ q) ∷ [])) (Post vunit)
+  exits : (zs : List Checkpoint) → zs ≡ replicate n blank ++ skip n ys → length zs ≡ length ys
+      → ent 𝓤 (⋆ 𝓤 H A (‵ (fobs γ (codedHoleys T.the-row .code (heres T.the-row zs))) ∷ ‵ (fbor κ (Held T.the-row (length zs) b o γ)) ∷ ‵ (flft κ q) ∷ [])) (Post vunit)
   exits zs e l =
       qed W (‵ (fobs γ (codedHoleys T.the-row .code (heres T.the-row zs))) ∷ ‵ (fbor κ (Held T.the-row (length zs) b o γ)) ∷ ‵ (flft κ q) ∷ []) ∵
       suffices ! _ (ends-at 𝓤 H A clear.ended stayed (clear.clauses 𝓤 H A mem run) W (((κ, tt), (q, tt), tt, x, at), tt) vunit tt (zs, (tt, tt)) (l, (tt, tt))) $ says ! e $
       nothing ! $ move ! (3 ∷ 0 ∷ []) $ join ! $ frame ! $
       fjoin ! $ pureI ! (at-slice T.the-row (at-list zs) (s ∷ [])) (tt, (tt, tt)) (ap (λ (m : ℕ). sliceVal (b, o) m ∷ []) (sym l), subst (Room T.the-row) (sym l) room) $ fjoin ! $
-      nothing ! $ owned ! usize (Is usize) (uint-makes 𝓤 H A W w64) n _ (refl, n-fits) $ fjoin ! $ move ! (1 ∷ 0 ∷ []) $ fjoin ! $ feqI ! (List Val) (vunit ∷ []) (vunit ∷ []) refl $ move ! (1 ∷ 0 ∷ []) $ done !
+      nothing ! $ owned ! usize (Is usize) (uint-makes 𝓤 H A W w64) n _ (refl, n-fits) $
+      fjoin ! $ move ! (1 ∷ 0 ∷ []) $ fjoin ! $ feqI ! (List Val) (vunit ∷ []) (vunit ∷ []) refl $ move ! (1 ∷ 0 ∷ []) $ done !
 
   -- the loop's state, and its order
   abbrev Upto : Type 0
@@ -120,9 +125,13 @@ module _ {M : Type 1} (𝓤 : URA M) (H : Heap 𝓤) (A : Atoms 𝓤) (W : Given
 
     -- the context where i records are cleared
     abbrev At : Upto → List (Item 𝓤)
-    At i = ‵ (froom tyPtr l₇ 0) ∷ ‵ (fdies tyPtr l₇) ∷ ‵ (froom word l₆ 0) ∷ ‵ (fdies word l₆) ∷ ‵ (froom tyBool l₅ 0) ∷ ‵ (fdies tyBool l₅) ∷ ‵ (fat fullShare word l₄ 0 (vint w64 (i .0))) ∷ ‵ (fdies word l₄)
-        ∷ ‵ (fat fullShare T′.mir l₃ 0 (mach blank)) ∷ ‵ (fdies T′.mir l₃) ∷ ‵ (fat fullShare word l₂ 0 (vint w64 n)) ∷ ‵ (fdies word l₂) ∷ ‵ (fat fullShare slice l₁ 0 s) ∷ ‵ (fdies slice l₁) ∷ ‵ (froom tyUnit l₀ 0) ∷ ‵ (fdies tyUnit l₀)
-        ∷ ‵ (row T.the-row fullShare (fill-to (i .0) blank ys) b o) ∷ ‵ (fobor κ q (Held T.the-row (length ys) b o γ)) ∷ ‵ (fobs γ (codedHoleys T.the-row .code (heres T.the-row ys))) ∷ ‵ (fauth γ (codedHoleys T.the-row .code (heres T.the-row ys))) ∷ []
+    At i =
+        ‵ (froom tyPtr l₇ 0) ∷ ‵ (fdies tyPtr l₇) ∷ ‵ (froom word l₆ 0) ∷ ‵ (fdies word l₆) ∷ ‵ (froom tyBool l₅ 0) ∷ ‵ (fdies tyBool l₅)
+        ∷ ‵ (fat fullShare word l₄ 0 (vint w64 (i .0))) ∷ ‵ (fdies word l₄)
+        ∷ ‵ (fat fullShare T′.mir l₃ 0 (mach blank)) ∷ ‵ (fdies T′.mir l₃) ∷ ‵ (fat fullShare word l₂ 0 (vint w64 n)) ∷ ‵ (fdies word l₂)
+        ∷ ‵ (fat fullShare slice l₁ 0 s) ∷ ‵ (fdies slice l₁) ∷ ‵ (froom tyUnit l₀ 0) ∷ ‵ (fdies tyUnit l₀)
+        ∷ ‵ (row T.the-row fullShare (fill-to (i .0) blank ys) b o) ∷ ‵ (fobor κ q (Held T.the-row (length ys) b o γ))
+        ∷ ‵ (fobs γ (codedHoleys T.the-row .code (heres T.the-row ys))) ∷ ‵ (fauth γ (codedHoleys T.the-row .code (heres T.the-row ys))) ∷ []
 
     -- a turn's postcondition: it ends nearer to n, or the loop is left and the rest of the body runs
     abbrev Turned : Upto → Out → SProp 𝓤
@@ -134,13 +143,15 @@ module _ {M : Type 1} (𝓤 : URA M) (H : Heap 𝓤) (A : Atoms 𝓤) (W : Given
         assigns ! (bin ! (load ! (from ! (stop !)) (look ! 6 refl)) (load ! (from ! (stop !)) (look ! 10 refl)) tt) (from ! (stop !)) (init ! 4 refl (tt, tt)) $
         first ! $ branches ! (load ! (from ! (stop !)) (look ! 4 refl))
         (λ less. skips ! $ exec ! C Λ En (after (after body.turn-1)) (anyQ (Turned i)) $
-        assigns ! (bin ! (load ! (from ! (stop !)) (look ! 6 refl)) (lit ! tt) (record { fits = byte-fits room (inside less) })) (from ! (stop !)) (init ! 2 refl (tt, record { fits = byte-fits room (inside less) })) $
+        assigns ! (bin ! (load ! (from ! (stop !)) (look ! 6 refl)) (lit ! tt) (record { fits = byte-fits room (inside less) }))
+        (from ! (stop !)) (init ! 2 refl (tt, record { fits = byte-fits room (inside less) })) $
         assigns ! (bin ! (load ! (from ! (fld ! refl (stop !))) (look-in ! 12 (sub ! 0 refl (whole !)))) (load ! (from ! (stop !)) (look ! 2 refl)) tt) (from ! (stop !)) (init ! 0 refl (tt, tt)) $
         rewrite ! 0 (λ (p : ℕ). ‵ (fat fullShare tyPtr l₇ 0 (vptr b p))) (sym (place-is 16 o (i .0))) refl $
         -- record i is taken out of the row, stored to, and put back
         move ! (16 ∷ []) $ elem-out ! T.the-row (Is T.the-row) (shows 𝓤 H A T.the-row) the-vals the-tells fullShare (now i) (i .0) blank b o (in-row less) (λ _.
         assigns ! (of-opd ! (load ! (from ! (stop !)) (look ! 11 refl))) (from ! (hop ! (look ! 3 refl) (stop !))) (store-raw ! 0 refl (the-typed 𝓤 H A W blank blank-is)) $
-        move ! (1 ∷ []) $ drop ! $ owned ! T.the-row (Is T.the-row) (the-makes 𝓤 H A) blank _ blank-is $ move ! (1 ∷ 0 ∷ []) $ elem-put ! T.the-row fullShare (now i) (i .0) blank (mach blank ∷ []) b o (in-row less) $
+        move ! (1 ∷ []) $ drop ! $ owned ! T.the-row (Is T.the-row) (the-makes 𝓤 H A) blank _ blank-is $
+        move ! (1 ∷ 0 ∷ []) $ elem-put ! T.the-row fullShare (now i) (i .0) blank (mach blank ∷ []) b o (in-row less) $
         rewrite ! 0 (λ (l : List Checkpoint). ‵ (row T.the-row fullShare l b o)) (fill-more (i .0) blank ys (inside less)) refl $
         assigns-last ! (bin ! (load ! (from ! (stop !)) (look ! 7 refl)) (lit ! tt) (record { fits = fits (next less) })) (from ! (stop !)) (store ! 7 refl (tt, record { fits = fits (next less) })) $
         forget ! 1 refl $ forget ! 3 refl $ forget ! 5 refl $ move ! (1 ∷ 2 ∷ 3 ∷ 4 ∷ 5 ∷ 6 ∷ 7 ∷ 8 ∷ 9 ∷ 10 ∷ 11 ∷ 12 ∷ 13 ∷ 14 ∷ 15 ∷ 16 ∷ 0 ∷ []) $ again ! Nearer At i (next less) (nearer less)))
@@ -148,7 +159,8 @@ module _ {M : Type 1} (𝓤 : URA M) (H : Heap 𝓤) (A : Atoms 𝓤) (W : Given
         assigns ! (of-opd ! (unit-lit !)) (from ! (stop !)) (init ! 14 refl (tt, tt)) $
         move ! (16 ∷ 17 ∷ 18 ∷ 19 ∷ []) $ closes-slice ! tt T.the-row ys (now i) (fill-length (i .0) blank ys) b o $
         returns ! (look ! 17 refl) $ forget ! 7 refl $ forget ! 9 refl $ forget ! 11 refl $ forget ! 13 refl $ forget ! 15 refl $ forget ! 17 refl $
-        move ! (17 ∷ 18 ∷ []) $ free1 ! $ move ! (15 ∷ 16 ∷ []) $ free1 ! $ move ! (13 ∷ 14 ∷ []) $ free1 ! $ move ! (11 ∷ 12 ∷ []) $ free1 ! $ move ! (9 ∷ 10 ∷ []) $ free1 ! $ move ! (7 ∷ 8 ∷ []) $ free1 ! $ move ! (5 ∷ 6 ∷ []) $ free1 ! $ move ! (3 ∷ 4 ∷ []) $ free1 ! $ free0 ! $
+        move ! (17 ∷ 18 ∷ []) $ free1 ! $ move ! (15 ∷ 16 ∷ []) $ free1 ! $ move ! (13 ∷ 14 ∷ []) $ free1 ! $ move ! (11 ∷ 12 ∷ []) $ free1 ! $ move ! (9 ∷ 10 ∷ []) $ free1 ! $
+        move ! (7 ∷ 8 ∷ []) $ free1 ! $ move ! (5 ∷ 6 ∷ []) $ free1 ! $ move ! (3 ∷ 4 ∷ []) $ free1 ! $ free0 ! $
         keep ! (0 ∷ 1 ∷ 2 ∷ []) $ by ! (exits (now i) (ap (λ (m : ℕ). fill-to m blank ys) (le-antisymm (i .1) (nltb→le (i .0) n over)) ∙ fill-is n blank ys enough) (fill-length (i .0) blank ys)))
       where
         now : Upto → List Checkpoint
@@ -183,7 +195,8 @@ module _ {M : Type 1} (𝓤 : URA M) (H : Heap 𝓤) (A : Atoms 𝓤) (W : Given
       qed W ((‵ (flft κ q) ⊛ ‵ ftrue) ∷ ‵ (owns (MutSlice (named 0) κ T.the-row ∷ usize ∷ []) x at) ∷ []) ∵ enter ! (𝓣 .C) (𝓣 .Λ) code.function (s ∷ vint w64 n ∷ []) _ $
       alloc1 ! (λ l₀. alloc1 ! (λ l₁. alloc1 ! (λ l₂. alloc1 ! (λ l₃. alloc1 ! (λ l₄. alloc1 ! (λ l₅. alloc1 ! (λ l₆. alloc1 ! (λ l₇. alloc0 ! $ params1 ! $
       pass1 ! (init ! 12 refl (tt, (tt, (record { fits = room .0 }, tt)))) $ pass1 ! (init ! 10 refl (tt, record { fits = n-fits })) $ pass0 ! $
-      assigns ! (agg ! (and-then ! (lit ! tt) (and-then ! (lit ! tt) (and-then ! (lit ! tt) (and-then ! (lit ! tt) (no-more !)))))) (from ! (stop !)) (init ! 8 refl (the-typed 𝓤 H A W blank blank-is)) $
+      assigns ! (agg ! (and-then ! (lit ! tt) (and-then ! (lit ! tt) (and-then ! (lit ! tt) (and-then ! (lit ! tt) (no-more !))))))
+      (from ! (stop !)) (init ! 8 refl (the-typed 𝓤 H A W blank blank-is)) $
       assigns ! (of-opd ! (lit ! tt)) (from ! (stop !)) (init ! 6 refl (tt, record { fits = lit< tt })) $
       -- the borrow is opened
       move ! (17 ∷ []) $ fsplit ! $ fsplit ! $ move ! (1 ∷ []) $ fsplit ! $ move ! (20 ∷ []) $ split ! $ move ! (2 ∷ 3 ∷ 0 ∷ []) $ opens-slice ! tt T.the-row ys b o $
@@ -192,7 +205,9 @@ module _ {M : Type 1} (𝓤 : URA M) (H : Heap 𝓤) (A : Atoms 𝓤) (W : Given
 
 module _ {M : Type 1} (𝓤 : URA M) (H : Heap 𝓤) (A : Atoms 𝓤) (W : Given 𝓤 H A) (mem : Memory → SProp 𝓤) (run : Routine → Fun 𝓤) where
   clear-walks : (𝓣 : Tables 𝓤 H) → Walks 𝓤 H A clear.ended stayed (WpFn 𝓤 H (𝓣 .C) (𝓣 .Λ) code.function) (clear.clauses 𝓤 H A mem run)
-  clear-walks 𝓣 = walked 𝓤 H A clear.ended stayed (clear.clauses 𝓤 H A mem run) (WpFn 𝓤 H (𝓣 .C) (𝓣 .Λ) code.function) (λ κs. (slice-vals, (uint-vals w64, tt))) (λ κs. (mut-slice-tells (named 0) (κs .0) T.the-row, (uint-tells w64, tt)))
+  clear-walks 𝓣 =
+      walked 𝓤 H A clear.ended stayed (clear.clauses 𝓤 H A mem run) (WpFn 𝓤 H (𝓣 .C) (𝓣 .Λ) code.function)
+      (λ κs. (slice-vals, (uint-vals w64, tt))) (λ κs. (mut-slice-tells (named 0) (κs .0) T.the-row, (uint-tells w64, tt)))
       (λ κs qs bounds a g are. needs 𝓤 (a .1 .0 ≤ length (a .0 .now)) _
       (λ enough. walk 𝓤 H A W mem run (κs .0) (qs .0) (a .0 .ptr .0) (a .0 .ptr .1) (a .0 .name) (a .0 .now) (a .1 .0) (are .1 .0 .1) enough (are .0 .0 .1) 𝓣))
 

@@ -41,7 +41,11 @@ returns-2 : tie.Need-returns-2
 returns-2 c = c .moved2 .ensures ∙ ap (after-outcome (c .before .before .before .before .before .args .p)) (sym (c .before .before .before .o2 .given .1))
 
 returns-3 : tie.Need-returns-3
-returns-3 c = c .refuse .ensures ∙ ap (λ (x : Progress). refused-at x (c .before .before .before .o3 .given .0 .0)) (c .before .moved3 .ensures) ∙ ap (after-outcome (c .before .before .before .before .before .args .p)) (sym (c .before .before .before .o3 .given .1))
+returns-3 c =
+    let o = c .before .before .before .o3 in
+    c .refuse .ensures
+    ∙ ap (λ (x : Progress). refused-at x (o .given .0 .0)) (c .before .moved3 .ensures)
+    ∙ ap (after-outcome (c .before .before .before .before .before .args .p)) (sym (o .given .1))
 
 pub after-outcome-spec : {M : Type 1} → statement M
 after-outcome-spec =

@@ -20,7 +20,11 @@ moved-requires : tie.Need-moved-requires
 moved-requires c κs = search needs
 
 returns : tie.Need-returns
-returns c = c .moved .ensures ∙ (λ i. moved-to (c .before .before .before .before .args .p) (record { opens = c .before .before .before .wide .ensures i; depth = c .before .before .wide2 .ensures i; size = c .before .wide3 .ensures i }) (c .before .before .before .before .args .number) false)
+returns c =
+    let a = c .before .before .before .before .args in
+    let opens = c .before .before .before .wide .ensures in
+    let depth = c .before .before .wide2 .ensures in
+    c .moved .ensures ∙ (λ i. moved-to (a .p) (record { opens = opens i; depth = depth i; size = c .before .wide3 .ensures i }) (a .number) false)
 
 pub undone-spec : {M : Type 1} → statement M
 undone-spec =
