@@ -11,7 +11,7 @@ use borrow.Author.Tests.{eq-eqb, ne-eqb}
 use Rattle.words.specs.Words.{WORK}
 use Rattle.words.specs.Choice.{cond-true, cond-false}
 use Rattle.atom.specs.Parse.{parse}
-use Rattle.spec_reading.specs.Format.{ParseOp, SExp, Cons, go, stop, settle, atom-item, path-item, next-item, step}
+use Rattle.spec_reading.specs.Format.{ParseOp, SExp, Cons, go, settle, atom-item, path-item, next-item, step}
 use Rattle.spec_reading.specs.Store.{Value, Stored, store-values}
 use Rattle.spec_reading.specs.Sound.{Sound, unlisted, sound-pair}
 use Rattle.read_store.specs.Layout.{ops-of, PushedPair}
