@@ -49,7 +49,8 @@ steps-of (b ∷ rest) input p = by-tests (eqb b 0xff) (eqb b 0xfe)
     none : p + 0 ≡ p
     none = omega arith
 
-    by-tests : (x y : Bool) → cond x pair (cond y (path (parse-at input (p + cond y 1 0))) (atom (parse-at input (p + cond y 1 0)))) ≡ cond x pair (cond y (path (parse-at input (p + 1))) (atom (parse-at input p)))
+    by-tests : (x y : Bool)
+        → cond x pair (cond y (path (parse-at input (p + cond y 1 0))) (atom (parse-at input (p + cond y 1 0)))) ≡ cond x pair (cond y (path (parse-at input (p + 1))) (atom (parse-at input p)))
     by-tests true y = refl
     by-tests false true = refl
     by-tests false false = ap (λ (n : ℕ). atom (parse-at input n)) none

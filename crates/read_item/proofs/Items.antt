@@ -11,7 +11,7 @@ use borrow.Author.Tests.{eq-eqb, ne-eqb}
 use Rattle.words.specs.Words.{WORK}
 use Rattle.words.specs.Choice.{cond-true, cond-false}
 use Rattle.atom.specs.Parse.{parse}
-use Rattle.spec_reading.specs.Format.{ParseOp, SExp, Cons, go, stop, settle, atom-item, path-item, next-item, step}
+use Rattle.spec_reading.specs.Format.{ParseOp, SExp, Cons, go, settle, atom-item, path-item, next-item, step}
 use Rattle.spec_reading.specs.Store.{Value, Stored, store-values}
 use Rattle.spec_reading.specs.Sound.{Sound, unlisted, sound-pair}
 use Rattle.read_store.specs.Layout.{ops-of, PushedPair}
@@ -55,7 +55,8 @@ module _ (input w p a b : List ℕ) (r : Reader) where
         from-first ∙ cond-false _ _ _ (ne-eqb (getD input (r .position) 0) 0xff (λ z. absurd (omega (arith, z, e)))) ∙ cond-true _ _ _ (eq-eqb (getD input (r .position) 0) 0xfe e)
         ∙ ap (λ (n : ℕ). path-item store-values (parse (drop n input)) (drop n input) ops stored) (sym (add-one (r .position)))
 
-    pub step-atom : (getD input (r .position) 0 ≡ 0xff → ⊥) → (getD input (r .position) 0 ≡ 0xfe → ⊥) → step store-values (reader-at input w p a b r) ≡ atom-item store-values (parse (drop (r .position) input)) (drop (r .position) input) ops stored
+    pub step-atom : (getD input (r .position) 0 ≡ 0xff → ⊥) → (getD input (r .position) 0 ≡ 0xfe → ⊥)
+        → step store-values (reader-at input w p a b r) ≡ atom-item store-values (parse (drop (r .position) input)) (drop (r .position) input) ops stored
     step-atom other d =
         from-first ∙ cond-false _ _ _ (ne-eqb (getD input (r .position) 0) 0xff other) ∙ cond-false _ _ _ (ne-eqb (getD input (r .position) 0) 0xfe d)
         ∙ ap (λ (l : List ℕ). atom-item store-values (parse l) l ops stored) (sym (drop-cons input (r .position) 0 h))
@@ -66,7 +67,8 @@ module _ (input w p a b : List ℕ) (r : Reader) where
       pub pair-room : (WORK ≤ length w) × (r .ops + 2 ≤ 131072) × (r .position ≤ 65535)
       pair-room = (k .lent .work, omega (arith, k .sound .ops-bound, length-ops w (r .ops), k .lent .short), omega (arith, k .lent .short))
 
-      pub pair-stepped : (w′ : List ℕ) → length w′ ≡ length w → PushedPair w w′ (r .ops) → getD input (r .position) 0 ≡ 0xff → (i : Item) → i ≡ item.Go (pair-begun r) → Stepped input w p a b r w′ p a b i
+      pub pair-stepped : (w′ : List ℕ) → length w′ ≡ length w → PushedPair w w′ (r .ops) → getD input (r .position) 0 ≡ 0xff → (i : Item) → i ≡ item.Go (pair-begun r)
+          → Stepped input w p a b r w′ p a b i
       pair-stepped w′ lw q e i ei =
           subst (λ (x : Item). Stepped input w p a b r w′ p a b x) (sym ei)
           (record {
@@ -74,8 +76,10 @@ module _ (input w p a b : List ℕ) (r : Reader) where
                 ∙ ap (λ (s : Stored). go (record { rest = drop (r .position + 1) input; ops = ops-of w′ (r .ops + 2); values = s })) same-stored;
             stands =
                 record {
-                  lent = lent-after input w p a b r w′ p a b (pair-begun r) (k .lent) lw refl refl refl (omega arith) (k .lent .pairs-in) (omega arith) refl (k .lent .atoms-in) (omega arith) refl (k .lent .bytes-in) (omega arith) refl;
-                  sound = subst (λ (o : List ParseOp). Sound (r .position + 1) (SExp ∷ o) (stored-of w′ p a b (pair-begun r))) (sym (q .ops)) (subst (Sound (r .position + 1) (SExp ∷ SExp ∷ Cons ∷ ops)) same-stored (sound-pair (r .position) ops stored (k .sound)));
+                  lent = lent-after input w p a b r w′ p a b (pair-begun r) (k .lent) lw refl refl refl (omega arith) (k .lent .pairs-in) (omega arith) refl (k .lent .atoms-in)
+                      (omega arith) refl (k .lent .bytes-in) (omega arith) refl;
+                  sound = subst (λ (o : List ParseOp). Sound (r .position + 1) (SExp ∷ o) (stored-of w′ p a b (pair-begun r))) (sym (q .ops))
+                      (subst (Sound (r .position + 1) (SExp ∷ SExp ∷ Cons ∷ ops)) same-stored (sound-pair (r .position) ops stored (k .sound)));
                   lists = record { all = ap unlisted (q .values (r .listed)) ∙ k .lists .all; few = k .lists .few };
                 };
           })
@@ -85,7 +89,8 @@ module _ (input w p a b : List ℕ) (r : Reader) where
 
       -- ---- an atom
 
-      pub atom-stepped : (w′ p′ a′ b′ : List ℕ) (i : Item) → (getD input (r .position) 0 ≡ 0xff → ⊥) → (getD input (r .position) 0 ≡ 0xfe → ⊥) → SteppedAtom input w p a b r w′ p′ a′ b′ i → Stepped input w p a b r w′ p′ a′ b′ i
+      pub atom-stepped : (w′ p′ a′ b′ : List ℕ) (i : Item) → (getD input (r .position) 0 ≡ 0xff → ⊥) → (getD input (r .position) 0 ≡ 0xfe → ⊥)
+          → SteppedAtom input w p a b r w′ p′ a′ b′ i → Stepped input w p a b r w′ p′ a′ b′ i
       atom-stepped w′ p′ a′ b′ i d e s = record { same = step-atom d e ∙ s .same; stands = s .stands }
 
       -- ---- a reference

@@ -118,7 +118,8 @@ values-split w w′ (suc n) (suc k) h f =
 
 -- ---- what is left where a path leads to a node of the store
 
-leads-to : (w p : List ℕ) (values listed used ghosts : ℕ) → HaveLists w listed values → (r : Walked) (n : Option Node) (s : Store) → s .pairs ≡ take (2 * used) p → s .ghosts ≡ ghosts → walked-to r ≡ n
+leads-to : (w p : List ℕ) (values listed used ghosts : ℕ) → HaveLists w listed values → (r : Walked) (n : Option Node) (s : Store) → s .pairs ≡ take (2 * used) p
+    → s .ghosts ≡ ghosts → walked-to r ≡ n
     → LeadsTo w p values used (led-to n (values-of w values) s) w p (reached r used ghosts listed)
 leads-to w p values listed used ghosts a (walked.Node h) n s e f q =
     record {

@@ -52,7 +52,8 @@ pub record Adds (w p : List ℕ) (i : ℕ) (below : Built) (w′ p′ : List ℕ
   pub spent : unlisted-of (value-at w i .list) (b .ghosts) ≡ below .ghosts
   pub listed-is : b .listed ≡ i + 1
 
--- The list of the lowest `count` values is made as `list-of` says, in any store whose pairs and ghosts are those in use; the rest is as it was. All these have a list then, and no more are known to than before or these.
+-- The list of the lowest `count` values is made as `list-of` says, in any store whose pairs and ghosts are those in use; the rest
+-- is as it was. All these have a list then, and no more are known to than before or these.
 pub record Lists (w p : List ℕ) (count listed used ghosts : ℕ) (w′ p′ : List ℕ) (b : Built) : Type 0 where
   pub node-is : (s : Store) → s .pairs ≡ take (2 * used) p → s .ghosts ≡ ghosts → b .node .0 ≡ list-of (values-of w count) s .node
   pub values-are : (s : Store) → s .pairs ≡ take (2 * used) p → s .ghosts ≡ ghosts → values-of w′ count ≡ list-of (values-of w count) s .values

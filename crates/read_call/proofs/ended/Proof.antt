@@ -6,9 +6,8 @@ use mathlib.Core.List.{List}
 use borrow.Author.Needs.{needs}
 use Rattle.spec_reading.specs.Call.{Result}
 use Rattle.read_answer.specs.Answer.{slices}
-use Rattle.read_item.specs.declared.settle.Reader.{Reader}
 use Rattle.read_call.specs.declared.read_items.Outcome.{Outcome}
-use Rattle.read_call.specs.Outcome.{read-result-of, Counted, ended}
+use Rattle.read_call.specs.Outcome.{Counted, ended}
 use Rattle.read_call.proofs.ended.Statement.{statement}
 use Rattle.read_call.proofs.ended.Tie as tie
 

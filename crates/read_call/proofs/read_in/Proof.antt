@@ -38,13 +38,13 @@ same-length-4 c = search needs
 
 returns : tie.Need-returns
 returns c =
-    let told = c .before .before .before .before .before .before .before .before in
-    let read = told .before .before .before .before .before in
+    let answered = c .before .before .before .before .before .before .before .before in
+    let read = answered .before .before .before .before .before in
     let all-read = read .before .before .before .before .before .before .before .before in
     let x = all-read .read-all in
     let z = cleared (all-read .before) .clear-store .kept in
     ended-after _ _ _ _ _ _ _ _ _ _ (x .ensures) (x .kept .1 .0) (x .kept .1 .1 .0 ∙ z .0) (x .kept .1 .1 .1 .0 ∙ z .1 .0) (x .kept .1 .1 .1 .1 .0 ∙ z .1 .1 .0)
-    _ (told .ended .ensures)
+    _ (answered .ended .ensures)
 
 pub read-in-spec : {M : Type 1} → statement M
 read-in-spec = tie.close (tie.spec clear-store-requires read-all-requires ended-requires same-length same-length-2 same-length-3 same-length-4 returns)

@@ -1,4 +1,6 @@
--- `read_cursor::head_at` meets its contract: a walk of its MIR, by hand. A cursor is made in a local and copied for each call: its byte is read, the prefix of that byte is counted, the cursor is advanced by it, and the atom or path is parsed there. All that the proof knows of the four functions is that each meets its contract.
+-- `read_cursor::head_at` meets its contract: a walk of its MIR, by hand. A cursor is made in a local and copied for each call:
+-- its byte is read, the prefix of that byte is counted, the cursor is advanced by it, and the atom or path is parsed there. All
+-- that the proof knows of the four functions is that each meets its contract.
 -- In a local of a body MIR erases the lifetime of the struct's type, so a cursor is shown to have the type at `erased`. What the input owns is kept for the exit; a cursor's is made of a copy of it.
 -- Assumes nothing.
 use mathlib.Core.Path.{_≡_, refl, ap, subst, sym, _∙_}
@@ -94,7 +96,8 @@ module _ {M : Type 1} (𝓤 : URA M) (H : Heap 𝓤) (A : Atoms 𝓤) (mem : Mem
   abbrev Parse : Contract 𝓤
   Parse = tripleOf 𝓤 H A parse′.signature (parse′.spec 𝓤 H A mem run)
 
-module _ {M : Type 1} (𝓤 : URA M) (H : Heap 𝓤) (A : Atoms 𝓤) (W : Given 𝓤 H A) (mem : Memory → SProp 𝓤) (run : Routine → Fun 𝓤) (κ : Lft) (q : Share) (s : RefT (List ℕ)) (p : ℕ) (ok : p < 2 ^ 64) where
+module _ {M : Type 1} (𝓤 : URA M) (H : Heap 𝓤) (A : Atoms 𝓤) (W : Given 𝓤 H A) (mem : Memory → SProp 𝓤) (run : Routine → Fun 𝓤) (κ : Lft) (q : Share) (s : RefT (List ℕ)) (p : ℕ)
+    (ok : p < 2 ^ 64) where
   -- the machine value that s has
   abbrev v : Val
   v = sliceVal (s .ptr) (length (s .now))
@@ -161,12 +164,14 @@ module _ {M : Type 1} (𝓤 : URA M) (H : Heap 𝓤) (A : Atoms 𝓤) (W : Given
   abbrev to-advance : ℕ → Val → Advance 𝓤 H A mem run .Ghost
   to-advance n u = (((κ, tt), (q, tt), tt, (d, (n, tt)), (mach ∷ [], (u ∷ [], tt))), tt)
 
-  goes-advance : (n : ℕ) (u : Val) → Is usize n (u ∷ []) → p + n < 2 ^ 64 → ent 𝓤 (⋆ 𝓤 H A ((‵ (flft κ q) ⊛ ‵ ftrue) ∷ ‵ Own ∷ [])) (sep 𝓤 (Advance 𝓤 H A mem run .pre (to-advance n u)) (sem 𝓤 H A Own))
+  goes-advance : (n : ℕ) (u : Val) → Is usize n (u ∷ []) → p + n < 2 ^ 64
+      → ent 𝓤 (⋆ 𝓤 H A ((‵ (flft κ q) ⊛ ‵ ftrue) ∷ ‵ Own ∷ [])) (sep 𝓤 (Advance 𝓤 H A mem run .pre (to-advance n u)) (sem 𝓤 H A Own))
   goes-advance n u is fits =
       qed W ((‵ (flft κ q) ⊛ ‵ ftrue) ∷ ‵ Own ∷ []) ∵
       move ! (1 ∷ []) $ use1 W (‵ (B (κ, tt) .own d (mach ∷ [])) ⊛ ‵ Own) made $ split ! $
       nothing ! $ owned ! usize (Is usize) (uint-makes 𝓤 H A W w64) n _ is $ fjoin ! $ move ! (1 ∷ 0 ∷ []) $ fjoin ! $ move ! (2 ∷ 0 ∷ []) $
-      use2 W (raw (Advance 𝓤 H A mem run .pre (to-advance n u))) (qed W ((‵ (flft κ q) ⊛ ‵ ftrue) ∷ ‵ (owns (B (κ, tt) ∷ usize ∷ []) (d, (n, tt)) (mach ∷ [], (u ∷ [], tt))) ∷ []) ∵ says ! fits $ frame ! $ done !) $ frame ! $ done !
+      use2 W (raw (Advance 𝓤 H A mem run .pre (to-advance n u)))
+      (qed W ((‵ (flft κ q) ⊛ ‵ ftrue) ∷ ‵ (owns (B (κ, tt) ∷ usize ∷ []) (d, (n, tt)) (mach ∷ [], (u ∷ [], tt))) ∷ []) ∵ says ! fits $ frame ! $ done !) $ frame ! $ done !
 
   advance-said : (n : ℕ) (r : Cursor) → ent 𝓤 (ensured 𝓤 H A advance.ended (advance.clauses 𝓤 H A mem run) (κ, tt) (d, (n, tt)) tt r) (fact 𝓤 ((r .input ≡ s) × (r .position ≡ p + n)))
   advance-said n r = exE 𝓤 _ (λ ws. snd∗ 𝓤 (sem 𝓤 H A (lasts advance.ended (κ, tt) (d, (n, tt)) ws)) (fact 𝓤 ((r .input ≡ s) × (r .position ≡ p + n))))
@@ -175,16 +180,19 @@ module _ {M : Type 1} (𝓤 : URA M) (H : Heap 𝓤) (A : Atoms 𝓤) (W : Given
   abbrev to-parse : Cursor → Val → First → Val → Parse 𝓤 H A mem run .Ghost
   to-parse r u f w = (((κ, tt), (q, tt), tt, (r, (f, tt)), (u ∷ [], (w ∷ [], tt))), tt)
 
-  goes-parse : (r : Cursor) (u : Val) (f : First) (w : Val) → Is F.the-row f (w ∷ []) → ent 𝓤 (⋆ 𝓤 H A (‵ (B (κ, tt) .own r (u ∷ [])) ∷ (‵ (flft κ q) ⊛ ‵ ftrue) ∷ [])) (Parse 𝓤 H A mem run .pre (to-parse r u f w))
+  goes-parse : (r : Cursor) (u : Val) (f : First) (w : Val) → Is F.the-row f (w ∷ [])
+      → ent 𝓤 (⋆ 𝓤 H A (‵ (B (κ, tt) .own r (u ∷ [])) ∷ (‵ (flft κ q) ⊛ ‵ ftrue) ∷ [])) (Parse 𝓤 H A mem run .pre (to-parse r u f w))
   goes-parse r u f w is =
       qed W (‵ (B (κ, tt) .own r (u ∷ [])) ∷ (‵ (flft κ q) ⊛ ‵ ftrue) ∷ []) ∵
       nothing ! $ owned ! F.the-row (Is F.the-row) (EL.makes F.the-type F′.the-plain 𝓤 H A) f _ is $ fjoin ! $ move ! (1 ∷ 0 ∷ []) $ fjoin ! $ move ! (1 ∷ 0 ∷ []) $ join ! $ frame ! $ done !
 
-  parse-said : (r : Cursor) (f : First) (h : Head) → ent 𝓤 (ensured 𝓤 H A parse′.ended (parse′.clauses 𝓤 H A mem run) (κ, tt) (r, (f, tt)) tt h) (fact 𝓤 (there-of h ≡ parsed f (now (r .input)) (r .position)))
+  parse-said : (r : Cursor) (f : First) (h : Head)
+      → ent 𝓤 (ensured 𝓤 H A parse′.ended (parse′.clauses 𝓤 H A mem run) (κ, tt) (r, (f, tt)) tt h) (fact 𝓤 (there-of h ≡ parsed f (now (r .input)) (r .position)))
   parse-said r f h = exE 𝓤 _ (λ ws. snd∗ 𝓤 (sem 𝓤 H A (lasts parse′.ended (κ, tt) (r, (f, tt)) ws)) (fact 𝓤 (there-of h ≡ parsed f (now (r .input)) (r .position))))
 
   -- the four answers together
-  together : (f : First) (n : ℕ) (r : Cursor) (h : Head) → f ≡ here → n ≡ prefix-of f → (r .input ≡ s) × (r .position ≡ p + n) → there-of h ≡ parsed f (now (r .input)) (r .position) → there-of h ≡ found
+  together : (f : First) (n : ℕ) (r : Cursor) (h : Head) → f ≡ here → n ≡ prefix-of f → (r .input ≡ s) × (r .position ≡ p + n)
+      → there-of h ≡ parsed f (now (r .input)) (r .position) → there-of h ≡ found
   together f n r h ef en er eh =
       eh ∙ ap (λ (x : RefT (List ℕ)). parsed f (now x) (r .position)) (er .0) ∙ ap (parsed f (now s)) (er .1) ∙ ap (λ (m : ℕ). parsed f (now s) (p + m)) en
       ∙ ap (λ (x : First). parsed x (now s) (p + prefix-of x)) ef ∙ head-is (now s) p
@@ -198,17 +206,22 @@ module _ {M : Type 1} (𝓤 : URA M) (H : Heap 𝓤) (A : Atoms 𝓤) (W : Given
       suffices ! _ (ends-at 𝓤 H A head.ended stayed (head.clauses 𝓤 H A mem run) W (((κ, tt), (q, tt), tt, (s, (p, tt)), at), tt) u h (tt, (tt, tt)) (tt, (tt, tt))) $ says ! e $
       move ! (1 ∷ []) $ frame ! $ nothing ! $ owned ! usize (Is usize) (uint-makes 𝓤 H A W w64) p _ (refl, ok) $ fjoin ! $ move ! (2 ∷ 0 ∷ []) $ fjoin ! $ frame ! $ done !
 
-  module _ (C : Calls 𝓤 H) (Λ : Loops 𝓤 H) (fm : FmC 𝓤 H (W .laws) C) (known-read : Triple 𝓤 (C #read-cursor·read-byte) (ReadByte 𝓤 H A mem run)) (known-prefix : Triple 𝓤 (C #read-cursor·prefix-of) (PrefixOf 𝓤 H A mem run)) (known-advance : Triple 𝓤 (C #read-cursor·advance) (Advance 𝓤 H A mem run)) (known-parse : Triple 𝓤 (C #read-cursor·parse) (Parse 𝓤 H A mem run)) where
+  module _ (C : Calls 𝓤 H) (Λ : Loops 𝓤 H) (fm : FmC 𝓤 H (W .laws) C) (known-read : Triple 𝓤 (C #read-cursor·read-byte) (ReadByte 𝓤 H A mem run))
+      (known-prefix : Triple 𝓤 (C #read-cursor·prefix-of) (PrefixOf 𝓤 H A mem run)) (known-advance : Triple 𝓤 (C #read-cursor·advance) (Advance 𝓤 H A mem run))
+      (known-parse : Triple 𝓤 (C #read-cursor·parse) (Parse 𝓤 H A mem run)) where
     walk : Is (ShrSlice (named 0) κ u8) s (v ∷ []) → ent 𝓤 (onEntry 𝓤 H A head.signature (κ, tt) (q, tt) (s, (p, tt)) at) (WpFn 𝓤 H C Λ code.function (v ∷ vint w64 p ∷ []) Post)
     walk is =
         qed W (raw (onEntry 𝓤 H A head.signature (κ, tt) (q, tt) (s, (p, tt)) at) ∷ []) ∵ enter ! C Λ code.function (v ∷ vint w64 p ∷ []) _ $
-        alloc1 ! (λ l₀. alloc1 ! (λ l₁. alloc1 ! (λ l₂. alloc1 ! (λ l₃. alloc1 ! (λ l₄. alloc1 ! (λ l₅. alloc1 ! (λ l₆. alloc1 ! (λ l₇. alloc1 ! (λ l₈. alloc1 ! (λ l₉. alloc0 ! $ params1 ! $ pass1 ! (init ! 16 refl (shr-slice-lawful 𝓤 H A W (named 0) κ u8 .typed s (v ∷ []) is .0)) $ pass1 ! (init ! 14 refl (tt, record { fits = ok })) $ pass0 ! $
+        alloc1 ! (λ l₀. alloc1 ! (λ l₁. alloc1 ! (λ l₂. alloc1 ! (λ l₃. alloc1 ! (λ l₄. alloc1 ! (λ l₅. alloc1 ! (λ l₆. alloc1 ! (λ l₇. alloc1 ! (λ l₈. alloc1 ! (λ l₉.
+        alloc0 ! $ params1 ! $ pass1 ! (init ! 16 refl (shr-slice-lawful 𝓤 H A W (named 0) κ u8 .typed s (v ∷ []) is .0)) $
+        pass1 ! (init ! 14 refl (tt, record { fits = ok })) $ pass0 ! $
         -- the cursor, and its byte
         assigns ! (agg ! (and-then ! (load ! (from ! (stop !)) (look ! 16 refl)) (and-then ! (load ! (from ! (stop !)) (look ! 14 refl)) (no-more !)))) (from ! (stop !)) (init ! 12 refl typed) $
         assigns ! (of-opd ! (load ! (from ! (stop !)) (look ! 12 refl))) (from ! (stop !)) (init ! 4 refl typed) $
         move ! (20 ∷ []) $ use1 W (raw (ReadByte 𝓤 H A mem run .pre to-read) ⊛ ‵ Own) goes-read $ split ! $
         calls-at ! fm (ReadByte 𝓤 H A mem run) known-read to-read (and-then ! (load ! (from ! (stop !)) (look ! 6 refl)) (no-more !)) (λ u₁.
-        use1 W (later (some (λ (f : First). ((‵ (flft κ q) ⊛ ‵ ftrue) ⊛ ‵ (F.the-row .own f (u₁ ∷ []))) ⊛ raw (ensured 𝓤 H A read.ended (read.clauses 𝓤 H A mem run) (κ, tt) (d, tt) tt f)))) (id⊢ 𝓤 _) $ await ! tt $ pick ! (λ f.
+        use1 W (later (some (λ (f : First). ((‵ (flft κ q) ⊛ ‵ ftrue) ⊛ ‵ (F.the-row .own f (u₁ ∷ []))) ⊛ raw
+        (ensured 𝓤 H A read.ended (read.clauses 𝓤 H A mem run) (κ, tt) (d, tt) tt f)))) (id⊢ 𝓤 _) $ await ! tt $ pick ! (λ f.
         split ! $ move ! (1 ∷ []) $ use1 W (raw (fact 𝓤 (f ≡ here))) (read-said f) $ heard ! (f ≡ here) (λ ef. split ! $ move ! (1 ∷ []) $
         -- [what the byte owns; the token; what the input owns; _9; …]
         peeks ! F.the-row (Is F.the-row) (shows 𝓤 H A F.the-row) f (u₁ ∷ []) (λ f-is.
@@ -216,30 +229,39 @@ module _ {M : Type 1} (𝓤 : URA M) (H : Heap 𝓤) (A : Atoms 𝓤) (W : Given
         -- its prefix
         use0 W (raw (PrefixOf 𝓤 H A mem run .pre (to-prefix f u₁))) (goes-prefix f u₁ f-is) $
         calls-at ! fm (PrefixOf 𝓤 H A mem run) known-prefix (to-prefix f u₁) (and-then ! (load ! (from ! (stop !)) (look ! 13 refl)) (no-more !)) (λ u₂.
-        use1 W (later (some (λ (n : ℕ). (‵ ftrue ⊛ ‵ (usize .own n (u₂ ∷ []))) ⊛ raw (ensured 𝓤 H A prefix.ended (prefix.clauses 𝓤 H A mem run) tt (f, tt) tt n)))) (id⊢ 𝓤 _) $ await ! tt $ pick ! (λ n.
+        use1 W (later (some (λ (n : ℕ). (‵ ftrue ⊛ ‵ (usize .own n (u₂ ∷ []))) ⊛ raw (ensured 𝓤 H A prefix.ended (prefix.clauses 𝓤 H A mem run) tt (f, tt) tt n)))) (id⊢ 𝓤 _) $
+        await ! tt $ pick ! (λ n.
         split ! $ move ! (1 ∷ []) $ use1 W (raw (fact 𝓤 (n ≡ prefix-of f))) (prefix-said f n) $ heard ! (n ≡ prefix-of f) (λ en. split ! $ drop ! $
         peeks ! usize (Is usize) (shows 𝓤 H A usize) n (u₂ ∷ []) (λ n-is.
         land ! (from ! (stop !)) (init ! 11 refl (uint-lawful 𝓤 H A W w64 .typed n _ n-is .0)) $ drop ! $
         -- the cursor, advanced
         assigns ! (of-opd ! (load ! (from ! (stop !)) (look ! 14 refl))) (from ! (stop !)) (init ! 4 refl typed) $
         use2 W (raw (Advance 𝓤 H A mem run .pre (to-advance n u₂)) ⊛ ‵ Own) (goes-advance n u₂ n-is (may-advance f n (long is) ef en)) $ split ! $
-        calls-at ! fm (Advance 𝓤 H A mem run) known-advance (to-advance n u₂) (and-then ! (load ! (from ! (stop !)) (look ! 4 refl)) (and-then ! (load ! (from ! (stop !)) (look ! 10 refl)) (no-more !))) (λ u₃.
-        use1 W (later (some (λ (r : Cursor). ((‵ (flft κ q) ⊛ ‵ ftrue) ⊛ ‵ (B (κ, tt) .own r (u₃ ∷ []))) ⊛ raw (ensured 𝓤 H A advance.ended (advance.clauses 𝓤 H A mem run) (κ, tt) (d, (n, tt)) tt r)))) (id⊢ 𝓤 _) $ await ! tt $ pick ! (λ r.
-        split ! $ move ! (1 ∷ []) $ use1 W (raw (fact 𝓤 ((r .input ≡ s) × (r .position ≡ p + n)))) (advance-said n r) $ heard ! ((r .input ≡ s) × (r .position ≡ p + n)) (λ er. split ! $ move ! (1 ∷ []) $
+        calls-at ! fm (Advance 𝓤 H A mem run) known-advance (to-advance n u₂)
+        (and-then ! (load ! (from ! (stop !)) (look ! 4 refl)) (and-then ! (load ! (from ! (stop !)) (look ! 10 refl)) (no-more !))) (λ u₃.
+        use1 W (later (some (λ (r : Cursor). ((‵ (flft κ q) ⊛ ‵ ftrue) ⊛ ‵ (B (κ, tt) .own r (u₃ ∷ []))) ⊛ raw
+        (ensured 𝓤 H A advance.ended (advance.clauses 𝓤 H A mem run) (κ, tt) (d, (n, tt)) tt r)))) (id⊢ 𝓤 _) $ await ! tt $ pick ! (λ r.
+        split ! $ move ! (1 ∷ []) $ use1 W (raw (fact 𝓤 ((r .input ≡ s) × (r .position ≡ p + n)))) (advance-said n r) $
+        heard ! ((r .input ≡ s) × (r .position ≡ p + n)) (λ er. split ! $ move ! (1 ∷ []) $
         -- [what the cursor owns; the token; what the input owns; _9; …]
         peeks ! (B (κ, tt)) (Is (B (κ, tt))) (shows 𝓤 H A (B (κ, tt))) r (u₃ ∷ []) (λ r-is.
         land ! (from ! (stop !)) (init ! 9 refl (LL.lawful (T.the-type αᵉ) (T′.the-laws αᵉ) 𝓤 H A W .typed r _ r-is .0)) $
         -- what stands there
         assigns ! (of-opd ! (load ! (from ! (stop !)) (look ! 9 refl))) (from ! (stop !)) (init ! 3 refl (LL.lawful (T.the-type αᵉ) (T′.the-laws αᵉ) 𝓤 H A W .typed r _ r-is .0)) $
         use2 W (raw (Parse 𝓤 H A mem run .pre (to-parse r u₃ f u₁))) (goes-parse r u₃ f u₁ f-is) $
-        calls-at ! fm (Parse 𝓤 H A mem run) known-parse (to-parse r u₃ f u₁) (and-then ! (load ! (from ! (stop !)) (look ! 2 refl)) (and-then ! (load ! (from ! (stop !)) (look ! 12 refl)) (no-more !))) (λ u₄.
-        use1 W (later (some (λ (h : Head). ((‵ (flft κ q) ⊛ ‵ ftrue) ⊛ ‵ (S.the-row .own h (u₄ ∷ []))) ⊛ raw (ensured 𝓤 H A parse′.ended (parse′.clauses 𝓤 H A mem run) (κ, tt) (r, (f, tt)) tt h)))) (id⊢ 𝓤 _) $ await ! tt $ pick ! (λ h.
-        split ! $ move ! (1 ∷ []) $ use1 W (raw (fact 𝓤 (there-of h ≡ parsed f (now (r .input)) (r .position)))) (parse-said r f h) $ heard ! (there-of h ≡ parsed f (now (r .input)) (r .position)) (λ eh. split ! $ move ! (1 ∷ []) $
+        calls-at ! fm (Parse 𝓤 H A mem run) known-parse (to-parse r u₃ f u₁)
+        (and-then ! (load ! (from ! (stop !)) (look ! 2 refl)) (and-then ! (load ! (from ! (stop !)) (look ! 12 refl)) (no-more !))) (λ u₄.
+        use1 W (later (some (λ (h : Head). ((‵ (flft κ q) ⊛ ‵ ftrue) ⊛ ‵ (S.the-row .own h (u₄ ∷ []))) ⊛ raw
+        (ensured 𝓤 H A parse′.ended (parse′.clauses 𝓤 H A mem run) (κ, tt) (r, (f, tt)) tt h)))) (id⊢ 𝓤 _) $ await ! tt $ pick ! (λ h.
+        split ! $ move ! (1 ∷ []) $ use1 W (raw (fact 𝓤 (there-of h ≡ parsed f (now (r .input)) (r .position)))) (parse-said r f h) $
+        heard ! (there-of h ≡ parsed f (now (r .input)) (r .position)) (λ eh. split ! $ move ! (1 ∷ []) $
         -- [the result; the token; what the input owns; _9; …]
         peeks ! S.the-row (Is S.the-row) (shows 𝓤 H A S.the-row) h (u₄ ∷ []) (λ h-is.
         land ! (from ! (stop !)) (init ! 21 refl (EL.lawful S.the-type S′.the-laws 𝓤 H A W tt .typed h _ h-is .0)) $
-        returns ! (look ! 21 refl) $ forget ! 3 refl $ forget ! 5 refl $ forget ! 7 refl $ forget ! 9 refl $ forget ! 11 refl $ forget ! 13 refl $ forget ! 15 refl $ forget ! 17 refl $ forget ! 19 refl $ forget ! 21 refl $
-        move ! (21 ∷ 22 ∷ []) $ free1 ! $ move ! (19 ∷ 20 ∷ []) $ free1 ! $ move ! (17 ∷ 18 ∷ []) $ free1 ! $ move ! (15 ∷ 16 ∷ []) $ free1 ! $ move ! (13 ∷ 14 ∷ []) $ free1 ! $ move ! (11 ∷ 12 ∷ []) $ free1 ! $ move ! (9 ∷ 10 ∷ []) $ free1 ! $ move ! (7 ∷ 8 ∷ []) $ free1 ! $ move ! (5 ∷ 6 ∷ []) $ free1 ! $ move ! (3 ∷ 4 ∷ []) $ free1 ! $ free0 ! $
+        returns ! (look ! 21 refl) $ forget ! 3 refl $ forget ! 5 refl $ forget ! 7 refl $ forget ! 9 refl $ forget ! 11 refl $ forget ! 13 refl $ forget ! 15 refl $
+        forget ! 17 refl $ forget ! 19 refl $ forget ! 21 refl $
+        move ! (21 ∷ 22 ∷ []) $ free1 ! $ move ! (19 ∷ 20 ∷ []) $ free1 ! $ move ! (17 ∷ 18 ∷ []) $ free1 ! $ move ! (15 ∷ 16 ∷ []) $ free1 ! $ move ! (13 ∷ 14 ∷ []) $ free1 ! $
+        move ! (11 ∷ 12 ∷ []) $ free1 ! $ move ! (9 ∷ 10 ∷ []) $ free1 ! $ move ! (7 ∷ 8 ∷ []) $ free1 ! $ move ! (5 ∷ 6 ∷ []) $ free1 ! $ move ! (3 ∷ 4 ∷ []) $ free1 ! $ free0 ! $
         by ! (exits h u₄ (together f n r h ef en er eh))))))))))))))))))))))))))))
       where
         typed : Holds (hasTy (T′.mir erased) mach) × WT mach
@@ -249,17 +271,21 @@ module _ {M : Type 1} (𝓤 : URA M) (H : Heap 𝓤) (A : Atoms 𝓤) (W : Given
         long x = x .0 .1 .0
 
 module _ {M : Type 1} (𝓤 : URA M) (H : Heap 𝓤) (A : Atoms 𝓤) (W : Given 𝓤 H A) (mem : Memory → SProp 𝓤) (run : Routine → Fun 𝓤) where
-  head-at-walks : (C : Calls 𝓤 H) (Λ : Loops 𝓤 H) → FmC 𝓤 H (W .laws) C → Triple 𝓤 (C #read-cursor·read-byte) (ReadByte 𝓤 H A mem run) → Triple 𝓤 (C #read-cursor·prefix-of) (PrefixOf 𝓤 H A mem run) → Triple 𝓤 (C #read-cursor·advance) (Advance 𝓤 H A mem run) → Triple 𝓤 (C #read-cursor·parse) (Parse 𝓤 H A mem run)
+  head-at-walks : (C : Calls 𝓤 H) (Λ : Loops 𝓤 H) → FmC 𝓤 H (W .laws) C → Triple 𝓤 (C #read-cursor·read-byte) (ReadByte 𝓤 H A mem run)
+      → Triple 𝓤 (C #read-cursor·prefix-of) (PrefixOf 𝓤 H A mem run) → Triple 𝓤 (C #read-cursor·advance) (Advance 𝓤 H A mem run) → Triple 𝓤 (C #read-cursor·parse) (Parse 𝓤 H A mem run)
       → Walks 𝓤 H A head.ended stayed (WpFn 𝓤 H C Λ code.function) (head.clauses 𝓤 H A mem run)
   head-at-walks C Λ fm known-read known-prefix known-advance known-parse =
-      walked 𝓤 H A head.ended stayed (head.clauses 𝓤 H A mem run) (WpFn 𝓤 H C Λ code.function) (λ κs. (slice-vals, (uint-vals w64, tt))) (λ κs. (shr-slice-tells (named 0) (κs .0) u8, (uint-tells w64, tt)))
+      walked 𝓤 H A head.ended stayed (head.clauses 𝓤 H A mem run) (WpFn 𝓤 H C Λ code.function) (λ κs. (slice-vals, (uint-vals w64, tt)))
+      (λ κs. (shr-slice-tells (named 0) (κs .0) u8, (uint-tells w64, tt)))
       (λ κs qs bounds a g are. via 𝓤 _ (fst∗ 𝓤 _ (emp 𝓤)) (walk 𝓤 H A W mem run (κs .0) (qs .0) (a .0) (a .1 .0) (are .1 .0 .1) C Λ fm known-read known-prefix known-advance known-parse (are .0)))
 
 head-at-meets : {M : Type 1} (𝓤 : URA M) (H : Heap 𝓤) (A : Atoms 𝓤) (W : Given 𝓤 H A) (mem : Memory → SProp 𝓤) (run : Routine → Fun 𝓤) (𝓣 : Tables 𝓤 H)
-    → Triple 𝓤 (𝓣 .C #read-cursor·read-byte) (ReadByte 𝓤 H A mem run) → Triple 𝓤 (𝓣 .C #read-cursor·prefix-of) (PrefixOf 𝓤 H A mem run) → Triple 𝓤 (𝓣 .C #read-cursor·advance) (Advance 𝓤 H A mem run) → Triple 𝓤 (𝓣 .C #read-cursor·parse) (Parse 𝓤 H A mem run)
+    → Triple 𝓤 (𝓣 .C #read-cursor·read-byte) (ReadByte 𝓤 H A mem run) → Triple 𝓤 (𝓣 .C #read-cursor·prefix-of) (PrefixOf 𝓤 H A mem run)
+    → Triple 𝓤 (𝓣 .C #read-cursor·advance) (Advance 𝓤 H A mem run) → Triple 𝓤 (𝓣 .C #read-cursor·parse) (Parse 𝓤 H A mem run)
     → Meets 𝓤 H A head.signature (WpFn 𝓤 H (𝓣 .C) (𝓣 .Λ) code.function) (head.spec 𝓤 H A mem run)
 head-at-meets 𝓤 H A W mem run 𝓣 known-read known-prefix known-advance known-parse =
-    walk-meets 𝓤 H A head.ended stayed W (goes-none-slice 𝓤 H A W 1 (0 ∷ []) tt (plain (λ _. u8)) yes, (goes-none 𝓤 H A W 1 (λ _. usize) yes (λ κs x f. refl), tt)) (head.clauses 𝓤 H A mem run) (WpFn 𝓤 H (𝓣 .C) (𝓣 .Λ) code.function) (WpFn-mono 𝓤 H (W .laws) 𝓣 code.function)
+    walk-meets 𝓤 H A head.ended stayed W (goes-none-slice 𝓤 H A W 1 (0 ∷ []) tt (plain (λ _. u8)) yes, (goes-none 𝓤 H A W 1 (λ _. usize) yes (λ κs x f. refl), tt))
+    (head.clauses 𝓤 H A mem run) (WpFn 𝓤 H (𝓣 .C) (𝓣 .Λ) code.function) (WpFn-mono 𝓤 H (W .laws) 𝓣 code.function)
     (head-at-walks 𝓤 H A W mem run (𝓣 .C) (𝓣 .Λ) (fmOf 𝓤 H (W .laws) 𝓣) known-read known-prefix known-advance known-parse)
 
 pub head-at-spec : {M : Type 1} → stated.statement M

@@ -10,7 +10,7 @@ use lib.Seq.{drop-drop}
 use Rattle.atom.specs.Parse.{Parse, blob, refused, parse, moved-by, parse-at, blob-of}
 use Rattle.atom.specs.ParseLaws.{blob-there}
 use Rattle.allocator.specs.SmallAtom.{fits-in-small-atom}
-use Rattle.spec_reading.specs.Format.{ParseOp, SExp, stop, settle, atom-item}
+use Rattle.spec_reading.specs.Format.{ParseOp, SExp, settle, atom-item}
 use Rattle.spec_reading.specs.Store.{Store, Stored, small-or-listed, new-atom, push-made, store-values}
 use Rattle.spec_reading.specs.Sound.{Sound, unlisted, sound-atom}
 use Rattle.spec_reading.specs.Blobs.{Within, blob-within, length-blob}
@@ -139,25 +139,25 @@ module _ (input w p a b : List ℕ) (r : Reader) (h : Stands input w p a b r) (s
         (subst (Sound (r .position + f .size) (ops-of w (r .ops))) (pushed-is w p a b r atom-bytes end w′ a′ b′ r′ k)
         (sound-atom (r .position) (f .size) (ops-of w (r .ops)) atom-bytes (stored-of w p a b r) (f .within .some-byte) short-blob (omega (arith, inside-end, f .end-is, h .lent .short)) (h .sound))))
 
-    pub ready-pushed : Ready w′ p r′
-    ready-pushed =
-        record {
-          atoms = take (2 * r′ .atoms) a′;
-          bytes = take (r′ .bytes) b′;
-          work = lent-pushed .work;
-          room = lent-pushed .pairs-room;
-          limit = omega (arith, lent-pushed .inside, h .lent .short);
-          pairs-in = lent-pushed .pairs-in;
-          sound = sound-pushed;
-          lists =
-              record {
-                all = ap (λ (n : ℕ). unlisted (values-of w′ n)) (k .listed) ∙ ap unlisted (k .pushed .below (r .listed) (h .lists .few)) ∙ h .lists .all;
-                few = omega (arith, k .listed, k .values, h .lists .few);
-              };
-        }
-
-    pub inside-pushed : r′ .position ≤ length input
-    inside-pushed = lent-pushed .inside
+    -- What settling asks.
+    pub ready-pushed : Ready w′ p r′ × (r′ .position ≤ length input)
+    ready-pushed = (
+      record {
+        atoms = take (2 * r′ .atoms) a′;
+        bytes = take (r′ .bytes) b′;
+        work = lent-pushed .work;
+        room = lent-pushed .pairs-room;
+        limit = omega (arith, lent-pushed .inside, h .lent .short);
+        pairs-in = lent-pushed .pairs-in;
+        sound = sound-pushed;
+        lists =
+            record {
+              all = ap (λ (n : ℕ). unlisted (values-of w′ n)) (k .listed) ∙ ap unlisted (k .pushed .below (r .listed) (h .lists .few)) ∙ h .lists .all;
+              few = omega (arith, k .listed, k .values, h .lists .few);
+            };
+      },
+      lent-pushed .inside,
+    )
 
     pub atom-stepped : (w″ p″ : List ℕ) (i : Item) → length w″ ≡ length w′ → length p″ ≡ length p → Next input w′ p r′ w″ p″ i → SteppedAtom input w p a b r w″ p″ a′ b′ i
     atom-stepped w″ p″ i lw′ lp n =

@@ -42,7 +42,8 @@ unfolding list-of
 list-atoms [] s = (refl, refl)
 list-atoms (v ∷ vs) s = one (v .list) (list-of vs s) (list-atoms vs s)
   where
-    one : (o : Option ℕ) (l : Listed) → (l .store .atoms ≡ s .atoms) × (l .store .bytes ≡ s .bytes) → (add-to-list o (v .node) l .store .atoms ≡ s .atoms) × (add-to-list o (v .node) l .store .bytes ≡ s .bytes)
+    one : (o : Option ℕ) (l : Listed) → (l .store .atoms ≡ s .atoms) × (l .store .bytes ≡ s .bytes)
+        → (add-to-list o (v .node) l .store .atoms ≡ s .atoms) × (add-to-list o (v .node) l .store .bytes ≡ s .bytes)
     one none l h = h
     one (some q) l h = h
 
@@ -143,16 +144,20 @@ module _ (input w p : List ℕ) (r : Reader) (h : BeforePath input w p r) where
     there-is : (a b : List ℕ) → path-there input w p a b r ≡ pushed store-values (store-values .push-path bits (stored-with w p a b r)) (drop end input) (ops-of w (r .ops))
     there-is a b =
         ap (λ (y : Parse). path-item store-values y (drop (r .position + 1) input) (ops-of w (r .ops)) (stored-with w p a b r)) (at-path .parsed)
-        ∙ ap (λ (l : List ℕ). pushed store-values (store-values .push-path (read-path l) (stored-with w p a b r)) (drop (at-path .size) (drop (r .position + 1) input)) (ops-of w (r .ops))) (sym bytes-there)
-        ∙ ap (λ (l : List ℕ). pushed store-values (store-values .push-path bits (stored-with w p a b r)) l (ops-of w (r .ops))) (drop-drop (at-path .size) (r .position + 1) input ∙ ap (λ (n : ℕ). drop n input) (sym (at-path .end-is)))
+        ∙ ap (λ (l : List ℕ). pushed store-values (store-values .push-path (read-path l) (stored-with w p a b r)) (drop (at-path .size) (drop (r .position + 1) input))
+        (ops-of w (r .ops))) (sym bytes-there)
+        ∙ ap (λ (l : List ℕ). pushed store-values (store-values .push-path bits (stored-with w p a b r)) l (ops-of w (r .ops)))
+        (drop-drop (at-path .size) (r .position + 1) input ∙ ap (λ (n : ℕ). drop n input) (sym (at-path .end-is)))
 
     abbrev led-with : (a b : List ℕ) → Led
     led-with a b = leads.led bits (values-of w (r .values)) (stored-with w p a b r .store)
 
-    no-node-there : ((s : Store) → s .pairs ≡ take (2 * r .pairs) p → s .ghosts ≡ r .ghosts → leads.led bits (values-of w (r .values)) s .node ≡ none) → (a b : List ℕ) → path-there input w p a b r ≡ stop 16
+    no-node-there : ((s : Store) → s .pairs ≡ take (2 * r .pairs) p → s .ghosts ≡ r .ghosts → leads.led bits (values-of w (r .values)) s .node ≡ none) → (a b : List ℕ)
+        → path-there input w p a b r ≡ stop 16
     no-node-there no-node a b =
         there-is a b
-        ∙ ap (λ (o : Option Stored). pushed store-values o (drop end input) (ops-of w (r .ops))) (push-path-is bits (stored-with w p a b r) ∙ ap (λ (o : Option ℕ). push-led o (led-with a b .stored)) (no-node (stored-with w p a b r .store) refl refl))
+        ∙ ap (λ (o : Option Stored). pushed store-values o (drop end input) (ops-of w (r .ops)))
+        (push-path-is bits (stored-with w p a b r) ∙ ap (λ (o : Option ℕ). push-led o (led-with a b .stored)) (no-node (stored-with w p a b r .store) refl refl))
 
     module _ (w₁ p₁ : List ℕ) (b₁ : Built) (lw : length w₁ ≡ length w) (lp : length p₁ ≡ length p)
         (l : (s : Store) → s .pairs ≡ take (2 * r .pairs) p → s .ghosts ≡ r .ghosts → leads.Leads w p (r .values) (r .pairs) (leads.led bits (values-of w (r .values)) s) w₁ p₁ b₁)

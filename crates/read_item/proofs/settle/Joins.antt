@@ -56,7 +56,8 @@ module _ (w p : List ℕ) (r : Reader) (h : Ready w p r) (ops : List ParseOp) (t
   join-room = room w p (h .atoms) (h .bytes) r (Cons ∷ ops) (h .limit) (h .pairs-in) (omega (arith, length-ops w (r .ops), ap length top)) sound
 
 -- A join in the slices is the definition's.
-module _ (w p : List ℕ) (r : Reader) (w′ p′ : List ℕ) (h : Ready w p r) (ops-left : 0 < r .ops) (top : ops-of w (r .ops) ≡ Cons ∷ ops-of w (r .ops - 1)) (j : Joined w p (r .values) (r .pairs) w′ p′) (listed : ℕ) (known : listed ≤ r .listed) (below : listed ≤ r .values - 2) where
+module _ (w p : List ℕ) (r : Reader) (w′ p′ : List ℕ) (h : Ready w p r) (ops-left : 0 < r .ops) (top : ops-of w (r .ops) ≡ Cons ∷ ops-of w (r .ops - 1))
+    (j : Joined w p (r .values) (r .pairs) w′ p′) (listed : ℕ) (known : listed ≤ r .listed) (below : listed ≤ r .values - 2) where
   abbrev pub joined-reader : Reader
   joined-reader = record { position = r .position; ops = r .ops - 1; values = r .values - 1; listed = listed; pairs = r .pairs + 1; atoms = r .atoms; bytes = r .bytes; ghosts = r .ghosts + 1 }
 
@@ -110,7 +111,8 @@ module _ (w p : List ℕ) (r : Reader) (w′ p′ : List ℕ) (h : Ready w p r) 
               atoms = refl;
               bytes = refl;
             };
-        kept = λ a b s. rw ops-are (subst (Sound (r .position) (ops-of w (r .ops - 1))) (join-is a b) (sound-join (r .position) (ops-of w (r .ops - 1)) (stored-with w p a b r) (h .limit) (rw top at s)));
+        kept = λ a b s. rw ops-are
+            (subst (Sound (r .position) (ops-of w (r .ops - 1))) (join-is a b) (sound-join (r .position) (ops-of w (r .ops - 1)) (stored-with w p a b r) (h .limit) (rw top at s)));
         same = λ rest a b. rw (top, ops-are) (ap (λ (s : Stored). settle store-values rest (ops-of w (r .ops - 1)) s) (join-is a b));
         lists = record { all = ap unlisted values-below ∙ fewer-listed w listed (r .listed) known (h .lists .all); few = omega (arith, two) };
       }

@@ -60,7 +60,12 @@ module _ (input w p : List ℕ) (r : Reader) (w′ p′ : List ℕ) (s : Reader)
         same = λ a b.
             h .onward .same rest a b ∙ ap (λ (ops : List ParseOp). settle store-values rest ops (stored-with w′ p′ a b s)) (next-op w′ (s .ops) more (h .no-join))
             ∙ ap (λ (n : ℕ). go (record { rest = drop n input; ops = ops-of w′ (s .ops - 1); values = stored-with w′ p′ a b s })) (sym same-place);
-        follows = (follows-next, λ a b q. subst (λ (ops : List ParseOp). Sound (r .position) ops (stored-with w′ p′ a b s)) (next-op w′ (s .ops) more (h .no-join)) (h .onward .kept a b q), h .onward .lists);
+        follows = (
+          follows-next,
+          λ a b q. subst (λ (ops : List ParseOp). Sound (r .position) ops (stored-with w′ p′ a b s)) (next-op w′ (s .ops) more (h .no-join))
+              (h .onward .kept a b q),
+          h .onward .lists,
+        );
       }
     where
       f : Follows p r p′ s

@@ -147,7 +147,8 @@ pub reachable-next : (p : List ℕ) (used g : ℕ) → Reachable p used g → is
 reachable-next p used g r a b n e =
     record {
       room = r .room;
-      here = subst (λ (m : ℕ). Within used (node-of m)) (sym e) (r .there (2 * index-of (node-of g) + pick-word b) (side-low b (index-of (node-of g)) used (pair-within used (node-of g) a (r .here))));
+      here = subst (λ (m : ℕ). Within used (node-of m)) (sym e)
+          (r .there (2 * index-of (node-of g) + pick-word b) (side-low b (index-of (node-of g)) used (pair-within used (node-of g) a (r .here))));
       there = r .there;
     }
 

@@ -185,7 +185,8 @@ unfolding values-of list-of
 no-list w n e s = ap (λ (k : ℕ). list-of (values-of w k) s .node) (sym e)
 
 -- The lowest i of the values that have their lists.
-pub lists-start : (w p : List ℕ) (i listed used ghosts : ℕ) (b : Built) → i ≤ listed → unlisted (values-of w listed) ≡ 0 → ((s : Store) → b .node .0 ≡ list-of (values-of w i) s .node) → b .pairs ≡ used → b .ghosts ≡ ghosts → b .listed ≡ listed
+pub lists-start : (w p : List ℕ) (i listed used ghosts : ℕ) (b : Built) → i ≤ listed → unlisted (values-of w listed) ≡ 0
+    → ((s : Store) → b .node .0 ≡ list-of (values-of w i) s .node) → b .pairs ≡ used → b .ghosts ≡ ghosts → b .listed ≡ listed
     → Lists w p i listed used ghosts w p b
 lists-start w p i listed used ghosts b h a n u g m =
     record {

@@ -24,10 +24,8 @@ settle-requires : tie.Need-settle-requires
 settle-requires c κs =
     let pushed = c .before .before .before .before .before .before .before .before in
     let told = pushed .before .before .before .before in
-    let q = pushed .push-atom in (
-      atoms.ready-pushed _ _ _ _ _ _ (start told .pre .0) _ _ (found told) _ _ _ _ (q .ensures) (q .kept .1 .0) (q .kept .1 .1 .0) (q .kept .1 .1 .1 .0),
-      atoms.inside-pushed _ _ _ _ _ _ (start told .pre .0) _ _ (found told) _ _ _ _ (q .ensures) (q .kept .1 .0) (q .kept .1 .1 .0) (q .kept .1 .1 .1 .0),
-    )
+    let q = pushed .push-atom in
+    atoms.ready-pushed _ _ _ _ _ _ (start told .pre .0) _ _ (found told) _ _ _ _ (q .ensures) (q .kept .1 .0) (q .kept .1 .1 .0) (q .kept .1 .1 .1 .0)
 
 enum-told : tie.Need-enum-told
 enum-told c = search needs
