@@ -109,22 +109,22 @@ pub copying-more : (w₀ w y : List ℕ) (e m first count n n′ i : ℕ) → Li
     → Copying w₀ y e m first count n′ (i + 1)
 copying-more w₀ w y e m first count n n′ i links ok h k l len r =
     let b : count-at w₀ e ≤ 100 = links .counts e h in
-    let q : ℕ × Bool = parent-of (at w₀ (PARENTS + e * 100 + i)) in
+    let q : List (ℕ × Bool) = parent-of (at w₀ (PARENTS + e * 100 + i)) ∷ [] in
     let S : List ℕ = seen-of w₀ m in
     let B : List Bool = node-bits w₀ m in
-    let t : trails-of y n′ ≡ trails-of w n ++ upward S B (parent-of (at w₀ (PARENTS + e * 100 + i)) ∷ []) =
+    let t : trails-of y n′ ≡ trails-of w n ++ upward S B q =
     r .trails ∙ ap (λ (x : List ℕ). trails-of w n ++ upward x (node-bits w m) (parent-of (at w (PARENTS + e * 100 + i)) ∷ [])) (low-seen w₀ w m ok (k .low))
     ∙ ap (λ (x : List Bool). trails-of w n ++ upward S x (parent-of (at w (PARENTS + e * 100 + i)) ∷ [])) (low-bits w₀ w m ok (k .low) m (omega arith))
     ∙ ap (λ (z : ℕ). trails-of w n ++ upward S B (parent-of z ∷ [])) (k .low (PARENTS + e * 100 + i) (omega arith)) in
     let more : n′ ≤ n + 1 =
-    omega (arith, length-trails y n′, ap length t, length-append (trails-of w n) (upward S B (parent-of (at w₀ (PARENTS + e * 100 + i)) ∷ [])), length-trails w n, length-upward S B (parent-of (at w₀ (PARENTS + e * 100 + i)) ∷ [])) in
+    omega (arith, length-trails y n′, ap length t, length-append (trails-of w n) (upward S B q), length-trails w n, length-upward S B q) in
     record {
       within = omega arith;
       len = len ∙ k .len;
       room = omega (arith, k .room);
       paths = r .paths;
       ahead = ap (λ (x : List Trail). x ++ upward S B (drop (i + 1) (parents-of w₀ e))) t
-          ∙ append-assoc (trails-of w n) (upward S B (parent-of (at w₀ (PARENTS + e * 100 + i)) ∷ [])) (upward S B (drop (i + 1) (parents-of w₀ e)))
+          ∙ append-assoc (trails-of w n) (upward S B q) (upward S B (drop (i + 1) (parents-of w₀ e)))
           ∙ ap (λ (x : List Trail). trails-of w n ++ x) (upward-one S B (parent-of (at w₀ (PARENTS + e * 100 + i))) (drop (i + 1) (parents-of w₀ e)))
           ∙ ap (λ (x : List (ℕ × Bool)). trails-of w n ++ upward S B x) (sym (links-cons w₀ e links h i l))
           ∙ k .ahead;

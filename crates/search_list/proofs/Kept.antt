@@ -112,7 +112,16 @@ module _ {w x : List ℕ} {c n m e k d v : ℕ} (u : Up w x c n m e k d v) where
 
     pub up-count : n₂ ≤ n + (count-at w e - (k + 1))
     up-count =
-        omega (arith, ap length second, length-trails y n₂, length-append (set (trails-of w n) c (trail 0 (node-bits w m) v)) up, length-set (trails-of w n) c (trail 0 (node-bits w m) v), length-trails w n, length-drop-links)
+        let p : Trail = trail 0 (node-bits w m) v in
+        omega (
+          arith,
+          ap length second,
+          length-trails y n₂,
+          length-append (set (trails-of w n) c p) up,
+          length-set (trails-of w n) c p,
+          length-trails w n,
+          length-drop-links,
+        )
 
     pub up-asks-2 : (Links y × Tops y d × Nodes y m × PathsOK y m n₂) × (e < ENTRIES × n₂ < MOST-PATHS)
     up-asks-2 =

@@ -14,7 +14,7 @@ use Rattle.spec_search.specs.Lists.{size}
 use Rattle.spec_search.specs.Flat.{swap-remove, init, last}
 use Rattle.words.specs.Words.{at}
 use Rattle.search_list.specs.Cursor.{goes, Mid, ahead}
-use Rattle.search_list.proofs.CursorLaws.{over, over-mid, over-less, is-result, is-capped, stays-goes, stays-mid, stays-less, dropped-goes, dropped-mid, dropped-less}
+use Rattle.search_list.proofs.CursorLaws.{Facing, over, over-mid, over-less, is-result, is-capped, stays-goes, stays-mid, stays-less, dropped-goes, dropped-mid, dropped-less}
 use Rattle.search_list.specs.declared.Turned.the-variants.{On, Result, Capped}
 use Rattle.work_layout.specs.Layout.{PARENTS, COUNTS, PATHS, DEPTH, ENTRIES}
 use Rattle.work_layout.specs.Rows.{parents-of, stack-of, Tops}
@@ -30,12 +30,15 @@ use Rattle.search_list.proofs.Kept.{length-sideward, stack-same, low-to
 
 -- ---- the meaning of what is left
 
-goes-same : (P P′ : Parents) (S S′ : List ℕ) (L : ℕ) (l l′ : List Trail) (c : ℕ) (s s′ : List ℕ) → P′ ≡ P → S′ ≡ S → l′ ≡ l → s′ ≡ s
+goes-same : {P P′ : Parents} {S S′ : List ℕ} {l l′ : List Trail} {s s′ : List ℕ} (L c : ℕ) → P′ ≡ P → S′ ≡ S → l′ ≡ l → s′ ≡ s
     → goes P S L l c s ≡ goes P′ S′ L l′ c s′
-goes-same P P′ S S′ L l l′ c s s′ a b e f = rw (a, b, e, f)
+goes-same L c a b e f = rw (a, b, e, f)
 
 pub kept-none : (w : List ℕ) → Kept w w
 kept-none w = record { low = λ k l. refl; high = λ k l. refl }
+
+pub few : {w : List ℕ} {d n m : ℕ} → Working w d n m → n ≤ 3073
+few ok = omega (arith, ok .room, ok .nodes .few)
 
 -- Path c of a list that is sound.
 pub record Here (w : List ℕ) (d c n m : ℕ) : Type 0 where
@@ -43,24 +46,13 @@ pub record Here (w : List ℕ) (d c n m : ℕ) : Type 0 where
   pub slot : c < n
 
 module _ {w : List ℕ} {d c n m : ℕ} (here : Here w d c n m) where
-  pub few : n ≤ 3073
-  few = omega (arith, here .ok .room, here .ok .nodes .few)
-
-  in-list : c < length (trails-of w n)
-  in-list = rw length-trails (here .slot)
-
-  listed : getD (trails-of w n) c (trail-of w c) ≡ trail-of w c
-  listed = at-trails w n c (trail-of w c) (here .slot)
+  facing : {L : ℕ} → Mid L (trails-of w n) c → Facing L (trails-of w n) c (trail-of w c)
+  facing mid = record { inside = rw length-trails (here .slot); is = at-trails w n c (trail-of w c) (here .slot); mid = mid }
 
   pub turned-over : (L : ℕ) → Mid L (trails-of w n) c → L < size (trail-of w c) → Turns w w d L c n m (On (c + 1) (search-of n m d))
   turned-over L mid l = record {
-    same = over (parents-of-all w) (stack-of w d) L (trails-of w n) c (seen-of w m) (trail-of w c) in-list listed mid l;
-    fine = (
-      here .ok,
-      over-mid (parents-of-all w) (stack-of w d) L (trails-of w n) c (seen-of w m) (trail-of w c) in-list listed mid l,
-      over-less (parents-of-all w) (stack-of w d) L (trails-of w n) c (seen-of w m) (trail-of w c) in-list listed mid l,
-      refl,
-    );
+    same = over (facing mid) (parents-of-all w) (stack-of w d) (seen-of w m) l;
+    fine = (here .ok, over-mid (facing mid) l, over-less (facing mid) l, refl);
     kept = kept-none w;
   }
 
@@ -70,7 +62,7 @@ module _ {w : List ℕ} {d c n m : ℕ} (here : Here w d c n m) where
       let f : m ≤ most-visits = here .ok .nodes .few in
       let q : node-at w c ≤ m = p .node in
       record {
-        slot = omega (arith, few);
+        slot = omega (arith, few (here .ok), here .slot);
         chain = record { few = omega arith; prev = λ k l. here .ok .nodes .prev k (omega arith) };
         len = here .ok .nodes .lens (node-at w c) q;
         short = omega (arith, here .ok .nodes .short (node-at w c) q);
@@ -83,62 +75,53 @@ module _ {w : List ℕ} {d c n m : ℕ} (here : Here w d c n m) where
 
   pub turned-result : step (parents-of-all w) (stack-of w d) (seen-of w m) (trail-of w c) ≡ result (trail-bits (trail-of w c)) → Steps w w d c n m (Result c)
   turned-result s L mid l = record {
-    same = is-result (parents-of-all w) (stack-of w d) L (trails-of w n) c (seen-of w m) (trail-of w c) in-list listed mid (trail-bits (trail-of w c)) l s;
+    same = is-result (facing mid) (parents-of-all w) (stack-of w d) (seen-of w m) l s;
     fine = readable;
     kept = kept-none w;
   }
 
   pub turned-capped : step (parents-of-all w) (stack-of w d) (seen-of w m) (trail-of w c) ≡ capped → Steps w w d c n m Capped
   turned-capped s L mid l = record {
-    same = is-capped (parents-of-all w) (stack-of w d) L (trails-of w n) c (seen-of w m) (trail-of w c) in-list listed mid l s;
+    same = is-capped (facing mid) (parents-of-all w) (stack-of w d) (seen-of w m) l s;
     fine = tt;
     kept = kept-none w;
   }
 
   module _ {y : List ℕ} {n′ m′ : ℕ} (ok′ : Working y d n′ m′) (kept : Kept w y) (len : length y ≡ length w) where
-    few′ : n′ ≤ 3073
-    few′ = omega (arith, ok′ .room, ok′ .nodes .few)
-
     same-parents : parents-of-all y ≡ parents-of-all w
     same-parents = low-parents w y (here .ok .links) (λ k l. kept .low k l) len
 
     same-stack : stack-of y d ≡ stack-of w d
     same-stack = stack-same w y d (kept .low) (here .ok .tops .deep)
 
-    pub turned-stays : (q : Trail) (added : List Trail) (seen′ : List ℕ)
+    pub turned-stays : {q : Trail} {added : List Trail} {seen′ : List ℕ}
         → step (parents-of-all w) (stack-of w d) (seen-of w m) (trail-of w c) ≡ stays q added seen′
         → trails-of y n′ ≡ set (trails-of w n) c q ++ added → seen-of y m′ ≡ seen′ → Steps w y d c n m (On (c + 1) (search-of n′ m′ d))
-    turned-stays q added seen′ s t e L mid l =
-        let b : length (set (trails-of w n) c q ++ added) < 4096 = omega (arith, few′, length-trails y n′, ap length t) in
+    turned-stays {q} {added} s t e L mid l =
+        let b : length (set (trails-of w n) c q ++ added) < 4096 = omega (arith, few ok′, length-trails y n′, ap length t) in
         record {
-          same = stays-goes (parents-of-all w) (stack-of w d) L (trails-of w n) c (seen-of w m) (trail-of w c) in-list listed mid l q added seen′ s
-              ∙ goes-same (parents-of-all w) (parents-of-all y) (stack-of w d) (stack-of y d) L (set (trails-of w n) c q ++ added) (trails-of y n′) (c + 1)
-              seen′ (seen-of y m′) same-parents same-stack t e;
+          same = stays-goes (facing mid) (parents-of-all w) (stack-of w d) (seen-of w m) l s ∙ goes-same L (c + 1) same-parents same-stack t e;
           fine = (
             ok′,
-            subst (λ (x : List Trail). Mid L x (c + 1)) (sym t)
-                (stays-mid (parents-of-all w) (stack-of w d) L (trails-of w n) c (seen-of w m) (trail-of w c) in-list listed mid l q added seen′ s),
+            subst (λ (x : List Trail). Mid L x (c + 1)) (sym t) (stays-mid (facing mid) (parents-of-all w) (stack-of w d) (seen-of w m) l s),
             subst (λ (x : List Trail). ahead L x (c + 1) < ahead L (trails-of w n) c) (sym t)
-                (stays-less (parents-of-all w) (stack-of w d) L (trails-of w n) c (seen-of w m) (trail-of w c) in-list listed mid l q added seen′ s b),
+                (stays-less (facing mid) (parents-of-all w) (stack-of w d) (seen-of w m) l s b),
             refl,
           );
           kept = kept;
         }
 
-    pub turned-dropped : (added : List Trail) (seen′ : List ℕ) → step (parents-of-all w) (stack-of w d) (seen-of w m) (trail-of w c) ≡ dropped added seen′
+    pub turned-dropped : {added : List Trail} {seen′ : List ℕ} → step (parents-of-all w) (stack-of w d) (seen-of w m) (trail-of w c) ≡ dropped added seen′
         → trails-of y n′ ≡ swap-remove (trails-of w n ++ added) c (trail-of w c) → seen-of y m′ ≡ seen′ → Steps w y d c n m (On c (search-of n′ m′ d))
-    turned-dropped added seen′ s t e L mid l =
-        let b : length (swap-remove (trails-of w n ++ added) c (trail-of w c)) < 4096 = omega (arith, few′, length-trails y n′, ap length t) in
+    turned-dropped {added} s t e L mid l =
+        let b : length (swap-remove (trails-of w n ++ added) c (trail-of w c)) < 4096 = omega (arith, few ok′, length-trails y n′, ap length t) in
         record {
-          same = dropped-goes (parents-of-all w) (stack-of w d) L (trails-of w n) c (seen-of w m) (trail-of w c) in-list listed mid l added seen′ s
-              ∙ goes-same (parents-of-all w) (parents-of-all y) (stack-of w d) (stack-of y d) L (swap-remove (trails-of w n ++ added) c (trail-of w c))
-              (trails-of y n′) c seen′ (seen-of y m′) same-parents same-stack t e;
+          same = dropped-goes (facing mid) (parents-of-all w) (stack-of w d) (seen-of w m) l s ∙ goes-same L c same-parents same-stack t e;
           fine = (
             ok′,
-            subst (λ (x : List Trail). Mid L x c) (sym t)
-                (dropped-mid (parents-of-all w) (stack-of w d) L (trails-of w n) c (seen-of w m) (trail-of w c) in-list listed mid l added seen′ s),
+            subst (λ (x : List Trail). Mid L x c) (sym t) (dropped-mid (facing mid) (parents-of-all w) (stack-of w d) (seen-of w m) l s),
             subst (λ (x : List Trail). ahead L x c < ahead L (trails-of w n) c) (sym t)
-                (dropped-less (parents-of-all w) (stack-of w d) L (trails-of w n) c (seen-of w m) (trail-of w c) in-list listed mid l added seen′ s b),
+                (dropped-less (facing mid) (parents-of-all w) (stack-of w d) (seen-of w m) l s b),
             refl,
           );
           kept = kept;
@@ -192,9 +175,8 @@ module _ {w : List ℕ} {d c n m : ℕ} (here : Here w d c n m) (hx : 0 < extra-
       let p : extra-at w c + place-at w c ≤ DEPTH = q .stack hx in
       let r : Relisted w y m n (set (trails-of w n) c (trail (extra-at w c + 1) (node-bits w (node-at w c)) (place-at w c - 1))) =
       store-at w y m c (node-at w c) (place-at w c - 1) (extra-at w c + 1) (here .ok .nodes) s (q .node) (λ e. absurd (omega arith)) (λ e. omega arith) n (here .slot)
-      (omega (arith, few here)) (here .ok .paths) in
+      (omega (arith, few (here .ok))) (here .ok .paths) in
       turned-stays here (relisted-sound (here .ok) r len (here .ok .room)) (relisted-kept (here .ok) r len) len
-      (trail (extra-at w c + 1) (node-bits w (node-at w c)) (place-at w c - 1)) [] (seen-of w m)
       (one-nearer (parents-of-all w) (stack-of w d) (seen-of w m) (node-bits w (node-at w c)) (extra-at w c) (place-at w c) hx z)
       (r .trails ∙ sym (append-nil _)) (relisted-seen (here .ok) r len)
 
@@ -254,7 +236,7 @@ module _ {w : List ℕ} {d c n m e : ℕ} (a : At-entry w d c n m e) where
       let h = a .here .slot in
       let k : n - 1 + 1 ≡ n = omega arith in
       turned-dropped (a .here) (relisted-sound ok r len (omega (arith, ok .room))) (relisted-kept ok r len) len
-      [] (seen-of w m) (step-at ∙ cond-true _ _ _ (sym is-member ∙ sym t))
+      (step-at ∙ cond-true _ _ _ (sym is-member ∙ sym t))
       (r .trails ∙ ap (λ (j : ℕ). swap-remove (trails-of w j) c (trail-of w c)) k
       ∙ ap (λ (x : List Trail). swap-remove x c (trail-of w c)) (sym (append-nil (trails-of w n))))
       (relisted-seen ok r len)
@@ -301,7 +283,7 @@ module _ {w x : List ℕ} {d c n m e : ℕ} (u : Visiting w x d c n m e) where
 
   paths-x : PathsOK x (m + 1) n
   paths-x i l =
-      let f = few here in
+      let f = few (here .ok) in
       let p : PathOK w m i = here .ok .paths i l in
       let a : node-at x i ≡ node-at w i = v .high (PATHS + 3 * i) (omega arith) in
       let b : place-at x i ≡ place-at w i = v .high (PATHS + 3 * i + 1) (omega arith) in
@@ -340,7 +322,7 @@ module _ {w x : List ℕ} {d c n m e : ℕ} (u : Visiting w x d c n m e) where
       ((visit-links, tops-x, v .nodes, paths-x), (here .slot, visit-low, h, omega (arith, spare, count-x)))
 
   pub visit-asks-2 : (Links x × Tops x d × Nodes x (m + 1) × PathsOK x (m + 1) n) × (c < n × e < ENTRIES × n < MOST-PATHS)
-  visit-asks-2 = ((visit-links, tops-x, v .nodes, paths-x), (here .slot, visit-low, omega (arith, few here)))
+  visit-asks-2 = ((visit-links, tops-x, v .nodes, paths-x), (here .slot, visit-low, omega (arith, few (here .ok))))
 
   module _ {k : ℕ} (f : FirstUnseen x e k) where
     link-low : (j : ℕ) → j < count-at x e → at x (PARENTS + e * 100 + j) / 2 < ENTRIES
@@ -397,7 +379,7 @@ module _ {w x : List ℕ} {d c n m e : ℕ} (u : Visiting w x d c n m e) where
             length-trails x n,
             length-sideward B′ (distance e (stack-of x d)),
           ) in
-          turned-stays here (sound-y r b) (kept-y r) (ly ∙ u .len) q (up ++ side) (seen-of x (m + 1)) s
+          turned-stays here (sound-y r b) (kept-y r) (ly ∙ u .len) s
           (r .trails ∙ ap (λ (l : List Trail). set l c q ++ (up ++ side)) trails-x)
           (low-seen x y (m + 1) (v .nodes) (r .low))
 
@@ -423,4 +405,4 @@ module _ {w x : List ℕ} {d c n m e : ℕ} (u : Visiting w x d c n m e) where
             swapped-length (trails-of w n ++ side) c (trail-of w c),
             length-append (trails-of w n) side,
           ) in
-          turned-dropped here (sound-y r b) (kept-y r) (ly ∙ u .len) side (seen-of x (m + 1)) s t (low-seen x y (m + 1) (v .nodes) (r .low))
+          turned-dropped here (sound-y r b) (kept-y r) (ly ∙ u .len) s t (low-seen x y (m + 1) (v .nodes) (r .low))

@@ -14,7 +14,7 @@ here : (s : tie.Start) → Here (s .args .work .now) (s .args .s .depth) (s .arg
 here s = record { ok = s .pre .0; slot = s .pre .1 }
 
 low : (s : tie.Start) → s .args .slot < MOST-PATHS
-low s = omega (arith, few (here s), s .pre .1)
+low s = omega (arith, few (s .pre .0), s .pre .1)
 
 place-of-requires : tie.Need-place-of-requires
 place-of-requires c κs = let s = c .before .before in (s .pre .0 .links .long, low s)

@@ -24,7 +24,7 @@ size-of-requires : tie.Need-size-of-requires
 size-of-requires c κs =
     let s = c .before .before in
     let p = s .pre .0 in
-    (p .links .long, omega (arith, few (here s), s .pre .2), omega (arith, p .paths (s .args .slot) (s .pre .2) .node, p .nodes .few))
+    (p .links .long, omega (arith, few (s .pre .0), s .pre .2), omega (arith, p .paths (s .args .slot) (s .pre .2) .node, p .nodes .few))
 
 add-t9 : tie.Need-add-t9
 add-t9 c = search needs

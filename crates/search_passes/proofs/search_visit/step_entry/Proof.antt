@@ -43,7 +43,7 @@ drop-path-requires c κs =
     let a = s .args in
     let e : a .s .paths - 1 + 1 ≡ a .s .paths = omega (arith, s .pre .1) in
     let p = subst (λ (k : ℕ). PathsOK (a .work .now) (a .s .nodes) k) (sym e) (s .pre .0 .paths) in
-    (s .pre .0 .links .long, s .pre .0 .nodes, p, omega (arith, s .pre .1), omega (arith, few (there x .here)))
+    (s .pre .0 .links .long, s .pre .0 .nodes, p, omega (arith, s .pre .1), omega (arith, few (s .pre .0)))
 
 same-length : tie.Need-same-length
 same-length c = search needs

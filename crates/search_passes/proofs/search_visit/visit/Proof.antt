@@ -40,7 +40,7 @@ add-node-requires : tie.Need-add-node-requires
 add-node-requires c κs =
     let s = c .before .before .before .before .before in
     let p = s .pre .0 .paths (s .args .slot) (s .pre .1) in
-    ((s .pre .0 .links .long, s .pre .0 .nodes, s .pre .4, omega (arith, few (here s), s .pre .1)), (p .node, p .entry (s .pre .2)))
+    ((s .pre .0 .links .long, s .pre .0 .nodes, s .pre .4, omega (arith, few (s .pre .0), s .pre .1)), (p .node, p .entry (s .pre .2)))
 
 add-next : tie.Need-add-next
 add-next c = search needs
@@ -66,7 +66,8 @@ returns : tie.Need-returns
 returns c =
     let g = c .before .before .go-up in
     let f = c .before .before .before .before .before .before .before in
-    visit-up (visiting (f .before .before .before .before .before)) (f .first-unseen .ensures) (g .kept .0) (rw (c .before .before .before .before .before .count-of .ensures) at (c .before .before .before .before .if1 .taken)) (g .ensures)
+    visit-up (visiting (f .before .before .before .before .before)) (f .first-unseen .ensures) (g .kept .0)
+    (rw (c .before .before .before .before .before .count-of .ensures) at (c .before .before .before .before .if1 .taken)) (g .ensures)
 
 go-off-requires : tie.Need-go-off-requires
 go-off-requires c κs = visit-asks-2 (visiting (c .before .before .before .before .before .before .before .before .before))
@@ -80,7 +81,8 @@ returns-2 : tie.Need-returns-2
 returns-2 c =
     let g = c .before .before .go-off in
     let f = c .before .before .before .before .before .before .before in
-    visit-off (visiting (f .before .before .before .before .before)) (f .first-unseen .ensures) (g .kept .0) (rw (c .before .before .before .before .before .count-of .ensures) at (c .before .before .before .before .if1 .left)) (g .ensures)
+    visit-off (visiting (f .before .before .before .before .before)) (f .first-unseen .ensures) (g .kept .0)
+    (rw (c .before .before .before .before .before .count-of .ensures) at (c .before .before .before .before .if1 .left)) (g .ensures)
 
 pub visit-spec : {M : Type 1} → statement M
 visit-spec =
