@@ -12,7 +12,7 @@ use Rattle.spec_search.specs.Search.{Trail, member, upward, sideward, distance,
 use Rattle.words.specs.Choice.{cond-true, cond-false}
 use Rattle.words.specs.Words.{at, WORK}
 use Rattle.work_layout.specs.Layout.{PARENTS, COUNTS, PREVS, NODES, LENS, PATHS, COPIES, DEPTH, ENTRIES, TOPS}
-use Rattle.search_list.specs.Steps.{from-top, Links, Nodes, PathsOK, Stored, Relisted, Marked, Visited, FirstUnseen}
+use Rattle.search_list.specs.Steps.{copies, stacked, from-top, Links, Nodes, PathsOK, Stored, Relisted, Marked, Visited, FirstUnseen}
 use Rattle.search_list.specs.State.{seen-of, node-bits, trail, trails-of, node-at, place-at, seen-at, count-at, MOST-PATHS}
 use Rattle.work_layout.specs.Rows.{parent-of, parents-of, stack-of, Tops}
 use Rattle.words.proofs.Words.{Store, stores, miss, hits}
@@ -63,17 +63,17 @@ module _ (w : List ℕ) (m n : ℕ) (ok : Nodes w m) (p : PathsOK w m n) where
     side : (t : ℕ) → t ≡ at w (TOPS + e) → distance e (stack-of w d) ≡ from-top d t
     side t q = least w d e tops h ∙ ap (from-top d) (sym q)
 
-    pub off-stack : (t : ℕ) → t ≡ at w (TOPS + e) → t ≡ 0 → Relisted w w m n (trails-of w n ++ sideward (node-bits w m) (distance e (stack-of w d)))
+    pub off-stack : (t : ℕ) → t ≡ at w (TOPS + e) → t ≡ 0 → Relisted w w m n (trails-of w n ++ stacked w m e d)
     off-stack t q z =
-        unchanged w m n (trails-of w n ++ sideward (node-bits w m) (distance e (stack-of w d))) p
+        unchanged w m n (trails-of w n ++ stacked w m e d) p
         (sym (ap (λ (o : Option ℕ). trails-of w n ++ sideward (node-bits w m) o) (side t q ∙ ap (from-top d) z) ∙ append-nil (trails-of w n)))
 
     pub on-stack : (y : List ℕ) (t : ℕ) → t ≡ at w (TOPS + e) → (t ≡ 0 → ⊥) → n < MOST-PATHS → Stored w y n m (d - t) 1
-        → Relisted w y m (n + 1) (trails-of w n ++ sideward (node-bits w m) (distance e (stack-of w d)))
+        → Relisted w y m (n + 1) (trails-of w n ++ stacked w m e d)
     on-stack y t q z r s = go t q z s
       where
         go : (t : ℕ) → t ≡ at w (TOPS + e) → (t ≡ 0 → ⊥) → Stored w y n m (d - t) 1
-            → Relisted w y m (n + 1) (trails-of w n ++ sideward (node-bits w m) (distance e (stack-of w d)))
+            → Relisted w y m (n + 1) (trails-of w n ++ stacked w m e d)
         go zero q z s = absurd (z refl)
         go (suc t) q z s =
             let b : suc t ≤ d = omega (arith, tops .tops e h) in
@@ -88,7 +88,7 @@ pub record Copying (w₀ w : List ℕ) (e m first count n i : ℕ) : Type 0 wher
   pub len : length w ≡ length w₀
   pub room : n + (count-at w₀ e - i) ≤ count + (count-at w₀ e - first)
   pub paths : PathsOK w m n
-  pub ahead : trails-of w n ++ upward (seen-of w₀ m) (node-bits w₀ m) (drop i (parents-of w₀ e)) ≡ trails-of w₀ count ++ upward (seen-of w₀ m) (node-bits w₀ m) (drop first (parents-of w₀ e))
+  pub ahead : trails-of w n ++ copies w₀ m e i ≡ trails-of w₀ count ++ copies w₀ m e first
   pub low : (k : ℕ) → k < PATHS → at w k ≡ at w₀ k
   pub high : (k : ℕ) → COPIES ≤ k → at w k ≡ at w₀ k
 
@@ -109,22 +109,22 @@ pub copying-more : (w₀ w y : List ℕ) (e m first count n n′ i : ℕ) → Li
     → Copying w₀ y e m first count n′ (i + 1)
 copying-more w₀ w y e m first count n n′ i links ok h k l len r =
     let b : count-at w₀ e ≤ 100 = links .counts e h in
-    let q : ℕ × Bool = parent-of (at w₀ (PARENTS + e * 100 + i)) in
+    let q : List (ℕ × Bool) = parent-of (at w₀ (PARENTS + e * 100 + i)) ∷ [] in
     let S : List ℕ = seen-of w₀ m in
     let B : List Bool = node-bits w₀ m in
-    let t : trails-of y n′ ≡ trails-of w n ++ upward S B (parent-of (at w₀ (PARENTS + e * 100 + i)) ∷ []) =
+    let t : trails-of y n′ ≡ trails-of w n ++ upward S B q =
     r .trails ∙ ap (λ (x : List ℕ). trails-of w n ++ upward x (node-bits w m) (parent-of (at w (PARENTS + e * 100 + i)) ∷ [])) (low-seen w₀ w m ok (k .low))
     ∙ ap (λ (x : List Bool). trails-of w n ++ upward S x (parent-of (at w (PARENTS + e * 100 + i)) ∷ [])) (low-bits w₀ w m ok (k .low) m (omega arith))
     ∙ ap (λ (z : ℕ). trails-of w n ++ upward S B (parent-of z ∷ [])) (k .low (PARENTS + e * 100 + i) (omega arith)) in
     let more : n′ ≤ n + 1 =
-    omega (arith, length-trails y n′, ap length t, length-append (trails-of w n) (upward S B (parent-of (at w₀ (PARENTS + e * 100 + i)) ∷ [])), length-trails w n, length-upward S B (parent-of (at w₀ (PARENTS + e * 100 + i)) ∷ [])) in
+    omega (arith, length-trails y n′, ap length t, length-append (trails-of w n) (upward S B q), length-trails w n, length-upward S B q) in
     record {
       within = omega arith;
       len = len ∙ k .len;
       room = omega (arith, k .room);
       paths = r .paths;
       ahead = ap (λ (x : List Trail). x ++ upward S B (drop (i + 1) (parents-of w₀ e))) t
-          ∙ append-assoc (trails-of w n) (upward S B (parent-of (at w₀ (PARENTS + e * 100 + i)) ∷ [])) (upward S B (drop (i + 1) (parents-of w₀ e)))
+          ∙ append-assoc (trails-of w n) (upward S B q) (upward S B (drop (i + 1) (parents-of w₀ e)))
           ∙ ap (λ (x : List Trail). trails-of w n ++ x) (upward-one S B (parent-of (at w₀ (PARENTS + e * 100 + i))) (drop (i + 1) (parents-of w₀ e)))
           ∙ ap (λ (x : List (ℕ × Bool)). trails-of w n ++ upward S B x) (sym (links-cons w₀ e links h i l))
           ∙ k .ahead;
@@ -133,7 +133,7 @@ copying-more w₀ w y e m first count n n′ i links ok h k l len r =
     }
 
 pub copying-end : (w₀ w : List ℕ) (e m first count n i : ℕ) → Links w₀ → e < ENTRIES → Copying w₀ w e m first count n i → count-at w₀ e ≤ i
-    → Relisted w₀ w m n (trails-of w₀ count ++ upward (seen-of w₀ m) (node-bits w₀ m) (drop first (parents-of w₀ e)))
+    → Relisted w₀ w m n (trails-of w₀ count ++ copies w₀ m e first)
 copying-end w₀ w e m first count n i links h k l = record {
   trails =
       sym (append-nil (trails-of w n))

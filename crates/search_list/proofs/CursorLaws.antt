@@ -2,6 +2,7 @@
 -- Assumes nothing.
 use Prim.Native.Nat.{ℕ, suc, _+_, _≤_, _<_}
 use mathlib.Core.Path.{_≡_, refl, sym, ap, subst, _∙_}
+use mathlib.Core.Bool.{Bool}
 use mathlib.Core.List.{List, [], _∷_, _++_, append-assoc}
 use native.Mathlib.Omega.{arith}
 use native.Mathlib.Numerals.{add-one}
@@ -23,71 +24,80 @@ length-last-first (p ∷ ps) = go (last-first ps) (length-last-first ps)
     go [] h = ap suc h
     go (q ∷ qs) h = ap suc h
 
-module _ (parents : Parents) (stack : List ℕ) (L : ℕ) (list : List Trail) (c : ℕ) (seen : List ℕ) where
-  -- At the list's end the pass is over.
-  pub at-end : c ≡ length list → goes parents stack L list c seen ≡ left list seen
-  unfolding goes
-  at-end h = let b : length list ≤ c = omega arith in rw (drop-of-length-le list b, take-all c list b) (pass-end parents stack L list seen)
+-- At the list's end the pass is over.
+pub at-end : (parents : Parents) (stack : List ℕ) (L : ℕ) (list : List Trail) (c : ℕ) (seen : List ℕ) → c ≡ length list
+    → goes parents stack L list c seen ≡ left list seen
+unfolding goes
+at-end parents stack L list c seen h =
+    let b : length list ≤ c = omega arith in
+    rw (drop-of-length-le list b, take-all c list b) (pass-end parents stack L list seen)
 
-  pub all-longer : c ≡ length list → Mid L list c → All (Longer L) list
-  all-longer h m = rw (take-all c list (omega arith)) at (m .longer)
+pub all-longer : {L : ℕ} {list : List Trail} {c : ℕ} → c ≡ length list → Mid L list c → All (Longer L) list
+all-longer {L} {list} {c} h m = rw (take-all c list (omega arith)) at (m .longer)
 
-  module _ (p : Trail) (h : c < length list) (e : getD list c p ≡ p) (m : Mid L list c) where
-    before : List Trail
-    before = take c list
+-- Path p stands at the cursor.
+pub record Facing (L : ℕ) (list : List Trail) (c : ℕ) (p : Trail) : Type 0 where
+  pub inside : c < length list
+  pub is : getD list c p ≡ p
+  pub mid : Mid L list c
 
-    behind : List Trail
-    behind = drop (suc c) list
+module _ {L : ℕ} {list : List Trail} {c : ℕ} {p : Trail} (o : Facing L list c p) where
+  before : List Trail
+  before = take c list
 
-    from-c : drop c list ≡ p ∷ behind
-    unfolding behind
-    from-c = drop-cons list c p h ∙ ap (λ (q : Trail). q ∷ drop (suc c) list) e
+  behind : List Trail
+  behind = drop (suc c) list
 
-    whole : list ≡ before ++ p ∷ behind
-    unfolding before behind
-    whole = split-at list c p h ∙ ap (λ (q : Trail). take c list ++ q ∷ drop (suc c) list) e
+  from-c : drop c list ≡ p ∷ behind
+  unfolding behind
+  from-c = drop-cons list c p (o .inside) ∙ ap (λ (q : Trail). q ∷ drop (suc c) list) (o .is)
 
-    long-before : length before ≡ c
-    unfolding before
-    long-before = length-take-le c list (omega arith)
+  whole : list ≡ before ++ p ∷ behind
+  unfolding before behind
+  whole = split-at list c p (o .inside) ∙ ap (λ (q : Trail). take c list ++ q ∷ drop (suc c) list) (o .is)
 
-    long-behind : length list ≡ c + suc (length behind)
-    long-behind = ap length whole ∙ length-append before (p ∷ behind) ∙ ap (λ (k : ℕ). k + suc (length behind)) long-before
+  long-before : length before ≡ c
+  unfolding before
+  long-before = length-take-le c list (omega (arith, o .inside))
 
-    least : All (AtLeast L) (p ∷ behind)
-    least = subst (All (AtLeast L)) from-c (m .least)
+  long-behind : length list ≡ c + suc (length behind)
+  long-behind = ap length whole ∙ length-append before (p ∷ behind) ∙ ap (λ (k : ℕ). k + suc (length behind)) long-before
 
-    pub here-least : L ≤ size p
-    here-least = least .0
+  least : All (AtLeast L) (p ∷ behind)
+  least = subst (All (AtLeast L)) from-c (o .mid .least)
 
-    -- ---- a path of more than L bits is passed over
+  here-least : L ≤ size p
+  here-least = least .0
 
-    next-take : take (c + 1) list ≡ before ++ p ∷ []
-    unfolding before
-    next-take = ap (λ (k : ℕ). take k list) (add-one c) ∙ take-suc list c p h ∙ ap (λ (q : Trail). take c list ++ q ∷ []) e
+  -- ---- a path of more than L bits is passed over
 
-    next-drop : drop (c + 1) list ≡ behind
-    unfolding behind
-    next-drop = ap (λ (k : ℕ). drop k list) (add-one c)
+  next-take : take (c + 1) list ≡ before ++ p ∷ []
+  unfolding before
+  next-take = ap (λ (k : ℕ). take k list) (add-one c) ∙ take-suc list c p (o .inside) ∙ ap (λ (q : Trail). take c list ++ q ∷ []) (o .is)
 
-    pub over : L < size p → goes parents stack L list c seen ≡ goes parents stack L list (c + 1) seen
-    unfolding goes before behind
-    over l = rw (next-take, next-drop, from-c) (pass-long parents stack L before p behind seen least l)
+  next-drop : drop (c + 1) list ≡ behind
+  unfolding behind
+  next-drop = ap (λ (k : ℕ). drop k list) (add-one c)
 
-    pub over-mid : L < size p → Mid L list (c + 1)
-    unfolding before
-    over-mid l = record {
-      within = omega arith;
-      longer = rw next-take (all-append (Longer L) before (p ∷ []) (m .longer) (l, tt));
-      least = rw next-drop (least .1);
-    }
+  pub over : (parents : Parents) (stack seen : List ℕ) → L < size p → goes parents stack L list c seen ≡ goes parents stack L list (c + 1) seen
+  unfolding goes before behind
+  over parents stack seen l = rw (next-take, next-drop, from-c) (pass-long parents stack L before p behind seen least l)
 
-    pub over-less : L < size p → ahead L list (c + 1) < ahead L list c
-    unfolding ahead
-    over-less l = rw (next-drop, from-c) (omega (arith, shorts-long L p behind l))
+  pub over-mid : L < size p → Mid L list (c + 1)
+  unfolding before
+  over-mid l = record {
+    within = omega (arith, o .inside);
+    longer = rw next-take (all-append (Longer L) before (p ∷ []) (o .mid .longer) (l, tt));
+    least = rw next-drop (least .1);
+  }
 
-    -- ---- a path of L bits is stepped
+  pub over-less : L < size p → ahead L list (c + 1) < ahead L list c
+  unfolding ahead
+  over-less l = rw (next-drop, from-c) (omega (arith, shorts-long L p behind l))
 
+  -- ---- a path of L bits is stepped
+
+  module _ (parents : Parents) (stack seen : List ℕ) where
     grown : Grown L (step parents stack seen p)
     grown = step-grown L parents stack seen p here-least
 
@@ -95,20 +105,20 @@ module _ (parents : Parents) (stack : List ℕ) (L : ℕ) (list : List Trail) (c
     unfolding goes before behind
     stepped l = rw from-c (pass-step parents stack L before p behind seen least l)
 
-    pub is-result : (bits : _) → size p ≤ L → step parents stack seen p ≡ result bits → goes parents stack L list c seen ≡ found bits
-    is-result bits l s = stepped l ∙ ap (goes-on (pass parents stack L) before behind) s
+    pub is-result : {bits : List Bool} → size p ≤ L → step parents stack seen p ≡ result bits → goes parents stack L list c seen ≡ found bits
+    is-result l s = stepped l ∙ ap (goes-on (pass parents stack L) before behind) s
 
     pub is-capped : size p ≤ L → step parents stack seen p ≡ capped → goes parents stack L list c seen ≡ gone
     is-capped l s = stepped l ∙ ap (goes-on (pass parents stack L) before behind) s
 
-    module _ (l : size p ≤ L) (q : Trail) (copies : List Trail) (seen′ : List ℕ) (s : step parents stack seen p ≡ stays q copies seen′) where
+    module _ (l : size p ≤ L) {q : Trail} {copies : List Trail} {seen′ : List ℕ} (s : step parents stack seen p ≡ stays q copies seen′) where
       g-stays : Longer L q × All (Longer L) copies
       g-stays = subst (Grown L) s grown
 
       stays-list : set list c q ++ copies ≡ before ++ q ∷ [] ++ (behind ++ copies)
       unfolding before behind
       stays-list =
-          rw (set-split list c q h, append-assoc (take c list) (q ∷ drop (suc c) list) copies, append-snoc (take c list) q (drop (suc c) list ++ copies))
+          rw (set-split list c q (o .inside), append-assoc (take c list) (q ∷ drop (suc c) list) copies, append-snoc (take c list) q (drop (suc c) list ++ copies))
 
       stays-at : length (before ++ q ∷ []) ≡ c + 1
       stays-at = length-append before (q ∷ []) ∙ ap (λ (k : ℕ). k + 1) long-before
@@ -126,8 +136,8 @@ module _ (parents : Parents) (stack : List ℕ) (L : ℕ) (list : List Trail) (c
       pub stays-mid : Mid L (set list c q ++ copies) (c + 1)
       unfolding before
       stays-mid = record {
-        within = omega (arith, length-append (set list c q) copies, length-set list c q);
-        longer = rw stays-take (all-append (Longer L) before (q ∷ []) (m .longer) (g-stays .0, tt));
+        within = omega (arith, o .inside, length-append (set list c q) copies, length-set list c q);
+        longer = rw stays-take (all-append (Longer L) before (q ∷ []) (o .mid .longer) (g-stays .0, tt));
         least = rw stays-drop (all-append (AtLeast L) behind copies (least .1) (all-map (Longer L) (AtLeast L) (λ q h. omega arith) copies (g-stays .1)));
       }
 
@@ -135,12 +145,13 @@ module _ (parents : Parents) (stack : List ℕ) (L : ℕ) (list : List Trail) (c
       unfolding ahead
       stays-less f = rw (stays-drop, from-c) (omega (arith, shorts-append L behind copies, shorts-all-long L copies (g-stays .1), shorts-short L p behind l))
 
-    module _ (l : size p ≤ L) (copies : List Trail) (seen′ : List ℕ) (s : step parents stack seen p ≡ dropped copies seen′) where
+    module _ (l : size p ≤ L) {copies : List Trail} {seen′ : List ℕ} (s : step parents stack seen p ≡ dropped copies seen′) where
       g-dropped : All (Longer L) copies
       g-dropped = subst (Grown L) s grown
 
       dropped-list : swap-remove (list ++ copies) c p ≡ before ++ last-first (behind ++ copies)
-      dropped-list = subst (λ (k : ℕ). swap-remove (list ++ copies) k p ≡ before ++ last-first (behind ++ copies)) long-before
+      dropped-list =
+          subst (λ (k : ℕ). swap-remove (list ++ copies) k p ≡ before ++ last-first (behind ++ copies)) long-before
           (subst (λ (x : List Trail). swap-remove (x ++ copies) (length before) p ≡ before ++ last-first (behind ++ copies)) (sym whole) (drop-list before p behind copies))
 
       dropped-take : take c (swap-remove (list ++ copies) c p) ≡ before
@@ -149,7 +160,7 @@ module _ (parents : Parents) (stack : List ℕ) (L : ℕ) (list : List Trail) (c
       dropped-drop : drop c (swap-remove (list ++ copies) c p) ≡ last-first (behind ++ copies)
       dropped-drop = ap (drop c) dropped-list ∙ drop-at before (last-first (behind ++ copies)) c long-before
 
-      pub dropped-length : suc (length (swap-remove (list ++ copies) c p)) ≡ length list + length copies
+      dropped-length : suc (length (swap-remove (list ++ copies) c p)) ≡ length list + length copies
       dropped-length = ap (λ (x : List Trail). suc (length x)) dropped-list
           ∙ omega (arith, length-append before (last-first (behind ++ copies)), length-last-first (behind ++ copies), length-append behind copies, long-before, long-behind)
 
@@ -163,7 +174,7 @@ module _ (parents : Parents) (stack : List ℕ) (L : ℕ) (list : List Trail) (c
       unfolding before
       dropped-mid = record {
         within = omega (arith, dropped-length, long-behind);
-        longer = subst (All (Longer L)) (sym dropped-take) (m .longer);
+        longer = subst (All (Longer L)) (sym dropped-take) (o .mid .longer);
         least = subst (All (AtLeast L)) (sym dropped-drop)
             (all-last-first (AtLeast L) (behind ++ copies) (all-append (AtLeast L) behind copies (least .1) (all-map (Longer L) (AtLeast L) (λ q h. omega arith) copies g-dropped)));
       }

@@ -12,7 +12,7 @@ use Rattle.spec_search.specs.Flat.{swap-remove}
 use Rattle.words.specs.Words.{at, WORK}
 use Rattle.work_layout.specs.Layout.{PARENTS, COUNTS, STACK, SEEN, PATHS, DEPTH, ENTRIES, TOPS}
 use Rattle.search_list.specs.State.{seen-of, node-bits, trail, trail-of, trails-of, count-at, MOST-PATHS}
-use Rattle.search_list.specs.Steps.{Links, Nodes, PathsOK, Stored, Relisted}
+use Rattle.search_list.specs.Steps.{copies, stacked, Links, Nodes, PathsOK, Stored, Relisted}
 use Rattle.work_layout.specs.Rows.{parents-of, stack-of, Tops}
 use Rattle.search_list.proofs.Nodes.{low-bits, low-seen, low-nodes}
 use Rattle.search_list.proofs.Trails.{store-at, length-trails, at-trails}
@@ -85,7 +85,7 @@ module _ {w x : List ℕ} {c n m e k d v : ℕ} (u : Up w x c n m e k d v) where
       let g = u .room in
       ((re-links w x m (first .low) (u .len) (u .links), re-nodes w x m (first .low) (u .len) (u .nodes), first .paths), (u .entry, omega arith, omega arith))
 
-  module _ {y : List ℕ} {n₂ : ℕ} (r : Relisted x y m n₂ (trails-of x n ++ upward (seen-of x m) (node-bits x m) (drop (k + 1) (parents-of x e)))) (ly : length y ≡ length x) where
+  module _ {y : List ℕ} {n₂ : ℕ} (r : Relisted x y m n₂ (trails-of x n ++ copies x m e (k + 1))) (ly : length y ≡ length x) where
     S : List ℕ
     S = seen-of w m
 
@@ -99,7 +99,7 @@ module _ {w x : List ℕ} {c n m e k d v : ℕ} (u : Up w x c n m e k d v) where
     unfolding S B up
     second =
         r .trails
-        ∙ ap (λ (t : List Trail). t ++ upward (seen-of x m) (node-bits x m) (drop (k + 1) (parents-of x e))) (first .trails)
+        ∙ ap (λ (t : List Trail). t ++ copies x m e (k + 1)) (first .trails)
         ∙ rw (low-seen w x m (u .nodes) (first .low), low-bits w x m (u .nodes) (first .low) m (omega arith), low-links-of w x (u .links) (λ j l. first .low j (omega arith)) (u .len) e (u .entry))
 
     low-y : (j : ℕ) → j < PATHS → at y j ≡ at w j
@@ -112,7 +112,16 @@ module _ {w x : List ℕ} {c n m e k d v : ℕ} (u : Up w x c n m e k d v) where
 
     pub up-count : n₂ ≤ n + (count-at w e - (k + 1))
     up-count =
-        omega (arith, ap length second, length-trails y n₂, length-append (set (trails-of w n) c (trail 0 (node-bits w m) v)) up, length-set (trails-of w n) c (trail 0 (node-bits w m) v), length-trails w n, length-drop-links)
+        let p : Trail = trail 0 (node-bits w m) v in
+        omega (
+          arith,
+          ap length second,
+          length-trails y n₂,
+          length-append (set (trails-of w n) c p) up,
+          length-set (trails-of w n) c p,
+          length-trails w n,
+          length-drop-links,
+        )
 
     pub up-asks-2 : (Links y × Tops y d × Nodes y m × PathsOK y m n₂) × (e < ENTRIES × n₂ < MOST-PATHS)
     up-asks-2 =
@@ -122,16 +131,16 @@ module _ {w x : List ℕ} {c n m e k d v : ℕ} (u : Up w x c n m e k d v) where
         let l = ly ∙ u .len in
         ((re-links w y m low-y l (u .links), re-tops w y m low-y l d (u .tops), re-nodes w y m low-y l (u .nodes), r .paths), (u .entry, omega arith))
 
-    pub up-done : {z : List ℕ} {n₃ : ℕ} → Relisted y z m n₃ (trails-of y n₂ ++ sideward (node-bits y m) (distance e (stack-of y d)))
-        → Relisted w z m n₃ (set (trails-of w n) c (trail 0 (node-bits w m) (at w (PARENTS + e * 100 + k))) ++ (upward (seen-of w m) (node-bits w m) (drop (k + 1) (parents-of w e)) ++ sideward (node-bits w m) (distance e (stack-of w d))))
+    pub up-done : {z : List ℕ} {n₃ : ℕ} → Relisted y z m n₃ (trails-of y n₂ ++ stacked y m e d)
+        → Relisted w z m n₃ (set (trails-of w n) c (trail 0 (node-bits w m) (at w (PARENTS + e * 100 + k))) ++ (copies w m e (k + 1) ++ stacked w m e d))
     unfolding S B up
     up-done t = record {
       trails =
           t .trails
-          ∙ ap (λ (l : List Trail). l ++ sideward (node-bits y m) (distance e (stack-of y d))) second
+          ∙ ap (λ (l : List Trail). l ++ stacked y m e d) second
           ∙ rw (low-bits w y m (u .nodes) low-y m (omega arith), stack-same w y d (λ j l. low-y j (omega arith)) (u .tops .deep))
-          (append-assoc (set (trails-of w n) c (trail 0 (node-bits w m) v)) (upward (seen-of w m) (node-bits w m) (drop (k + 1) (parents-of w e))) (sideward (node-bits w m) (distance e (stack-of w d))))
-          ∙ ap (λ (q : ℕ). set (trails-of w n) c (trail 0 (node-bits w m) q) ++ (upward (seen-of w m) (node-bits w m) (drop (k + 1) (parents-of w e)) ++ sideward (node-bits w m) (distance e (stack-of w d)))) (u .word);
+          (append-assoc (set (trails-of w n) c (trail 0 (node-bits w m) v)) (copies w m e (k + 1)) (stacked w m e d))
+          ∙ ap (λ (q : ℕ). set (trails-of w n) c (trail 0 (node-bits w m) q) ++ (copies w m e (k + 1) ++ stacked w m e d)) (u .word);
       paths = t .paths;
       low = λ j l. t .low j l ∙ low-y j l;
       high = λ j l. t .high j l ∙ r .high j l ∙ first .high j l;
@@ -139,7 +148,7 @@ module _ {w x : List ℕ} {c n m e k d v : ℕ} (u : Up w x c n m e k d v) where
 
 -- ---- a path is dropped
 
-length-sideward : (bits : List Bool) (o : Option ℕ) → length (sideward bits o) ≤ 1
+pub length-sideward : (bits : List Bool) (o : Option ℕ) → length (sideward bits o) ≤ 1
 length-sideward bits none = omega arith
 length-sideward bits (some q) = omega arith
 
@@ -149,14 +158,14 @@ pub record Off (w x : List ℕ) (c n m e d n₂ : ℕ) : Type 0 where
   pub nodes : Nodes w m
   pub slot : c < n
   pub room : n < MOST-PATHS
-  pub list : Relisted w x m n₂ (trails-of w n ++ sideward (node-bits w m) (distance e (stack-of w d)))
+  pub list : Relisted w x m n₂ (trails-of w n ++ stacked w m e d)
   pub len : length x ≡ length w
 
 module _ {w x : List ℕ} {c n m e d n₂ : ℕ} (u : Off w x c n m e d n₂) where
   pub off-count : (n ≤ n₂) × (n₂ ≤ n + 1)
   off-count =
       let a = length-sideward (node-bits w m) (distance e (stack-of w d)) in
-      omega (arith, ap length (u .list .trails), length-trails x n₂, length-trails w n, length-append (trails-of w n) (sideward (node-bits w m) (distance e (stack-of w d))))
+      omega (arith, ap length (u .list .trails), length-trails x n₂, length-trails w n, length-append (trails-of w n) (stacked w m e d))
 
   pub off-one : n₂ - 1 + 1 ≡ n₂
   off-one = omega (arith, off-count .0, u .slot)
@@ -174,11 +183,11 @@ module _ {w x : List ℕ} {c n m e d n₂ : ℕ} (u : Off w x c n m e d n₂) wh
       let h = u .slot in
       sym (at-trails x n₂ c (trail-of w c) (omega arith))
       ∙ ap (λ (l : List Trail). getD l c (trail-of w c)) (u .list .trails)
-      ∙ List·getD-append (trails-of w n) (sideward (node-bits w m) (distance e (stack-of w d))) (trail-of w c) c (rw length-trails (u .slot))
+      ∙ List·getD-append (trails-of w n) (stacked w m e d) (trail-of w c) c (rw length-trails (u .slot))
       ∙ at-trails w n c (trail-of w c) (u .slot)
 
   pub off-done : {y : List ℕ} → Relisted x y m (n₂ - 1) (swap-remove (trails-of x (n₂ - 1 + 1)) c (trail-of x c))
-      → Relisted w y m (n₂ - 1) (swap-remove (trails-of w n ++ sideward (node-bits w m) (distance e (stack-of w d))) c (trail-of w c))
+      → Relisted w y m (n₂ - 1) (swap-remove (trails-of w n ++ stacked w m e d) c (trail-of w c))
   off-done t = record {
     trails =
         t .trails ∙ ap (λ (k : ℕ). swap-remove (trails-of x k) c (trail-of x c)) off-one ∙ ap₂ {C = List Trail} (λ l p. swap-remove l c p) (u .list .trails) here;

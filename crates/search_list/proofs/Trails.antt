@@ -68,7 +68,11 @@ module _ (w w′ : List ℕ) (m c a v x : ℕ) (ok : Nodes w m) (s : Stored w w�
   trail-other : (i : ℕ) → (i ≡ c → ⊥) → node-at w i ≤ m → trail-of w′ i ≡ trail-of w i
   unfolding trail-of
   trail-other i d l =
-      rw (words-other i (PATHS + 3 * i) d (omega arith) (omega arith), words-other i (PATHS + 3 * i + 1) d (omega arith) (omega arith), words-other i (PATHS + 3 * i + 2) d (omega arith) (omega arith))
+      rw (
+        words-other i (PATHS + 3 * i) d (omega arith) (omega arith),
+        words-other i (PATHS + 3 * i + 1) d (omega arith) (omega arith),
+        words-other i (PATHS + 3 * i + 2) d (omega arith) (omega arith),
+      )
       (ap (λ (b : List Bool). trail (extra-at w i) b (place-at w i)) (low-bits w w′ m ok store-low (node-at w i) l))
 
   module _ (pe : x ≡ 0 → v < 2 * ENTRIES) (ps : 0 < x → x + v ≤ DEPTH) where

@@ -3,73 +3,69 @@
 use mathlib.Core.Path.{_≡_, refl, sym, ap, ap₂, subst, _∙_}
 use mathlib.Core.Bool.{Bool, true, false, cond}
 use mathlib.Core.List.{List, [], _∷_, _++_, append-nil}
-use mathlib.Core.Option.{Option, none, some}
 use Prim.Native.Nat.{ℕ, zero, suc, _+_, _*_, _-_, _/_, _≤_, _<_}
 use native.Mathlib.Omega.{arith}
 use lib.ListN.{length, getD, set, drop, length-append, length-set, length-drop}
 use lib.Dec.{ltb}
 use borrow.Author.Tests.{lt-ltb, le-ltb}
-use Rattle.spec_search.specs.Search.{Trail, trail-bits, Parents, result, stays, dropped, capped, most-visits, member, upward, sideward, moves, visit, distance, step}
+use Rattle.spec_search.specs.Search.{Trail, trail-bits, Parents, Stepped, result, stays, dropped, capped, most-visits, member, upward, sideward, moves, visit, distance, step}
 use Rattle.words.specs.Choice.{cond-true, cond-false}
 use Rattle.spec_search.specs.Lists.{size}
 use Rattle.spec_search.specs.Flat.{swap-remove, init, last}
 use Rattle.words.specs.Words.{at}
 use Rattle.search_list.specs.Cursor.{goes, Mid, ahead}
-use Rattle.search_list.proofs.CursorLaws.{over, over-mid, over-less, is-result, is-capped, stays-goes, stays-mid, stays-less, dropped-goes, dropped-mid, dropped-less}
+use Rattle.search_list.proofs.CursorLaws.{Facing, over, over-mid, over-less, is-result, is-capped, stays-goes, stays-mid, stays-less, dropped-goes, dropped-mid, dropped-less}
 use Rattle.search_list.specs.declared.Turned.the-variants.{On, Result, Capped}
 use Rattle.work_layout.specs.Layout.{PARENTS, COUNTS, PATHS, DEPTH, ENTRIES}
 use Rattle.work_layout.specs.Rows.{parents-of, stack-of, Tops}
 use Rattle.search_list.specs.State.{parents-of-all, seen-of, node-bits, trail, trail-of, trails-of, node-at, place-at, extra-at, seen-at, count-at, Readable, MOST-PATHS}
-use Rattle.search_list.specs.Steps.{search-of, unseen, Links, Nodes, PathOK, PathsOK, Working, Kept, Stored, Relisted, Visited, FirstUnseen, Turns, Steps}
+use Rattle.search_list.specs.Steps.{copies, stacked, search-of, unseen, Links, Nodes, PathOK, PathsOK, Working, Kept, Stored, Relisted, Visited, FirstUnseen, Turns, Steps}
 use Rattle.path.specs.Bytes.{odd}
 use Rattle.words.proofs.Words.{tabulate-same}
 use Rattle.search_list.proofs.Nodes.{low-seen, length-seen}
 use Rattle.search_list.proofs.Trails.{length-trails, at-trails, store-at}
 use Rattle.search_list.proofs.Upward.{up-skip, up-new, up-end, length-upward, low-links, low-links-of, low-parents, length-links, parents-are}
 use Rattle.search_list.proofs.Room.{unseen-visit, unseen-same}
-use Rattle.search_list.proofs.Kept.{stack-same, low-tops, re-links, re-tops, re-nodes}
+use Rattle.search_list.proofs.Kept.{length-sideward, stack-same, low-tops, re-links, re-tops, re-nodes}
 
 -- ---- the meaning of what is left
 
-goes-same : (P P′ : Parents) (S S′ : List ℕ) (L : ℕ) (l l′ : List Trail) (c : ℕ) (s s′ : List ℕ) → P′ ≡ P → S′ ≡ S → l′ ≡ l → s′ ≡ s
+goes-same : {P P′ : Parents} {S S′ : List ℕ} {l l′ : List Trail} {s s′ : List ℕ} (L c : ℕ) → P′ ≡ P → S′ ≡ S → l′ ≡ l → s′ ≡ s
     → goes P S L l c s ≡ goes P′ S′ L l′ c s′
-goes-same P P′ S S′ L l l′ c s s′ a b e f = rw (a, b, e, f)
+goes-same L c a b e f = rw (a, b, e, f)
 
 pub kept-none : (w : List ℕ) → Kept w w
 kept-none w = record { low = λ k l. refl; high = λ k l. refl }
 
-module _ (w : List ℕ) (d c n m : ℕ) (ok : Working w d n m) (hc : c < n) where
-  pub few : n ≤ 3073
-  few = omega (arith, ok .room, ok .nodes .few)
+pub few : {w : List ℕ} {d n m : ℕ} → Working w d n m → n ≤ 3073
+few ok = omega (arith, ok .room, ok .nodes .few)
 
-  in-list : c < length (trails-of w n)
-  in-list = rw length-trails hc
+-- Path c of a list that is sound.
+pub record Here (w : List ℕ) (d c n m : ℕ) : Type 0 where
+  pub ok : Working w d n m
+  pub slot : c < n
 
-  here : getD (trails-of w n) c (trail-of w c) ≡ trail-of w c
-  here = at-trails w n c (trail-of w c) hc
+module _ {w : List ℕ} {d c n m : ℕ} (here : Here w d c n m) where
+  facing : {L : ℕ} → Mid L (trails-of w n) c → Facing L (trails-of w n) c (trail-of w c)
+  facing mid = record { inside = rw length-trails (here .slot); is = at-trails w n c (trail-of w c) (here .slot); mid = mid }
 
   pub turned-over : (L : ℕ) → Mid L (trails-of w n) c → L < size (trail-of w c) → Turns w w d L c n m (On (c + 1) (search-of n m d))
   turned-over L mid l = record {
-    same = over (parents-of-all w) (stack-of w d) L (trails-of w n) c (seen-of w m) (trail-of w c) in-list here mid l;
-    fine = (
-      ok,
-      over-mid (parents-of-all w) (stack-of w d) L (trails-of w n) c (seen-of w m) (trail-of w c) in-list here mid l,
-      over-less (parents-of-all w) (stack-of w d) L (trails-of w n) c (seen-of w m) (trail-of w c) in-list here mid l,
-      refl,
-    );
+    same = over (facing mid) (parents-of-all w) (stack-of w d) (seen-of w m) l;
+    fine = (here .ok, over-mid (facing mid) l, over-less (facing mid) l, refl);
     kept = kept-none w;
   }
 
   readable : Readable w c
   readable =
-      let p : PathOK w m c = ok .paths c hc in
-      let f : m ≤ most-visits = ok .nodes .few in
+      let p : PathOK w m c = here .ok .paths c (here .slot) in
+      let f : m ≤ most-visits = here .ok .nodes .few in
       let q : node-at w c ≤ m = p .node in
       record {
-        slot = omega (arith, few);
-        chain = record { few = omega arith; prev = λ k l. ok .nodes .prev k (omega arith) };
-        len = ok .nodes .lens (node-at w c) q;
-        short = omega (arith, ok .nodes .short (node-at w c) q);
+        slot = omega (arith, few (here .ok), here .slot);
+        chain = record { few = omega arith; prev = λ k l. here .ok .nodes .prev k (omega arith) };
+        len = here .ok .nodes .lens (node-at w c) q;
+        short = omega (arith, here .ok .nodes .short (node-at w c) q);
         extra = go (extra-at w c) (p .stack);
       }
     where
@@ -79,62 +75,53 @@ module _ (w : List ℕ) (d c n m : ℕ) (ok : Working w d n m) (hc : c < n) wher
 
   pub turned-result : step (parents-of-all w) (stack-of w d) (seen-of w m) (trail-of w c) ≡ result (trail-bits (trail-of w c)) → Steps w w d c n m (Result c)
   turned-result s L mid l = record {
-    same = is-result (parents-of-all w) (stack-of w d) L (trails-of w n) c (seen-of w m) (trail-of w c) in-list here mid (trail-bits (trail-of w c)) l s;
+    same = is-result (facing mid) (parents-of-all w) (stack-of w d) (seen-of w m) l s;
     fine = readable;
     kept = kept-none w;
   }
 
   pub turned-capped : step (parents-of-all w) (stack-of w d) (seen-of w m) (trail-of w c) ≡ capped → Steps w w d c n m Capped
   turned-capped s L mid l = record {
-    same = is-capped (parents-of-all w) (stack-of w d) L (trails-of w n) c (seen-of w m) (trail-of w c) in-list here mid l s;
+    same = is-capped (facing mid) (parents-of-all w) (stack-of w d) (seen-of w m) l s;
     fine = tt;
     kept = kept-none w;
   }
 
-  module _ (y : List ℕ) (n′ m′ : ℕ) (ok′ : Working y d n′ m′) (kept : Kept w y) (len : length y ≡ length w) where
-    few′ : n′ ≤ 3073
-    few′ = omega (arith, ok′ .room, ok′ .nodes .few)
-
+  module _ {y : List ℕ} {n′ m′ : ℕ} (ok′ : Working y d n′ m′) (kept : Kept w y) (len : length y ≡ length w) where
     same-parents : parents-of-all y ≡ parents-of-all w
-    same-parents = low-parents w y (ok .links) (λ k l. kept .low k l) len
+    same-parents = low-parents w y (here .ok .links) (λ k l. kept .low k l) len
 
     same-stack : stack-of y d ≡ stack-of w d
-    same-stack = stack-same w y d (kept .low) (ok .tops .deep)
+    same-stack = stack-same w y d (kept .low) (here .ok .tops .deep)
 
-    pub turned-stays : (q : Trail) (copies : List Trail) (seen′ : List ℕ)
-        → step (parents-of-all w) (stack-of w d) (seen-of w m) (trail-of w c) ≡ stays q copies seen′
-        → trails-of y n′ ≡ set (trails-of w n) c q ++ copies → seen-of y m′ ≡ seen′ → Steps w y d c n m (On (c + 1) (search-of n′ m′ d))
-    turned-stays q copies seen′ s t e L mid l =
-        let b : length (set (trails-of w n) c q ++ copies) < 4096 = omega (arith, few′, length-trails y n′, ap length t) in
+    pub turned-stays : {q : Trail} {added : List Trail} {seen′ : List ℕ}
+        → step (parents-of-all w) (stack-of w d) (seen-of w m) (trail-of w c) ≡ stays q added seen′
+        → trails-of y n′ ≡ set (trails-of w n) c q ++ added → seen-of y m′ ≡ seen′ → Steps w y d c n m (On (c + 1) (search-of n′ m′ d))
+    turned-stays {q} {added} s t e L mid l =
+        let b : length (set (trails-of w n) c q ++ added) < 4096 = omega (arith, few ok′, length-trails y n′, ap length t) in
         record {
-          same = stays-goes (parents-of-all w) (stack-of w d) L (trails-of w n) c (seen-of w m) (trail-of w c) in-list here mid l q copies seen′ s
-              ∙ goes-same (parents-of-all w) (parents-of-all y) (stack-of w d) (stack-of y d) L (set (trails-of w n) c q ++ copies) (trails-of y n′) (c + 1)
-              seen′ (seen-of y m′) same-parents same-stack t e;
+          same = stays-goes (facing mid) (parents-of-all w) (stack-of w d) (seen-of w m) l s ∙ goes-same L (c + 1) same-parents same-stack t e;
           fine = (
             ok′,
-            subst (λ (x : List Trail). Mid L x (c + 1)) (sym t)
-                (stays-mid (parents-of-all w) (stack-of w d) L (trails-of w n) c (seen-of w m) (trail-of w c) in-list here mid l q copies seen′ s),
+            subst (λ (x : List Trail). Mid L x (c + 1)) (sym t) (stays-mid (facing mid) (parents-of-all w) (stack-of w d) (seen-of w m) l s),
             subst (λ (x : List Trail). ahead L x (c + 1) < ahead L (trails-of w n) c) (sym t)
-                (stays-less (parents-of-all w) (stack-of w d) L (trails-of w n) c (seen-of w m) (trail-of w c) in-list here mid l q copies seen′ s b),
+                (stays-less (facing mid) (parents-of-all w) (stack-of w d) (seen-of w m) l s b),
             refl,
           );
           kept = kept;
         }
 
-    pub turned-dropped : (copies : List Trail) (seen′ : List ℕ) → step (parents-of-all w) (stack-of w d) (seen-of w m) (trail-of w c) ≡ dropped copies seen′
-        → trails-of y n′ ≡ swap-remove (trails-of w n ++ copies) c (trail-of w c) → seen-of y m′ ≡ seen′ → Steps w y d c n m (On c (search-of n′ m′ d))
-    turned-dropped copies seen′ s t e L mid l =
-        let b : length (swap-remove (trails-of w n ++ copies) c (trail-of w c)) < 4096 = omega (arith, few′, length-trails y n′, ap length t) in
+    pub turned-dropped : {added : List Trail} {seen′ : List ℕ} → step (parents-of-all w) (stack-of w d) (seen-of w m) (trail-of w c) ≡ dropped added seen′
+        → trails-of y n′ ≡ swap-remove (trails-of w n ++ added) c (trail-of w c) → seen-of y m′ ≡ seen′ → Steps w y d c n m (On c (search-of n′ m′ d))
+    turned-dropped {added} s t e L mid l =
+        let b : length (swap-remove (trails-of w n ++ added) c (trail-of w c)) < 4096 = omega (arith, few ok′, length-trails y n′, ap length t) in
         record {
-          same = dropped-goes (parents-of-all w) (stack-of w d) L (trails-of w n) c (seen-of w m) (trail-of w c) in-list here mid l copies seen′ s
-              ∙ goes-same (parents-of-all w) (parents-of-all y) (stack-of w d) (stack-of y d) L (swap-remove (trails-of w n ++ copies) c (trail-of w c))
-              (trails-of y n′) c seen′ (seen-of y m′) same-parents same-stack t e;
+          same = dropped-goes (facing mid) (parents-of-all w) (stack-of w d) (seen-of w m) l s ∙ goes-same L c same-parents same-stack t e;
           fine = (
             ok′,
-            subst (λ (x : List Trail). Mid L x c) (sym t)
-                (dropped-mid (parents-of-all w) (stack-of w d) L (trails-of w n) c (seen-of w m) (trail-of w c) in-list here mid l copies seen′ s),
+            subst (λ (x : List Trail). Mid L x c) (sym t) (dropped-mid (facing mid) (parents-of-all w) (stack-of w d) (seen-of w m) l s),
             subst (λ (x : List Trail). ahead L x c < ahead L (trails-of w n) c) (sym t)
-                (dropped-less (parents-of-all w) (stack-of w d) L (trails-of w n) c (seen-of w m) (trail-of w c) in-list here mid l copies seen′ s b),
+                (dropped-less (facing mid) (parents-of-all w) (stack-of w d) (seen-of w m) l s b),
             refl,
           );
           kept = kept;
@@ -142,7 +129,7 @@ module _ (w : List ℕ) (d c n m : ℕ) (ok : Working w d n m) (hc : c < n) wher
 
 -- ---- only the list was changed
 
-module _ (w y : List ℕ) (d n n′ m : ℕ) (list : List Trail) (ok : Working w d n m) (r : Relisted w y m n′ list) (len : length y ≡ length w) where
+module _ {w y : List ℕ} {d n n′ m : ℕ} {list : List Trail} (ok : Working w d n m) (r : Relisted w y m n′ list) (len : length y ≡ length w) where
   pub relisted-kept : Kept w y
   relisted-kept = record { low = λ k l. r .low k (omega arith); high = r .high }
 
@@ -174,25 +161,24 @@ module _ (P : Parents) (S seen : List ℕ) (B : List Bool) where
       let f : suc x + 1 ≡ suc (suc x) = omega arith in
       rw (e, f)
 
-module _ (w : List ℕ) (d c n m : ℕ) (ok : Working w d n m) (hc : c < n) (hx : 0 < extra-at w c) where
+module _ {w : List ℕ} {d c n m : ℕ} (here : Here w d c n m) (hx : 0 < extra-at w c) where
   pub stack-result : place-at w c ≡ 0 → Steps w w d c n m (Result c)
   unfolding trail-of
   stack-result z =
-      turned-result w d c n m ok hc (at-top (parents-of-all w) (stack-of w d) (seen-of w m) (node-bits w (node-at w c)) (extra-at w c) (place-at w c) hx z)
+      turned-result here (at-top (parents-of-all w) (stack-of w d) (seen-of w m) (node-bits w (node-at w c)) (extra-at w c) (place-at w c) hx z)
 
-  pub stack-nearer : (y : List ℕ) → (place-at w c ≡ 0 → ⊥) → length y ≡ length w → Stored w y c (node-at w c) (place-at w c - 1) (extra-at w c + 1)
+  pub stack-nearer : {y : List ℕ} → (place-at w c ≡ 0 → ⊥) → length y ≡ length w → Stored w y c (node-at w c) (place-at w c - 1) (extra-at w c + 1)
       → Steps w y d c n m (On (c + 1) (search-of n m d))
   unfolding trail-of
-  stack-nearer y z len s =
-      let q : PathOK w m c = ok .paths c hc in
+  stack-nearer {y} z len s =
+      let q : PathOK w m c = here .ok .paths c (here .slot) in
       let p : extra-at w c + place-at w c ≤ DEPTH = q .stack hx in
       let r : Relisted w y m n (set (trails-of w n) c (trail (extra-at w c + 1) (node-bits w (node-at w c)) (place-at w c - 1))) =
-      store-at w y m c (node-at w c) (place-at w c - 1) (extra-at w c + 1) (ok .nodes) s (q .node) (λ e. absurd (omega arith)) (λ e. omega arith) n hc
-      (omega (arith, few w d c n m ok hc)) (ok .paths) in
-      turned-stays w d c n m ok hc y n m (relisted-sound w y d n n m _ ok r len (ok .room)) (relisted-kept w y d n n m _ ok r len) len
-      (trail (extra-at w c + 1) (node-bits w (node-at w c)) (place-at w c - 1)) [] (seen-of w m)
+      store-at w y m c (node-at w c) (place-at w c - 1) (extra-at w c + 1) (here .ok .nodes) s (q .node) (λ e. absurd (omega arith)) (λ e. omega arith) n (here .slot)
+      (omega (arith, few (here .ok))) (here .ok .paths) in
+      turned-stays here (relisted-sound (here .ok) r len (here .ok .room)) (relisted-kept (here .ok) r len) len
       (one-nearer (parents-of-all w) (stack-of w d) (seen-of w m) (node-bits w (node-at w c)) (extra-at w c) (place-at w c) hx z)
-      (r .trails ∙ sym (append-nil _)) (relisted-seen w y d n n m _ ok r len)
+      (r .trails ∙ sym (append-nil _)) (relisted-seen (here .ok) r len)
 
 -- ---- at an entry
 
@@ -204,7 +190,13 @@ init-length (p ∷ q ∷ qs) = omega (arith, init-length (q ∷ qs))
 swapped-length : (l : List Trail) (c : ℕ) (p : Trail) → length (swap-remove l c p) ≤ length l
 swapped-length l c p = omega (arith, init-length (set l c (last p l)), length-set l c (last p l))
 
-module _ (w : List ℕ) (d c n m : ℕ) (ok : Working w d n m) (hc : c < n) (hx : extra-at w c ≡ 0) where
+-- Path c is at entry e.
+pub record At-entry (w : List ℕ) (d c n m e : ℕ) : Type 0 where
+  pub here : Here w d c n m
+  pub none : extra-at w c ≡ 0
+  pub is : e ≡ place-at w c / 2
+
+module _ {w : List ℕ} {d c n m e : ℕ} (a : At-entry w d c n m e) where
   P : Parents
   P = parents-of-all w
 
@@ -217,164 +209,200 @@ module _ (w : List ℕ) (d c n m : ℕ) (ok : Working w d n m) (hc : c < n) (hx 
   B : List Bool
   B = node-bits w (node-at w c)
 
-  e : ℕ
-  e = place-at w c / 2
-
-  pub entry-low : place-at w c / 2 < ENTRIES
-  entry-low = omega (arith, ok .paths c hc .entry hx)
+  pub entry-low : e < ENTRIES
+  entry-low = omega (arith, a .is, a .here .ok .paths c (a .here .slot) .entry (a .none))
 
   is-trail : trail-of w c ≡ trail 0 B (place-at w c)
   unfolding trail-of B
-  is-trail = ap (λ (x : ℕ). trail x (node-bits w (node-at w c)) (place-at w c)) hx
+  is-trail = ap (λ (x : ℕ). trail x (node-bits w (node-at w c)) (place-at w c)) (a .none)
 
   is-member : seen-at w e ≡ member e seen
-  unfolding e seen
-  is-member = ok .nodes .marks (place-at w c / 2) entry-low
+  unfolding seen
+  is-member = a .here .ok .nodes .marks e entry-low
 
-  step-at : step P S seen (trail-of w c) ≡ cond (member e seen) (dropped [] seen) (cond (ltb (length seen) most-visits) (visit P S seen B e (odd (place-at w c))) capped)
-  unfolding e
-  step-at = ap (step P S seen) is-trail
+  -- What the step at entry k gives.
+  stepped : ℕ → Stepped
+  stepped k = cond (member k seen) (dropped [] seen) (cond (ltb (length seen) most-visits) (visit P S seen B k (odd (place-at w c))) capped)
 
-  pub entry-seen : (y : List ℕ) → true ≡ seen-at w (place-at w c / 2) → length y ≡ length w
+  step-at : step P S seen (trail-of w c) ≡ stepped e
+  unfolding stepped
+  step-at = ap (step P S seen) is-trail ∙ ap stepped (sym (a .is))
+
+  pub entry-seen : {y : List ℕ} → true ≡ seen-at w e → length y ≡ length w
       → Relisted w y m (n - 1) (swap-remove (trails-of w (n - 1 + 1)) c (trail-of w c)) → Steps w y d c n m (On c (search-of (n - 1) m d))
-  unfolding e P S seen
-  entry-seen y t len r =
+  unfolding P S seen stepped
+  entry-seen t len r =
+      let ok = a .here .ok in
+      let h = a .here .slot in
       let k : n - 1 + 1 ≡ n = omega arith in
-      turned-dropped w d c n m ok hc y (n - 1) m (relisted-sound w y d n (n - 1) m _ ok r len (omega (arith, ok .room)))
-      (relisted-kept w y d n (n - 1) m _ ok r len) len
-      [] (seen-of w m) (step-at ∙ cond-true _ _ _ (sym is-member ∙ sym t))
-      (r .trails ∙ ap (λ (j : ℕ). swap-remove (trails-of w j) c (trail-of w c)) k ∙ ap (λ (x : List Trail). swap-remove x c (trail-of w c)) (sym (append-nil (trails-of w n))))
-      (relisted-seen w y d n (n - 1) m _ ok r len)
+      turned-dropped (a .here) (relisted-sound ok r len (omega (arith, ok .room))) (relisted-kept ok r len) len
+      (step-at ∙ cond-true _ _ _ (sym is-member ∙ sym t))
+      (r .trails ∙ ap (λ (j : ℕ). swap-remove (trails-of w j) c (trail-of w c)) k
+      ∙ ap (λ (x : List Trail). swap-remove x c (trail-of w c)) (sym (append-nil (trails-of w n))))
+      (relisted-seen ok r len)
 
-  module _ (un : false ≡ seen-at w (place-at w c / 2)) where
+  module _ (un : false ≡ seen-at w e) where
     not-member : member e seen ≡ false
-    unfolding e
     not-member = sym is-member ∙ sym un
 
     pub entry-capped : m ≡ most-visits → Steps w w d c n m Capped
-    unfolding e P S seen
+    unfolding P S seen stepped
     entry-capped h =
-        turned-capped w d c n m ok hc
+        turned-capped (a .here)
         (step-at ∙ cond-false _ _ _ not-member ∙ cond-false _ _ _ (le-ltb (length (seen-of w m)) most-visits (omega (arith, length-seen w m))))
 
-    module _ (hm : m < most-visits) (x : List ℕ) (lx : length x ≡ length w) (v : Visited w x c m) where
-      S′ : List ℕ
-      S′ = seen-of x (m + 1)
+-- The visit of entry e made a node.
+pub record Visiting (w x : List ℕ) (d c n m e : ℕ) : Type 0 where
+  pub from : At-entry w d c n m e
+  pub new : false ≡ seen-at w e
+  pub more : m < most-visits
+  pub made : Visited w x c m
+  pub len : length x ≡ length w
 
-      B′ : List Bool
-      B′ = node-bits x (m + 1)
+module _ {w x : List ℕ} {d c n m e : ℕ} (u : Visiting w x d c n m e) where
+  here : Here w d c n m
+  here = u .from .here
 
-      links-x : Links x
-      links-x = low-links w x (ok .links) (v .low) lx
+  v : Visited w x c m
+  v = u .made
 
-      tops-x : Tops x d
-      tops-x = low-tops w x d (v .low) (ok .tops)
+  S′ : List ℕ
+  S′ = seen-of x (m + 1)
 
-      paths-x : PathsOK x (m + 1) n
-      paths-x i l =
-          let f = few w d c n m ok hc in
-          let p : PathOK w m i = ok .paths i l in
-          let a : node-at x i ≡ node-at w i = v .high (PATHS + 3 * i) (omega arith) in
-          let b : place-at x i ≡ place-at w i = v .high (PATHS + 3 * i + 1) (omega arith) in
-          let q : extra-at x i ≡ extra-at w i = v .high (PATHS + 3 * i + 2) (omega arith) in
-          record { node = omega (arith, p .node); entry = rw (b, q) (p .entry); stack = rw (b, q) (p .stack) }
+  B′ : List Bool
+  B′ = node-bits x (m + 1)
 
-      trails-x : trails-of x n ≡ trails-of w n
-      unfolding trails-of trail-of
-      trails-x = tabulate-same n (trail-of w) (trail-of x) (λ i l.
-          rw (v .high (PATHS + 3 * i) (omega arith), v .high (PATHS + 3 * i + 1) (omega arith), v .high (PATHS + 3 * i + 2) (omega arith))
-          (ap (λ (b : List Bool). trail (extra-at w i) b (place-at w i)) (v .older (node-at w i) (ok .paths i l .node))))
+  pub visit-low : e < ENTRIES
+  visit-low = entry-low (u .from)
 
-      count-x : count-at x e ≡ count-at w e
-      unfolding e
-      count-x = v .low (COUNTS + place-at w c / 2) (omega (arith, entry-low))
+  pub visit-links : Links x
+  visit-links = low-links w x (here .ok .links) (v .low) (u .len)
 
-      -- Room for the parents of the entry.
-      spare : n + count-at w e + unseen (count-at w) (e ∷ seen) ENTRIES ≤ 2049 + m
-      unfolding e seen
-      spare = omega (arith, ok .room, unseen-visit (count-at w) (seen-of w m) (place-at w c / 2) ENTRIES entry-low not-member)
+  tops-x : Tops x d
+  tops-x = low-tops w x d (v .low) (here .ok .tops)
 
-      step-visit : step P S seen (trail-of w c) ≡ moves (upward S′ B′ (parents-of x e)) (sideward B′ (distance e (stack-of x d))) S′
-      unfolding e P S seen B S′ B′
-      step-visit =
-          step-at ∙ cond-false _ _ _ not-member ∙ cond-true _ _ _ (lt-ltb (length (seen-of w m)) most-visits (omega (arith, length-seen w m)))
-          ∙ rw (v .seen, v .bits, stack-same w x d (v .low) (ok .tops .deep), low-links-of w x (ok .links) (v .low) lx (place-at w c / 2) entry-low, parents-are w (place-at w c / 2) (ok .links) entry-low)
+  paths-x : PathsOK x (m + 1) n
+  paths-x i l =
+      let f = few (here .ok) in
+      let p : PathOK w m i = here .ok .paths i l in
+      let a : node-at x i ≡ node-at w i = v .high (PATHS + 3 * i) (omega arith) in
+      let b : place-at x i ≡ place-at w i = v .high (PATHS + 3 * i + 1) (omega arith) in
+      let q : extra-at x i ≡ extra-at w i = v .high (PATHS + 3 * i + 2) (omega arith) in
+      record { node = omega (arith, p .node); entry = rw (b, q) (p .entry); stack = rw (b, q) (p .stack) }
 
-      pub visit-asks : (k : ℕ) → k < count-at x (place-at w c / 2)
-          → (Links x × Tops x d × Nodes x (m + 1) × PathsOK x (m + 1) n) × (c < n × place-at w c / 2 < ENTRIES × k < count-at x (place-at w c / 2) × n + (count-at x (place-at w c / 2) - k) ≤ MOST-PATHS)
-      unfolding e
-      visit-asks k h = ((links-x, tops-x, v .nodes, paths-x), (hc, entry-low, h, omega (arith, spare, count-x)))
+  trails-x : trails-of x n ≡ trails-of w n
+  unfolding trails-of trail-of
+  trails-x = tabulate-same n (trail-of w) (trail-of x) (λ i l.
+      rw (v .high (PATHS + 3 * i) (omega arith), v .high (PATHS + 3 * i + 1) (omega arith), v .high (PATHS + 3 * i + 2) (omega arith))
+      (ap (λ (b : List Bool). trail (extra-at w i) b (place-at w i)) (v .older (node-at w i) (here .ok .paths i l .node))))
 
-      pub visit-asks-2 : (Links x × Tops x d × Nodes x (m + 1) × PathsOK x (m + 1) n) × (c < n × place-at w c / 2 < ENTRIES × n < MOST-PATHS)
-      visit-asks-2 = ((links-x, tops-x, v .nodes, paths-x), (hc, entry-low, omega (arith, few w d c n m ok hc)))
+  seen-x : seen-of x (m + 1) ≡ e ∷ seen-of w m
+  seen-x = rw (u .from .is) (v .seen)
 
-      module _ (k : ℕ) (f : FirstUnseen x (place-at w c / 2) k) (y : List ℕ) (ly : length y ≡ length x) (n′ : ℕ) where
-        e-low : e < ENTRIES
-        unfolding e
-        e-low = entry-low
+  count-x : count-at x e ≡ count-at w e
+  count-x = v .low (COUNTS + e) (omega (arith, visit-low))
 
-        link-low : (j : ℕ) → j < count-at x e → at x (PARENTS + e * 100 + j) / 2 < ENTRIES
-        link-low j l = omega (arith, links-x .links e j e-low l)
+  -- Room for the parents of the entry.
+  spare : n + count-at w e + unseen (count-at w) (e ∷ seen-of w m) ENTRIES ≤ 2049 + m
+  unfolding seen
+  spare = omega (arith, here .ok .room, unseen-visit (count-at w) (seen-of w m) e ENTRIES visit-low (not-member (u .from) (u .new)))
 
-        skipped : upward S′ B′ (parents-of x e) ≡ upward S′ B′ (drop k (parents-of x e))
-        unfolding e S′
-        skipped =
-            let b = f .within in up-skip x (place-at w c / 2) links-x e-low S′ B′ k b
-            (λ j l. sym (v .nodes .marks _ (link-low j (omega arith))) ∙ f .passed j l)
+  step-visit : step (parents-of-all w) (stack-of w d) (seen-of w m) (trail-of w c)
+      ≡ moves (upward S′ B′ (parents-of x e)) (sideward B′ (distance e (stack-of x d))) S′
+  unfolding P S seen B stepped S′ B′
+  step-visit =
+      let l : m < most-visits = u .more in
+      step-at (u .from) ∙ cond-false _ _ _ (not-member (u .from) (u .new))
+      ∙ cond-true _ _ _ (lt-ltb (length (seen-of w m)) most-visits (omega (arith, length-seen w m)))
+      ∙ rw (seen-x, v .bits, stack-same w x d (v .low) (here .ok .tops .deep), low-links-of w x (here .ok .links) (v .low) (u .len) e visit-low, parents-are w e (here .ok .links) visit-low)
 
-        -- The words are sound again, after the list was changed.
-        sound-y : (list : List Trail) → Relisted x y (m + 1) n′ list → n′ ≤ n + count-at w e + 1 → Working y d n′ (m + 1)
-        unfolding e seen
-        sound-y list r b = record {
-          links = re-links x y (m + 1) (r .low) ly links-x;
-          tops = re-tops x y (m + 1) (r .low) ly d tops-x;
-          nodes = re-nodes x y (m + 1) (r .low) ly (v .nodes);
-          paths = r .paths;
-          room =
-              rw (low-seen x y (m + 1) (v .nodes) (r .low), v .seen, unseen-same (count-at w) (count-at y) (place-at w c / 2 ∷ seen-of w m) ENTRIES (λ j l. r .low (COUNTS + j) (omega arith) ∙ v .low (COUNTS + j) (omega arith))) (omega (arith, spare));
-        }
+  pub visit-asks : {k : ℕ} → k < count-at x e
+      → (Links x × Tops x d × Nodes x (m + 1) × PathsOK x (m + 1) n) × (c < n × e < ENTRIES × k < count-at x e × n + (count-at x e - k) ≤ MOST-PATHS)
+  visit-asks h = let l : m < most-visits = u .more in
+      ((visit-links, tops-x, v .nodes, paths-x), (here .slot, visit-low, h, omega (arith, spare, count-x)))
 
-        kept-y : (list : List Trail) → Relisted x y (m + 1) n′ list → Kept w y
-        kept-y list r = record { low = λ j l. r .low j (omega arith) ∙ v .low j l; high = λ j l. r .high j l ∙ v .high j (omega arith) }
+  pub visit-asks-2 : (Links x × Tops x d × Nodes x (m + 1) × PathsOK x (m + 1) n) × (c < n × e < ENTRIES × n < MOST-PATHS)
+  visit-asks-2 = ((visit-links, tops-x, v .nodes, paths-x), (here .slot, visit-low, omega (arith, few (here .ok))))
 
-        length-side : (o : Option ℕ) → length (sideward B′ o) ≤ 1
-        length-side none = omega arith
-        length-side (some q) = omega arith
+  module _ {k : ℕ} (f : FirstUnseen x e k) where
+    link-low : (j : ℕ) → j < count-at x e → at x (PARENTS + e * 100 + j) / 2 < ENTRIES
+    link-low j l = omega (arith, visit-links .links e j visit-low l)
 
-        pub visit-up : k < count-at x (place-at w c / 2)
-            → Relisted x y (m + 1) n′
-            (set (trails-of x n) c (trail 0 (node-bits x (m + 1)) (at x (PARENTS + place-at w c / 2 * 100 + k))) ++ (upward (seen-of x (m + 1)) (node-bits x (m + 1)) (drop (k + 1) (parents-of x (place-at w c / 2))) ++ sideward (node-bits x (m + 1)) (distance (place-at w c / 2) (stack-of x d))))
-            → Steps w y d c n m (On (c + 1) (search-of n′ (m + 1) d))
-        unfolding e P S seen S′ B′
-        visit-up h r =
-            let q : Trail = trail 0 (node-bits x (m + 1)) (at x (PARENTS + place-at w c / 2 * 100 + k)) in
-            let up : List Trail = upward (seen-of x (m + 1)) (node-bits x (m + 1)) (drop (k + 1) (parents-of x (place-at w c / 2))) in
-            let side : List Trail = sideward (node-bits x (m + 1)) (distance (place-at w c / 2) (stack-of x d)) in
-            let s : step P S seen (trail-of w c) ≡ stays q (up ++ side) (seen-of x (m + 1)) =
-            step-visit ∙ ap (λ (l : List Trail). moves l side (seen-of x (m + 1)))
-            (skipped ∙ up-new x (place-at w c / 2) links-x e-low S′ B′ k h (sym (v .nodes .marks _ (link-low k h)) ∙ f .stands h)) in
-            let few-up : length up ≤ count-at w (place-at w c / 2) - (k + 1) =
-            omega (arith, length-upward S′ B′ (drop (k + 1) (parents-of x (place-at w c / 2))), length-drop (k + 1) (parents-of x (place-at w c / 2)), length-links x (place-at w c / 2) links-x e-low, count-x) in
-            let b : n′ ≤ n + count-at w (place-at w c / 2) + 1 =
-            omega (arith, length-trails y n′, ap length (r .trails), length-append (set (trails-of x n) c q) (up ++ side), length-append up side, length-set (trails-of x n) c q, length-trails x n, length-side (distance (place-at w c / 2) (stack-of x d))) in
-            turned-stays w d c n m ok hc y n′ (m + 1) (sound-y _ r b) (kept-y _ r) (ly ∙ lx) q (up ++ side) (seen-of x (m + 1)) s
-            (r .trails ∙ ap (λ (l : List Trail). set l c q ++ (up ++ side)) trails-x)
-            (low-seen x y (m + 1) (v .nodes) (r .low))
+    skipped : upward S′ B′ (parents-of x e) ≡ upward S′ B′ (drop k (parents-of x e))
+    unfolding S′
+    skipped =
+        let b = f .within in
+        up-skip x e visit-links visit-low S′ B′ k b (λ j l. sym (v .nodes .marks _ (link-low j (omega arith))) ∙ f .passed j l)
 
-        pub visit-off : count-at x (place-at w c / 2) ≤ k
-            → Relisted x y (m + 1) n′
-            (swap-remove (trails-of x n ++ sideward (node-bits x (m + 1)) (distance (place-at w c / 2) (stack-of x d))) c (trail-of x c))
-            → Steps w y d c n m (On c (search-of n′ (m + 1) d))
-        unfolding e P S seen S′ B′
-        visit-off h r =
-            let side : List Trail = sideward (node-bits x (m + 1)) (distance (place-at w c / 2) (stack-of x d)) in
-            let s : step P S seen (trail-of w c) ≡ dropped side (seen-of x (m + 1)) =
-            step-visit ∙ ap (λ (l : List Trail). moves l side (seen-of x (m + 1))) (skipped ∙ up-end x (place-at w c / 2) links-x e-low S′ B′ k h) in
-            let hx : trail-of x c ≡ trail-of w c =
-            sym (at-trails x n c (trail-of w c) hc) ∙ ap (λ (l : List Trail). getD l c (trail-of w c)) trails-x ∙ at-trails w n c (trail-of w c) hc in
-            let t : trails-of y n′ ≡ swap-remove (trails-of w n ++ side) c (trail-of w c) =
-            r .trails ∙ ap₂ {C = List Trail} (λ l p. swap-remove (l ++ side) c p) trails-x hx in
-            let b : n′ ≤ n + count-at w (place-at w c / 2) + 1 =
-            omega (arith, length-trails y n′, ap length t, length-trails w n, length-side (distance (place-at w c / 2) (stack-of x d)), swapped-length (trails-of w n ++ side) c (trail-of w c), length-append (trails-of w n) side) in
-            turned-dropped w d c n m ok hc y n′ (m + 1) (sound-y _ r b) (kept-y _ r) (ly ∙ lx) side (seen-of x (m + 1)) s t
-            (low-seen x y (m + 1) (v .nodes) (r .low))
+    module _ {y : List ℕ} {n′ : ℕ} (ly : length y ≡ length x) where
+      -- The words are sound again, after the list was changed.
+      sound-y : {list : List Trail} → Relisted x y (m + 1) n′ list → n′ ≤ n + count-at w e + 1 → Working y d n′ (m + 1)
+      sound-y r b = record {
+        links = re-links x y (m + 1) (r .low) ly visit-links;
+        tops = re-tops x y (m + 1) (r .low) ly d tops-x;
+        nodes = re-nodes x y (m + 1) (r .low) ly (v .nodes);
+        paths = r .paths;
+        room =
+            rw (
+              low-seen x y (m + 1) (v .nodes) (r .low),
+              seen-x,
+              unseen-same (count-at w) (count-at y) (e ∷ seen-of w m) ENTRIES
+                  (λ j l. r .low (COUNTS + j) (omega arith) ∙ v .low (COUNTS + j) (omega arith)),
+            ) (omega (arith, spare));
+      }
+
+      kept-y : {list : List Trail} → Relisted x y (m + 1) n′ list → Kept w y
+      kept-y r = record { low = λ j l. r .low j (omega arith) ∙ v .low j l; high = λ j l. r .high j l ∙ v .high j (omega arith) }
+
+      pub visit-up : k < count-at x e
+          → Relisted x y (m + 1) n′
+          (set (trails-of x n) c (trail 0 (node-bits x (m + 1)) (at x (PARENTS + e * 100 + k))) ++ (copies x (m + 1) e (k + 1) ++ stacked x (m + 1) e d))
+          → Steps w y d c n m (On (c + 1) (search-of n′ (m + 1) d))
+      unfolding S′ B′
+      visit-up h r =
+          let q : Trail = trail 0 (node-bits x (m + 1)) (at x (PARENTS + e * 100 + k)) in
+          let up : List Trail = copies x (m + 1) e (k + 1) in
+          let side : List Trail = stacked x (m + 1) e d in
+          let s : step (parents-of-all w) (stack-of w d) (seen-of w m) (trail-of w c) ≡ stays q (up ++ side) (seen-of x (m + 1)) =
+          step-visit ∙ ap (λ (l : List Trail). moves l side (seen-of x (m + 1)))
+          (skipped ∙ up-new x e visit-links visit-low S′ B′ k h (sym (v .nodes .marks _ (link-low k h)) ∙ f .stands h)) in
+          let few-up : length up ≤ count-at w e - (k + 1) =
+          omega (arith, length-upward S′ B′ (drop (k + 1) (parents-of x e)), length-drop (k + 1) (parents-of x e), length-links x e visit-links visit-low, count-x) in
+          let b : n′ ≤ n + count-at w e + 1 =
+          omega (
+            arith,
+            length-trails y n′,
+            ap length (r .trails),
+            length-append (set (trails-of x n) c q) (up ++ side),
+            length-append up side,
+            length-set (trails-of x n) c q,
+            length-trails x n,
+            length-sideward B′ (distance e (stack-of x d)),
+          ) in
+          turned-stays here (sound-y r b) (kept-y r) (ly ∙ u .len) s
+          (r .trails ∙ ap (λ (l : List Trail). set l c q ++ (up ++ side)) trails-x)
+          (low-seen x y (m + 1) (v .nodes) (r .low))
+
+      pub visit-off : count-at x e ≤ k → Relisted x y (m + 1) n′ (swap-remove (trails-of x n ++ stacked x (m + 1) e d) c (trail-of x c))
+          → Steps w y d c n m (On c (search-of n′ (m + 1) d))
+      unfolding S′ B′
+      visit-off h r =
+          let side : List Trail = stacked x (m + 1) e d in
+          let s : step (parents-of-all w) (stack-of w d) (seen-of w m) (trail-of w c) ≡ dropped side (seen-of x (m + 1)) =
+          step-visit ∙ ap (λ (l : List Trail). moves l side (seen-of x (m + 1))) (skipped ∙ up-end x e visit-links visit-low S′ B′ k h) in
+          let hx : trail-of x c ≡ trail-of w c =
+          sym (at-trails x n c (trail-of w c) (here .slot)) ∙ ap (λ (l : List Trail). getD l c (trail-of w c)) trails-x
+          ∙ at-trails w n c (trail-of w c) (here .slot) in
+          let t : trails-of y n′ ≡ swap-remove (trails-of w n ++ side) c (trail-of w c) =
+          r .trails ∙ ap₂ {C = List Trail} (λ l p. swap-remove (l ++ side) c p) trails-x hx in
+          let b : n′ ≤ n + count-at w e + 1 =
+          omega (
+            arith,
+            length-trails y n′,
+            ap length t,
+            length-trails w n,
+            length-sideward B′ (distance e (stack-of x d)),
+            swapped-length (trails-of w n ++ side) c (trail-of w c),
+            length-append (trails-of w n) side,
+          ) in
+          turned-dropped here (sound-y r b) (kept-y r) (ly ∙ u .len) s t (low-seen x y (m + 1) (v .nodes) (r .low))

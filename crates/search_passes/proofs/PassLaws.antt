@@ -83,8 +83,7 @@ module _ {w₀ w : List ℕ} {L : ℕ} {s₀ : Search} {c : ℕ} {s : Search} (k
             within = omega arith;
             longer = tt;
             least =
-                subst (λ (j : ℕ). All (AtLeast j) (trails-of w (s .paths))) (sym (add-one L))
-                (all-longer (parents-of-all w) (stack-of w (s .depth)) L (trails-of w (s .paths)) c (seen-of w (s .nodes)) b (k .mid));
+                subst (λ (j : ℕ). All (AtLeast j) (trails-of w (s .paths))) (sym (add-one L)) (all-longer b (k .mid));
           },
           k .deep,
         );

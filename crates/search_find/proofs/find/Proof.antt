@@ -18,7 +18,10 @@ unfolding handle-of
 named x = sym (x .before .before .before .same .ensures) ∙ x .before .before .if1 .left
 
 -- The entry is marked.
-marked : (x : tie.After-length-at) → marked-at (x .before .before .before .before .before .before .before .before .args .work .now) (x .before .before .before .before .before .before .before .before .args .e .0) ≡ true
+abbrev start : tie.After-length-at → tie.Start
+start x = x .before .before .before .before .before .before .before .before
+
+marked : (x : tie.After-length-at) → marked-at (start x .args .work .now) (start x .args .e .0) ≡ true
 marked x = sym (x .before .before .before .is-marked .ensures) ∙ not-false (x .before .before .before .is-marked .result) (x .before .before .if2 .left)
 
 same-requires : tie.Need-same-requires
@@ -52,7 +55,7 @@ same-length-2 c = search needs
 returns-3 : tie.Need-returns-3
 returns-3 c =
     let x = c .before in
-    let s = x .before .before .before .before .before .before .before .before in
+    let s = start x in
     finds-short (s .args .work .now) (s .args .depth) (s .args .node .0) (s .args .e .0) (named (x .before .before .before)) (s .pre .3) (marked x)
     (x .length-at .result) (x .length-at .ensures) (c .if3 .taken)
 
@@ -68,7 +71,7 @@ returns-4 : tie.Need-returns-4
 returns-4 c =
     let p = c .before .before .find-path in
     let x = c .before .before .before .before .before in
-    let s = x .before .before .before .before .before .before .before .before in
+    let s = start x in
     finds-path (s .args .work .now) (p .last .0) (s .args .depth) (s .args .node .0) (s .args .e .0) (x .length-at .result) (p .result) (s .pre .0 .sound)
     (named (x .before .before .before)) (s .pre .3) (marked x) (x .length-at .ensures) (c .before .before .before .before .if3 .left) (p .ensures)
 

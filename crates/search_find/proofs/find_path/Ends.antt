@@ -58,35 +58,35 @@ counted-is bits h =
 -- ---- the code's cases
 
 module _ (n : ℕ) where
-  k : ℕ
+  abbrev k : ℕ
   k = (n + 7) / 8
 
-  pub counted-empty : (n + 7) / 8 ≡ 0 → 1 ≡ counted-of n
-  counted-empty h = sym (cond-true _ _ _ (eq-eqb ((n + 7) / 8) 0 h))
+  pub counted-empty : k ≡ 0 → 1 ≡ counted-of n
+  counted-empty h = sym (cond-true _ _ _ (eq-eqb k 0 h))
 
   pub counted-full : n ≡ 8 → 2 ≡ counted-of n
   counted-full h = rw h
 
-  pub counted-one : (n + 7) / 8 ≡ 1 → (n ≡ 8 → ⊥) → 1 ≡ counted-of n
+  pub counted-one : k ≡ 1 → (n ≡ 8 → ⊥) → 1 ≡ counted-of n
   counted-one h d =
       let q : eqb (n % 8) 0 ≡ false = ne-eqb (n % 8) 0 (λ e. d (omega arith)) in
       rw (h, q)
 
-  other : ((n + 7) / 8 ≡ 0 → ⊥) → ((n + 7) / 8 ≡ 1 → ⊥) → counted-of n
-      ≡ cond (ltb ((n + 7) / 8) 64) (1 + (n + 7) / 8)
-      (cond (ltb ((n + 7) / 8) 512) (2 + (n + 7) / 8) (cond (ltb ((n + 7) / 8) 1048576) (3 + (n + 7) / 8) (cond (ltb ((n + 7) / 8) 16777216) (5 + (n + 7) / 8) (cond (ltb ((n + 7) / 8) 134217728) (4 + (n + 7) / 8) (5 + (n + 7) / 8)))))
-  other a b = cond-false _ _ _ (ne-eqb ((n + 7) / 8) 0 a) ∙ cond-false _ _ _ (ne-eqb ((n + 7) / 8) 1 b)
+  other : (k ≡ 0 → ⊥) → (k ≡ 1 → ⊥) → counted-of n
+      ≡ cond (ltb k 64) (1 + k)
+      (cond (ltb k 512) (2 + k) (cond (ltb k 1048576) (3 + k) (cond (ltb k 16777216) (5 + k) (cond (ltb k 134217728) (4 + k) (5 + k)))))
+  other a b = cond-false _ _ _ (ne-eqb k 0 a) ∙ cond-false _ _ _ (ne-eqb k 1 b)
 
-  pub counted-short : ((n + 7) / 8 ≡ 0 → ⊥) → ((n + 7) / 8 ≡ 1 → ⊥) → (n + 7) / 8 < 64 → (n + 7) / 8 + 1 ≡ counted-of n
-  counted-short a b c = omega (arith, other a b ∙ cond-true _ _ _ (lt-ltb ((n + 7) / 8) 64 c))
+  pub counted-short : (k ≡ 0 → ⊥) → (k ≡ 1 → ⊥) → k < 64 → k + 1 ≡ counted-of n
+  counted-short a b c = omega (arith, other a b ∙ cond-true _ _ _ (lt-ltb k 64 c))
 
-  pub counted-mid : ((n + 7) / 8 ≡ 0 → ⊥) → ((n + 7) / 8 ≡ 1 → ⊥) → 64 ≤ (n + 7) / 8 → (n + 7) / 8 < 512 → (n + 7) / 8 + 2 ≡ counted-of n
-  counted-mid a b c d = omega (arith, other a b ∙ cond-false _ _ _ (le-ltb ((n + 7) / 8) 64 c) ∙ cond-true _ _ _ (lt-ltb ((n + 7) / 8) 512 d))
+  pub counted-mid : (k ≡ 0 → ⊥) → (k ≡ 1 → ⊥) → 64 ≤ k → k < 512 → k + 2 ≡ counted-of n
+  counted-mid a b c d = omega (arith, other a b ∙ cond-false _ _ _ (le-ltb k 64 c) ∙ cond-true _ _ _ (lt-ltb k 512 d))
 
-  pub counted-long : ((n + 7) / 8 ≡ 0 → ⊥) → ((n + 7) / 8 ≡ 1 → ⊥) → 64 ≤ (n + 7) / 8 → 512 ≤ (n + 7) / 8 → (n + 7) / 8 < 1048576
-      → (n + 7) / 8 + 3 ≡ counted-of n
+  pub counted-long : (k ≡ 0 → ⊥) → (k ≡ 1 → ⊥) → 64 ≤ k → 512 ≤ k → k < 1048576
+      → k + 3 ≡ counted-of n
   counted-long a b c d f =
-      omega (arith, other a b ∙ cond-false _ _ _ (le-ltb ((n + 7) / 8) 64 c) ∙ cond-false _ _ _ (le-ltb ((n + 7) / 8) 512 d) ∙ cond-true _ _ _ (lt-ltb ((n + 7) / 8) 1048576 f))
+      omega (arith, other a b ∙ cond-false _ _ _ (le-ltb k 64 c) ∙ cond-false _ _ _ (le-ltb k 512 d) ∙ cond-true _ _ _ (lt-ltb k 1048576 f))
 
 -- ---- the whole
 

@@ -33,11 +33,14 @@ wide-requires-3 c κs = search needs
 
 add-result : tie.Need-add-result
 add-result c =
-    omega (arith, c .before .before .before .shared-slice-known2 .given (LENS + c .before .before .before .before .wide .result), c .before .before .wide2 .ensures, c .wide3 .ensures, c .before .extra-of .ok)
+    let b = c .before .before in
+    omega (arith, b .before .shared-slice-known2 .given (LENS + b .before .before .wide .result), b .wide2 .ensures, c .wide3 .ensures, c .before .extra-of .ok)
 
 returns : tie.Need-returns
 returns c =
-    rw (c .wide3 .ensures, c .before .before .wide2 .ensures, c .before .before .before .before .wide .ensures, c .before .before .before .before .before .node-of .ensures, c .before .extra-of .ensures)
+    let b = c .before .before in
+    let a = b .before .before in
+    rw (c .wide3 .ensures, b .wide2 .ensures, a .wide .ensures, a .before .node-of .ensures, c .before .extra-of .ensures)
 
 pub size-of-spec : {M : Type 1} → statement M
 size-of-spec =

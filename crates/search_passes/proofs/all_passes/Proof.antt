@@ -14,10 +14,13 @@ Inv-loop work₀ e len d limit l₀ s₀ work l s = Searching work₀ work d e l
 abbrev μ-loop : tie.MeasureT-loop
 μ-loop work₀ e len d limit l₀ s₀ work l s = limit + 1 - l
 
--- What is known after the start.
-begun : (x : tie.After-start Inv-loop μ-loop) → Begun (x .before .before .before .before .args .work .now) (x .start .last .0) (x .before .before .before .before .args .depth) (x .before .before .before .before .args .e)
+-- The call, and what is known after the start.
+abbrev call : tie.After-start Inv-loop μ-loop → tie.Start Inv-loop μ-loop
+call x = x .before .before .before .before
+
+begun : (x : tie.After-start Inv-loop μ-loop) → Begun (call x .args .work .now) (x .start .last .0) (call x .args .depth) (call x .args .e)
 begun x =
-    let p = x .before .before .before .before .pre in
+    let p = call x .pre in
     record { links = p .0; tops = p .1; few = p .2; started = x .start .ensures; len = x .start .kept .0 }
 
 limit-of-requires : tie.Need-limit-of-requires Inv-loop μ-loop
@@ -47,7 +50,9 @@ enum-known-i : tie.Need-enum-known-i Inv-loop μ-loop
 enum-known-i c = search needs
 
 same-length-2 : tie.Need-same-length-2 Inv-loop μ-loop
-same-length-2 c = let k = c .before .before .before .before .before .before .before .before .before .before in c .before .before .before .before .before .pass .kept .0 ∙ k .loop .inv .len ∙ k .before .before .before .start .kept .0
+same-length-2 c =
+    let k = c .before .before .before .before .before .before .before .before .before .before in
+    c .before .before .before .before .before .pass .kept .0 ∙ k .loop .inv .len ∙ k .before .before .before .start .kept .0
 
 returns-2 : tie.Need-returns-2 Inv-loop μ-loop
 returns-2 c =
@@ -61,7 +66,9 @@ enum-told : tie.Need-enum-told Inv-loop μ-loop
 enum-told c = search needs
 
 same-length-3 : tie.Need-same-length-3 Inv-loop μ-loop
-same-length-3 c = let k = c .before .before .before .before .before .before .before .before .before in c .before .before .before .before .pass .kept .0 ∙ k .loop .inv .len ∙ k .before .before .before .start .kept .0
+same-length-3 c =
+    let k = c .before .before .before .before .before .before .before .before .before in
+    c .before .before .before .before .pass .kept .0 ∙ k .loop .inv .len ∙ k .before .before .before .start .kept .0
 
 returns-3 : tie.Need-returns-3 Inv-loop μ-loop
 returns-3 c =
@@ -72,7 +79,9 @@ returns-3 c =
     (rw (c .enum-told .given .1) at (p .ensures))
 
 add-l : tie.Need-add-l Inv-loop μ-loop
-add-l c = let t = c .before .before .before .before .before .before .before .before .before in omega (arith, t .loop-test .taken, t .before .before .before .before .before .before .limit-of .ensures .most)
+add-l c =
+    let t = c .before .before .before .before .before .before .before .before .before in
+    omega (arith, t .loop-test .taken, t .before .before .before .before .before .before .limit-of .ensures .most)
 
 loop-less : tie.Need-loop-less Inv-loop μ-loop
 loop-less c = omega (arith, c .before .before .before .before .before .before .before .before .before .loop-test .taken)
@@ -81,7 +90,8 @@ loop-again : tie.Need-loop-again Inv-loop μ-loop
 loop-again c =
     let p = c .before .before .before .before .before .pass in
     let t = c .before .before .before .before .before .before .before .before .before in
-    search-more (begun (t .before .before .before .before)) (t .before .loop .inv) (t .loop-test .taken) (c .before .before .before .before .before .before .before .if1 .left) (p .kept .0) (rw (c .before .next .given .1) at (p .ensures))
+    search-more (begun (t .before .before .before .before)) (t .before .loop .inv) (t .loop-test .taken) (c .before .before .before .before .before .before .before .if1 .left) (p .kept .0)
+    (rw (c .before .next .given .1) at (p .ensures))
 
 same-length-4 : tie.Need-same-length-4 Inv-loop μ-loop
 same-length-4 c = c .before .loop .inv .len ∙ c .before .before .before .before .start .kept .0

@@ -44,7 +44,8 @@ wide-requires c κs = search needs
 returns-4 : tie.Need-returns-4
 returns-4 c =
     let s = c .before .before .before .before .before .before .before in rw (c .wide .ensures)
-    (read-node (s .args .work .now) (s .args .x) (s .args .a) (s .pre .1) (omega (arith, c .before .before .before .before .if2 .left, c .before .before .before .before .before .if1 .left)) (c .before .before .before .if3 .left))
+    (read-node (s .args .work .now) (s .args .x) (s .args .a) (s .pre .1)
+    (omega (arith, c .before .before .before .before .if2 .left, c .before .before .before .before .before .if1 .left)) (c .before .before .before .if3 .left))
 
 pub next-bit-spec : {M : Type 1} → statement M
 next-bit-spec =

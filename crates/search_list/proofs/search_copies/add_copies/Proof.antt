@@ -1,8 +1,9 @@
 -- `search_list::search_copies::add_copies` meets its contract: after i parents the list has a path for each unseen one among them.
 -- Assumes nothing.
 use Rattle.search_list.proofs.Copies.{copying-asks, Copying, copying-start, copying-more, copying-end}
-use Prim.Native.Nat.{_-_}
+use Prim.Native.Nat.{_-_, _<_}
 use native.Mathlib.Omega.{arith}
+use Rattle.search_list.specs.State.{count-at}
 use Rattle.search_list.proofs.search_copies.add_copies.Statement.{statement}
 use Rattle.search_list.proofs.search_copies.add_copies.Tie as tie
 
@@ -11,6 +12,10 @@ Inv-loop work₀ e first s all paths₀ i₀ work paths i = Copying work₀ work
 
 abbrev μ-loop : tie.MeasureT-loop
 μ-loop work₀ e first s all paths₀ i₀ work paths i = all - i
+
+-- The parent of this turn is one of the entry's.
+next : (x : tie.In-loop Inv-loop μ-loop) → x .before .loop .i < count-at (x .before .before .before .before .before .args .work .now) (x .before .before .before .before .before .args .e)
+next x = omega (arith, x .loop-test .taken, x .before .before .count-of .ensures)
 
 count-of-requires : tie.Need-count-of-requires Inv-loop μ-loop
 count-of-requires c κs = (c .before .before .pre .0 .0 .long, c .before .before .pre .1 .0)
@@ -31,7 +36,7 @@ add-copy-requires c κs =
 add-i : tie.Need-add-i Inv-loop μ-loop
 add-i c =
     let s = c .before .before .before .before .before .before .before .before .before in
-    omega (arith, c .before .before .before .before .loop-test .taken, c .before .before .before .before .before .before .count-of .ensures, s .pre .0 .0 .counts (s .args .e) (s .pre .1 .0))
+    omega (arith, next (c .before .before .before .before), s .pre .0 .0 .counts (s .args .e) (s .pre .1 .0))
 
 loop-less : tie.Need-loop-less Inv-loop μ-loop
 loop-less c = omega arith
@@ -42,8 +47,7 @@ loop-again c =
     let k = c .before .before .before .before .before .loop in
     let a = c .before .before .add-copy in
     copying-more (s .args .work .now) _ (a .last .0) (s .args .e) (s .args .s .nodes) (s .args .first) (s .args .s .paths) (k .paths) (a .result) (k .i)
-    (s .pre .0 .0) (s .pre .0 .1) (s .pre .1 .0) (k .inv) (omega (arith, c .before .before .before .before .loop-test .taken, c .before .before .before .before .before .before .count-of .ensures)) (a .kept .0)
-    (a .ensures)
+    (s .pre .0 .0) (s .pre .0 .1) (s .pre .1 .0) (k .inv) (next (c .before .before .before .before)) (a .kept .0) (a .ensures)
 
 same-length : tie.Need-same-length Inv-loop μ-loop
 same-length c = c .before .loop .inv .len

@@ -1,9 +1,11 @@
 -- `search_list::search_moves::first_unseen` meets its contract: every parent before it is seen.
 -- Assumes nothing.
 use Rattle.search_list.proofs.Copies.{Seeking, seeking-start, seeking-more, seeking-found, seeking-none}
-use Rattle.search_list.specs.State.{seen-at}
-use Prim.Native.Nat.{ℕ, _-_, _/_}
-use mathlib.Core.Path.{ap, sym, _∙_}
+use Rattle.words.specs.Words.{at}
+use Rattle.work_layout.specs.Layout.{PARENTS}
+use Rattle.search_list.specs.State.{seen-at, count-at}
+use Prim.Native.Nat.{ℕ, _+_, _*_, _-_, _/_, _<_}
+use mathlib.Core.Path.{_≡_, ap, sym, _∙_}
 use borrow.Author.Tests.{not-true, not-false}
 use borrow.Author.Needs.{needs}
 use native.Mathlib.Omega.{arith}
@@ -15,6 +17,19 @@ Inv-loop work e all i₀ i = Seeking work e i
 
 abbrev μ-loop : tie.MeasureT-loop
 μ-loop work e all i₀ i = all - i
+
+-- The parent of this turn is one of the entry's; and whether it is seen.
+next : (x : tie.In-loop Inv-loop μ-loop) → x .before .loop .i < count-at (x .before .before .before .before .args .work .now) (x .before .before .before .before .args .e)
+next x = omega (arith, x .loop-test .taken, x .before .before .count-of .ensures)
+
+abbrev start : tie.After-is-seen Inv-loop μ-loop → tie.Start Inv-loop μ-loop
+start x = x .before .before .before .before .before .before .before
+
+seen : (x : tie.After-is-seen Inv-loop μ-loop)
+    → seen-at (start x .args .work .now) (at (start x .args .work .now) (PARENTS + start x .args .e * 100 + x .before .before .before .before .loop .i) / 2) ≡ x .is-seen .result
+seen x =
+    ap (λ (z : ℕ). seen-at (start x .args .work .now) (z / 2)) (sym (x .before .wide .ensures ∙ x .before .before .parent-at .ensures))
+    ∙ sym (x .is-seen .ensures)
 
 count-of-requires : tie.Need-count-of-requires Inv-loop μ-loop
 count-of-requires c κs = (c .before .pre .0 .long, c .before .pre .1)
@@ -32,15 +47,16 @@ wide-requires c κs = search needs
 
 is-seen-requires : tie.Need-is-seen-requires Inv-loop μ-loop
 is-seen-requires c κs =
-    let s = c .before .before .before .before .before .before in
-    (s .pre .0 .long, omega (arith, c .wide .ensures, c .before .parent-at .ensures, s .pre .0 .links (s .args .e) (c .before .before .before .loop .i) (s .pre .1) (omega (arith, c .before .before .loop-test .taken, c .before .before .before .before .count-of .ensures))))
+    let t = c .before .before in
+    let s = t .before .before .before .before in
+    (s .pre .0 .long, omega (arith, c .wide .ensures, c .before .parent-at .ensures, s .pre .0 .links (s .args .e) (t .before .loop .i) (s .pre .1) (next t)))
 
 returns : tie.Need-returns Inv-loop μ-loop
 returns c =
     let s = c .before .before .before .before .before .before .before .before in
     let k = c .before .before .before .before .before .loop in
     seeking-found (s .args .work .now) (s .args .e) (k .i) (k .inv)
-    (ap (λ (z : ℕ). seen-at (s .args .work .now) (z / 2)) (sym (c .before .before .wide .ensures ∙ c .before .before .before .parent-at .ensures)) ∙ sym (c .before .is-seen .ensures) ∙ not-true _ (c .if1 .taken))
+    (seen (c .before) ∙ not-true _ (c .if1 .taken))
 
 add-i : tie.Need-add-i Inv-loop μ-loop
 add-i c = omega arith
@@ -53,8 +69,7 @@ loop-again c =
     let s = c .before .before .before .before .before .before .before .before in
     let k = c .before .before .before .before .before .loop in
     seeking-more (s .args .work .now) (s .args .e) (k .i) (k .inv)
-    (omega (arith, c .before .before .before .before .loop-test .taken, c .before .before .before .before .before .before .count-of .ensures))
-    (ap (λ (z : ℕ). seen-at (s .args .work .now) (z / 2)) (sym (c .before .before .wide .ensures ∙ c .before .before .before .parent-at .ensures)) ∙ sym (c .before .is-seen .ensures) ∙ not-false _ (c .if1 .left))
+    (next (c .before .before .before .before)) (seen (c .before) ∙ not-false _ (c .if1 .left))
 
 returns-2 : tie.Need-returns-2 Inv-loop μ-loop
 returns-2 c =

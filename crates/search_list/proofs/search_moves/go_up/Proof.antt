@@ -50,16 +50,18 @@ add-copies-requires c κs = up-asks (up (c .before .before .before))
 
 add-stacked-requires : tie.Need-add-stacked-requires
 add-stacked-requires c κs =
-    let y = c .before .before .before .add-copies in
-    up-asks-2 (up (c .before .before .before .before .before .before .before)) (y .ensures) (y .kept .0)
+    let y = c .before .before .before in
+    up-asks-2 (up (y .before .before .before .before)) (y .add-copies .ensures) (y .add-copies .kept .0)
 
 same-length : tie.Need-same-length
-same-length c = c .before .before .add-stacked .kept .0 ∙ c .before .before .before .before .before .before .add-copies .kept .0 ∙ c .before .before .before .before .before .before .before .before .before .before .put-path .kept .0
+same-length c =
+    let y = c .before .before .before .before .before .before in
+    c .before .before .add-stacked .kept .0 ∙ y .add-copies .kept .0 ∙ y .before .before .before .before .put-path .kept .0
 
 returns : tie.Need-returns
 returns c =
-    let y = c .before .before .before .before .before .before .add-copies in
-    up-done (up (c .before .before .before .before .before .before .before .before .before .before)) (y .ensures) (y .kept .0) (c .before .before .add-stacked .ensures)
+    let y = c .before .before .before .before .before .before in
+    up-done (up (y .before .before .before .before)) (y .add-copies .ensures) (y .add-copies .kept .0) (c .before .before .add-stacked .ensures)
 
 pub go-up-spec : {M : Type 1} → statement M
 go-up-spec =

@@ -1,7 +1,7 @@
 -- `search_passes::search_step::step_stack` meets its contract: at the top it is the result, elsewhere it goes one place up with a 1 more.
 -- Assumes nothing.
 use Rattle.search_list.specs.State.{MOST-PATHS}
-use Rattle.search_list.proofs.TurnLaws.{few, stack-result, stack-nearer}
+use Rattle.search_list.proofs.TurnLaws.{Here, few, stack-result, stack-nearer}
 use mathlib.Core.Path.{sym, _∙_}
 use Prim.Native.Nat.{_<_}
 use native.Mathlib.Omega.{arith}
@@ -9,11 +9,12 @@ use borrow.Author.Needs.{needs}
 use Rattle.search_passes.proofs.search_step.step_stack.Statement.{statement}
 use Rattle.search_passes.proofs.search_step.step_stack.Tie as tie
 
--- There is room for the path.
+-- The path that is stepped, and that there is room for it.
+here : (s : tie.Start) → Here (s .args .work .now) (s .args .s .depth) (s .args .slot) (s .args .s .paths) (s .args .s .nodes)
+here s = record { ok = s .pre .0; slot = s .pre .1 }
+
 low : (s : tie.Start) → s .args .slot < MOST-PATHS
-low s =
-    let a = s .args in
-    omega (arith, few (a .work .now) (a .s .depth) (a .slot) (a .s .paths) (a .s .nodes) (s .pre .0) (s .pre .1), s .pre .1)
+low s = omega (arith, few (s .pre .0), s .pre .1)
 
 place-of-requires : tie.Need-place-of-requires
 place-of-requires c κs = let s = c .before .before in (s .pre .0 .links .long, low s)
@@ -22,11 +23,7 @@ same-length : tie.Need-same-length
 same-length c = search needs
 
 returns : tie.Need-returns
-returns c =
-    let s = c .before .before .before .before in
-    let a = s .args in
-    stack-result (a .work .now) (a .s .depth) (a .slot) (a .s .paths) (a .s .nodes) (s .pre .0) (s .pre .1) (s .pre .2)
-    (sym (c .before .place-of .ensures) ∙ c .if1 .taken)
+returns c = let s = c .before .before .before .before in stack-result (here s) (s .pre .2) (sym (c .before .place-of .ensures) ∙ c .if1 .taken)
 
 node-of-requires : tie.Need-node-of-requires
 node-of-requires c κs = let s = c .before .before .before .before .before in (s .pre .0 .links .long, low s)
@@ -57,9 +54,7 @@ returns-2 c =
     let x = c .before .before .before .before in
     let v = x .before .before .before .before .before in
     let s = v .before .before .before in
-    let a = s .args in
-    stack-nearer (a .work .now) (a .s .depth) (a .slot) (a .s .paths) (a .s .nodes) (s .pre .0) (s .pre .1) (s .pre .2) (p .last .0)
-    (λ z. x .before .before .before .before .if1 .left (v .place-of .ensures ∙ z)) (p .kept .0)
+    stack-nearer (here s) (s .pre .2) (λ z. x .before .before .before .before .if1 .left (v .place-of .ensures ∙ z)) (p .kept .0)
     (rw (x .before .before .node-of .ensures, v .place-of .ensures, x .extra-of .ensures) at (p .ensures))
 
 pub step-stack-spec : {M : Type 1} → statement M

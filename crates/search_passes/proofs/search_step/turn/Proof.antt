@@ -1,6 +1,6 @@
 -- `search_passes::search_step::turn` meets its contract: a path of more than l bits is passed over, any other is stepped.
 -- Assumes nothing.
-use Rattle.search_list.proofs.TurnLaws.{few, turned-over}
+use Rattle.search_list.proofs.TurnLaws.{Here, few, turned-over}
 use Rattle.search_list.proofs.Trails.{size-of}
 use Rattle.search_list.specs.State.{trail-of}
 use Rattle.spec_search.specs.Lists.{size}
@@ -10,7 +10,10 @@ use borrow.Author.Needs.{needs}
 use Rattle.search_passes.proofs.search_step.turn.Statement.{statement}
 use Rattle.search_passes.proofs.search_step.turn.Tie as tie
 
--- The path's bits are counted.
+-- The path at the cursor; and its bits, counted.
+here : (s : tie.Start) → Here (s .args .work .now) (s .args .s .depth) (s .args .slot) (s .args .s .paths) (s .args .s .nodes)
+here s = record { ok = s .pre .0; slot = s .pre .2 }
+
 counted : (x : tie.After-size-of) → x .size-of .result ≡ size (trail-of (x .before .before .before .args .work .now) (x .before .before .before .args .slot))
 counted x =
     let s = x .before .before .before in
@@ -20,9 +23,8 @@ counted x =
 size-of-requires : tie.Need-size-of-requires
 size-of-requires c κs =
     let s = c .before .before in
-    let a = s .args in
-    let f = few (a .work .now) (a .s .depth) (a .slot) (a .s .paths) (a .s .nodes) (s .pre .0) (s .pre .2) in
-    (s .pre .0 .links .long, omega (arith, f, s .pre .2), omega (arith, s .pre .0 .paths (a .slot) (s .pre .2) .node, s .pre .0 .nodes .few))
+    let p = s .pre .0 in
+    (p .links .long, omega (arith, few (s .pre .0), s .pre .2), omega (arith, p .paths (s .args .slot) (s .pre .2) .node, p .nodes .few))
 
 add-t9 : tie.Need-add-t9
 add-t9 c = search needs
@@ -33,9 +35,7 @@ same-length c = search needs
 returns : tie.Need-returns
 returns c =
     let s = c .before .before .before .before in
-    let a = s .args in
-    turned-over (a .work .now) (a .s .depth) (a .slot) (a .s .paths) (a .s .nodes) (s .pre .0) (s .pre .2) (a .l) (s .pre .1)
-    (omega (arith, counted (c .before), c .if1 .taken))
+    turned-over (here s) (s .args .l) (s .pre .1) (omega (arith, counted (c .before), c .if1 .taken))
 
 extra-of-requires : tie.Need-extra-of-requires
 extra-of-requires c κs = search needs
@@ -51,7 +51,8 @@ same-length-2 c = search needs
 returns-2 : tie.Need-returns-2
 returns-2 c =
     let x = c .before .before .before .before .before .before .before .before in
-    c .before .before .step-stack .ensures (x .before .before .before .args .l) (x .before .before .before .pre .1) (omega (arith, counted x, c .before .before .before .before .before .before .before .if1 .left))
+    let s = x .before .before .before in
+    c .before .before .step-stack .ensures (s .args .l) (s .pre .1) (omega (arith, counted x, c .before .before .before .before .before .before .before .if1 .left))
 
 step-entry-requires : tie.Need-step-entry-requires
 step-entry-requires c κs = search needs
@@ -62,7 +63,8 @@ same-length-3 c = search needs
 returns-3 : tie.Need-returns-3
 returns-3 c =
     let x = c .before .before .before .before .before .before .before .before in
-    c .before .before .step-entry .ensures (x .before .before .before .args .l) (x .before .before .before .pre .1) (omega (arith, counted x, c .before .before .before .before .before .before .before .if1 .left))
+    let s = x .before .before .before in
+    c .before .before .step-entry .ensures (s .args .l) (s .pre .1) (omega (arith, counted x, c .before .before .before .before .before .before .before .if1 .left))
 
 pub turn-spec : {M : Type 1} → statement M
 turn-spec =

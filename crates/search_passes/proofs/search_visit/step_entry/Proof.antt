@@ -4,19 +4,25 @@ use native.Mathlib.Omega.{arith}
 use mathlib.Core.Path.{_≡_, ap, sym, subst, _∙_}
 use Prim.Native.Nat.{ℕ, _/_, _+_, _-_}
 use Rattle.search_list.specs.Steps.{PathsOK}
-use Rattle.search_list.specs.State.{place-at, seen-at}
-use Rattle.search_list.proofs.TurnLaws.{few, entry-low, entry-seen, entry-capped}
+use Rattle.search_list.proofs.TurnLaws.{few, At-entry, entry-low, entry-seen, entry-capped}
 use borrow.Author.Needs.{needs}
 use Rattle.search_passes.proofs.search_visit.step_entry.Statement.{statement}
 use Rattle.search_passes.proofs.search_visit.step_entry.Tie as tie
 
--- The call, from where the entry is looked up; and whether it is seen.
-abbrev start : tie.After-is-seen → tie.Start
-start x = x .before .before .before .before .before
+-- The call, from where the entry is read; and that the path is there.
+abbrev start : tie.After-wide → tie.Start
+start x = x .before .before .before .before
 
-seen : (x : tie.After-is-seen) → x .is-seen .result ≡ seen-at (start x .args .work .now) (place-at (start x .args .work .now) (start x .args .slot) / 2)
-seen x =
-    x .is-seen .ensures ∙ ap (λ (k : ℕ). seen-at (start x .args .work .now) (k / 2)) (x .before .wide .ensures ∙ x .before .before .place-of .ensures)
+there : (x : tie.After-wide)
+    → At-entry (start x .args .work .now) (start x .args .s .depth) (start x .args .slot) (start x .args .s .paths) (start x .args .s .nodes)
+    (x .wide .result / 2)
+there x =
+    let p = start x .pre in
+    record {
+      here = record { ok = p .0; slot = p .1 };
+      none = p .2;
+      is = ap (λ (k : ℕ). k / 2) (x .wide .ensures ∙ x .before .place-of .ensures);
+    }
 
 place-of-requires : tie.Need-place-of-requires
 place-of-requires c κs = search needs
@@ -25,35 +31,28 @@ wide-requires : tie.Need-wide-requires
 wide-requires c κs = search needs
 
 is-seen-requires : tie.Need-is-seen-requires
-is-seen-requires c κs =
-    let s = c .before .before .before .before in
-    let a = s .args in
-    let l = entry-low (a .work .now) (a .s .depth) (a .slot) (a .s .paths) (a .s .nodes) (s .pre .0) (s .pre .1) (s .pre .2) in
-    (s .pre .0 .links .long, omega (arith, l, c .wide .ensures, c .before .place-of .ensures))
+is-seen-requires c κs = (start c .pre .0 .links .long, entry-low (there c))
 
 sub-next : tie.Need-sub-next
 sub-next c = search needs
 
 drop-path-requires : tie.Need-drop-path-requires
 drop-path-requires c κs =
-    let s = c .before .before .before .before .before .before .before .before in
+    let x = c .before .before .before .before in
+    let s = start x in
     let a = s .args in
     let e : a .s .paths - 1 + 1 ≡ a .s .paths = omega (arith, s .pre .1) in
-    let f = few (a .work .now) (a .s .depth) (a .slot) (a .s .paths) (a .s .nodes) (s .pre .0) (s .pre .1) in
     let p = subst (λ (k : ℕ). PathsOK (a .work .now) (a .s .nodes) k) (sym e) (s .pre .0 .paths) in
-    (s .pre .0 .links .long, s .pre .0 .nodes, p, omega (arith, s .pre .1), omega (arith, f))
+    (s .pre .0 .links .long, s .pre .0 .nodes, p, omega (arith, s .pre .1), omega (arith, few (s .pre .0)))
 
 same-length : tie.Need-same-length
 same-length c = search needs
 
 returns : tie.Need-returns
 returns c =
-    let x = c .before .before .before .before .before .before in
-    let s = start x in
-    let a = s .args in
     let g = c .before .before .drop-path in
-    entry-seen (a .work .now) (a .s .depth) (a .slot) (a .s .paths) (a .s .nodes) (s .pre .0) (s .pre .1) (s .pre .2) (g .last .0)
-    (sym (c .before .before .before .before .before .if1 .taken) ∙ seen x) (g .kept .0) (g .ensures)
+    let x = c .before .before .before .before .before .before in
+    entry-seen (there (x .before)) (sym (c .before .before .before .before .before .if1 .taken) ∙ x .is-seen .ensures) (g .kept .0) (g .ensures)
 
 same-length-2 : tie.Need-same-length-2
 same-length-2 c = search needs
@@ -61,16 +60,15 @@ same-length-2 c = search needs
 returns-2 : tie.Need-returns-2
 returns-2 c =
     let x = c .before .before .before in
-    let s = start x in
-    let a = s .args in
-    entry-capped (a .work .now) (a .s .depth) (a .slot) (a .s .paths) (a .s .nodes) (s .pre .0) (s .pre .1) (s .pre .2)
-    (sym (c .before .before .if1 .left) ∙ seen x) (c .if2 .taken)
+    entry-capped (there (x .before)) (sym (c .before .before .if1 .left) ∙ x .is-seen .ensures) (c .if2 .taken)
 
 visit-requires : tie.Need-visit-requires
 visit-requires c κs =
     let x = c .before .before .before .before in
-    let p = start x .pre in
-    (p .0, p .1, p .2, sym (c .before .before .before .if1 .left) ∙ seen x, omega (arith, c .before .if2 .left, p .0 .nodes .few))
+    let t = there (x .before) in
+    let p = start (x .before) .pre in
+    let new = rw (t .is) at (sym (c .before .before .before .if1 .left) ∙ x .is-seen .ensures) in
+    (p .0, p .1, p .2, new, omega (arith, c .before .if2 .left, p .0 .nodes .few))
 
 same-length-3 : tie.Need-same-length-3
 same-length-3 c = search needs
