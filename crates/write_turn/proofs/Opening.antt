@@ -2,7 +2,7 @@
 -- Assumes nothing.
 use Prim.Native.Nat.{ℕ, zero, suc, _+_, _*_, _/_, _%_, _≤_, _<_}
 use mathlib.Core.Path.{_≡_, refl, sym, ap, _∙_, subst}
-use mathlib.Core.Bool.{Bool, true, false}
+use mathlib.Core.Bool.{true, false}
 use mathlib.Core.List.{List, [], _∷_, _++_}
 use mathlib.Core.Option.{some}
 use native.Mathlib.Omega.{arith}
@@ -30,6 +30,7 @@ use Rattle.search_find.specs.declared.find_path.Path.the-variants.{NoPath}
 use Rattle.write_item.specs.declared.Put.the-variants as item
 use Rattle.write_item.specs.Answers.{written}
 use Rattle.cache_nodes.specs.Meaning.{Tables, Names}
+use Rattle.cache_nodes.proofs.Atoms.{not-true}
 use Rattle.cache_nodes.proofs.Entering.{names-grow, pair-low, is-node}
 use Rattle.write_turn.specs.declared.writer_place.Place.{Place}
 use Rattle.write_turn.specs.declared.Next.{Next}
@@ -40,9 +41,6 @@ use Rattle.write_turn.proofs.Frames.{only-same, pairs-stay, names-stay,
 use Rattle.write_turn.proofs.Items.{size-more, output-more, PutNext, put-next, put-none, taken-all, taken-before, length-stays, room-there, room-gone}
 use Rattle.write_turn.proofs.Values.{found-is, pair-is}
 use Rattle.write_turn.proofs.Storing.{left-odd, store-only, store-standing, store-todo, store-writes}
-
-not-true : _≡_ {A = Bool} false true → ⊥
-not-true q = let z : _≡_ {A = ℕ} 0 1 = cc in omega arith
 
 pub pair-node : (n : Node) → is-pair n ≡ true → n ≡ pair (index-of n)
 pair-node (pair i) q = refl
