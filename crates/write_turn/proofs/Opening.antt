@@ -88,7 +88,7 @@ module _ {w out : List ℕ} {p : Place} (h : NodePtr) {e : ℕ} (fo : Found w ou
       ap (λ (u : Unfolded). goes-on c (length out) (parse u ∷ k) s) (is-node w (h .0) i (fo .running .stands .whole) (fo .names) (fo .inner) is-number f t)
       ∙ turn-pair (find-in counted) (room-in (length out)) c i (unfolded f (at w (PAIRS + 2 * i))) (unfolded f (at w (PAIRS + 2 * i + 1))) k s
       (ap (λ (g : ℕ). find-in counted c (s .marked) (s .stack) g (pair-entry c i)) (sym (is-pair-handle (h .0) i is-number))
-      ∙ found-is [] w out p (h .0) e NoPath fo f c s t wr (pair-entry c i) (pair-is [] w out p (h .0) e NoPath fo f c s t wr i is-number))
+      ∙ found-is fo t wr (pair-is fo t wr i is-number))
 
   refused : (file : List ℕ) (n : ℕ) → ((f : File) (c : Cache) (s : Written) → Writes f w out (p .depth) (p .size) c s
       → room-in (length out) (todo-of f w (p .opens)) (s .items) cons-item ≡ suc n) → Turns file w w out out (Parse p h) (Refused (suc n) p)
