@@ -20,7 +20,7 @@ use Rattle.work_layout.specs.Layout.{FIRST, ATOM-LENGTHS, ATOM-COUNT, PAIR-COUN
 use Rattle.cache_nodes.specs.Meaning.{bytes-named, first-same, Names, FirstOf, Whole}
 use Rattle.cache_nodes.specs.Contracts.{is-listed, Stands, Measured}
 
-not-true : _≡_ {A = Bool} false true → ⊥
+pub not-true : _≡_ {A = Bool} false true → ⊥
 not-true q = let z : _≡_ {A = ℕ} 0 1 = cc in omega arith
 
 -- ---- which kind of atom
@@ -40,13 +40,13 @@ listed-of-type (unknown k i) = refl
 pub listed-by-type : (n : Node) (t u : ObjectType) → t ≡ object-type-of n → t ≡ u → type-is-listed u ≡ is-listed n
 listed-by-type n t u e f = ap type-is-listed (sym f ∙ e) ∙ listed-of-type n
 
-listed-is : (n : Node) → is-listed n ≡ true → n ≡ listed-atom (index-of n)
+pub listed-is : (n : Node) → is-listed n ≡ true → n ≡ listed-atom (index-of n)
 listed-is (pair i) e = absurd (not-true e)
 listed-is (listed-atom i) e = refl
 listed-is (small-atom v) e = absurd (not-true e)
 listed-is (unknown k i) e = absurd (not-true e)
 
-small-is : (n : Node) → is-listed n ≡ false → is-atom n ≡ true → n ≡ small-atom (index-of n)
+pub small-is : (n : Node) → is-listed n ≡ false → is-atom n ≡ true → n ≡ small-atom (index-of n)
 small-is (pair i) e a = absurd (not-true a)
 small-is (listed-atom i) e a = absurd (not-true (sym e))
 small-is (small-atom v) e a = refl

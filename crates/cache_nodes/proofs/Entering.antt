@@ -20,6 +20,7 @@ use Rattle.work_layout.specs.Layout.{PAIRS, ATOM-COUNT, PAIR-COUNT, SENTINEL, M
 use Rattle.file_parts.specs.Answers.{sentinel-word}
 use Rattle.cache_nodes.specs.Meaning.{bytes-named, no-pair, Tables, Names, entry-or-none, unmapped, Whole, Holds}
 use Rattle.cache_nodes.specs.Contracts.{Action, sentinel-action, atom-action, join-action, enter-action, Acts, Made, Joined, span, Bounded, Entered, Room}
+use Rattle.cache_nodes.proofs.Atoms.{not-true}
 use Rattle.cache_nodes.proofs.Frames.{tables-kept, unmapped-same, unmapped-above, unmapped-more, unmapped-none, unmapped-grows}
 
 -- ---- the definition's equations
@@ -38,9 +39,6 @@ unfolding enter
 enter-node h l r c = refl
 
 -- ---- handles
-
-not-true : _≡_ {A = Bool} false true → ⊥
-not-true q = let z : _≡_ {A = ℕ} 0 1 = cc in omega arith
 
 names-span-of : (a p : ℕ) (n : Node) → named a p n ≡ true → span n ≤ p
 names-span-of a p (pair i) e = ltb-true i p e

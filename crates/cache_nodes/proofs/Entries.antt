@@ -1,46 +1,19 @@
 -- The entries rest on the words from USED to SEEN alone.
 -- Assumes nothing.
 use Prim.Native.Nat.{ℕ, zero, suc, _+_, _*_, _^_, _≤_, _<_}
-use mathlib.Core.Path.{_≡_, refl, sym, _∙_}
+use mathlib.Core.Path.{_≡_, refl, _∙_}
 use mathlib.Core.List.{List}
 use native.Mathlib.Omega.{arith}
 use lib.ListN.{length}
 use Rattle.words.specs.Words.{at}
 use Rattle.words.proofs.Words.{part-same, tabulate-same}
-use Rattle.work_layout.specs.Layout.{USED, COUNTS, LEFT, RIGHT, LOW, HIGH, NEXT, HEADS, PARENTS, SEEN, ENTRIES}
-use Rattle.work_layout.specs.Prev.{prev-same}
-use Rattle.work_layout.specs.Rows.{parents-of, row-of, rows-of, slot-at, prev, Chained, Distinct, Sound, all-counts}
+use Rattle.work_layout.specs.Layout.{USED, COUNTS, LEFT, RIGHT, LOW, HIGH, PARENTS, SEEN, ENTRIES}
+use Rattle.work_layout.specs.Rows.{parents-of, row-of, rows-of, Sound, all-counts}
+use Rattle.cache_entries.proofs.Chain.{chained-kept, distinct-kept}
 
 module _ (w w′ : List ℕ) (len : length w′ ≡ length w) (same : (k : ℕ) → USED ≤ k → k < SEEN → at w′ k ≡ at w k) (so : Sound w) where
   pub used-kept : at w′ USED ≡ at w USED
   used-kept = same USED (omega arith) (omega arith)
-
-  slots : (k : ℕ) → k < ENTRIES → slot-at w′ k ≡ slot-at w k
-  slots k h = rw (same (LEFT + k) (omega arith) (omega arith), same (RIGHT + k) (omega arith) (omega arith))
-
-  prevs : (s n : ℕ) → n ≤ ENTRIES → prev (slot-at w′) s n ≡ prev (slot-at w) s n
-  prevs s n h = prev-same (slot-at w′) (slot-at w) s n (λ k q. slots k (omega arith))
-
-  chained-kept : Chained w′
-  chained-kept =
-      let u = used-kept in
-      let few = so .used in
-      record {
-        heads = λ s h. same (HEADS + s) (omega arith) (omega arith) ∙ so .chained .heads s h ∙ rw (u, prevs s (at w USED) (omega arith));
-        nexts = λ e h.
-            same (NEXT + e) (omega arith) (omega arith) ∙ so .chained .nexts e (omega arith) ∙ rw (slots e (omega arith), prevs (slot-at w e) e (omega arith));
-      }
-
-  distinct-kept : Distinct w′
-  distinct-kept =
-      let u = used-kept in
-      let few = so .used in
-      record {
-        distinct = λ i j h k p q.
-            so .distinct .distinct i j h (omega arith)
-            (sym (same (LEFT + i) (omega arith) (omega arith)) ∙ p ∙ same (LEFT + j) (omega arith) (omega arith))
-            (sym (same (RIGHT + i) (omega arith) (omega arith)) ∙ q ∙ same (RIGHT + j) (omega arith) (omega arith));
-      }
 
   pub sound-kept : Sound w′
   sound-kept =
@@ -55,8 +28,8 @@ module _ (w w′ : List ℕ) (len : length w′ ≡ length w) (same : (k : ℕ) 
             let d = so .counts e h in
             let p = same (PARENTS + e * 100 + i) (omega arith) (omega arith) in
             omega (arith, so .links e i h (omega arith));
-        chained = chained-kept;
-        distinct = distinct-kept;
+        chained = chained-kept w w′ (λ k l m. same k (omega arith) (omega arith)) used-kept (so .used) (so .chained);
+        distinct = distinct-kept w w′ (λ k l m. same k (omega arith) (omega arith)) used-kept (so .used) (so .distinct);
       }
 
   pub rows-kept : rows-of w′ ≡ rows-of w

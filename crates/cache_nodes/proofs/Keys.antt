@@ -36,9 +36,6 @@ key-pair f l r h = rw (ne-eqb l SENTINEL-KEY (λ q. omega arith), ne-eqb l ATOM-
 
 -- ---- atoms that stand for all with the same bytes
 
-not-true : _≡_ {A = Bool} false true → ⊥
-not-true q = let z : _≡_ {A = ℕ} 0 1 = cc in omega arith
-
 module _ (f : File) (w : List ℕ) (t : Tables f w) where
   -- A small value has 26 bits.
   small-low : (h v : ℕ) → node-of h ≡ small-atom v → v < 2 ^ 26

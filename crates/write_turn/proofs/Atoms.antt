@@ -2,7 +2,7 @@
 -- Assumes nothing.
 use Prim.Native.Nat.{ℕ, _+_, _-_, _*_, _^_, _≤_, _<_}
 use mathlib.Core.Path.{_≡_, refl, sym, ap, _∙_}
-use mathlib.Core.Bool.{Bool, true, false}
+use mathlib.Core.Bool.{true, false}
 use mathlib.Core.List.{List}
 use mathlib.Core.Option.{some}
 use native.Mathlib.Omega.{arith}
@@ -20,24 +20,9 @@ use Rattle.write_item.specs.declared.Put.{Put}
 use Rattle.write_item.specs.Answers.{written}
 use Rattle.cache_nodes.specs.Meaning.{bytes-named, Names, Whole}
 use Rattle.cache_nodes.specs.Contracts.{is-listed}
-use Rattle.cache_nodes.proofs.Atoms.{index-low, listed-low}
+use Rattle.cache_nodes.proofs.Atoms.{not-true, listed-is, small-is, index-low, listed-low}
 use Rattle.write_turn.specs.State.{AtomPlaces, bytes-at}
 use Rattle.write_turn.specs.Contracts.{AtomPut}
-
-not-true : _≡_ {A = Bool} false true → ⊥
-not-true q = let z : _≡_ {A = ℕ} 0 1 = cc in omega arith
-
-listed-node : (n : Node) → is-listed n ≡ true → n ≡ listed-atom (index-of n)
-listed-node (pair i) q = absurd (not-true q)
-listed-node (listed-atom i) q = refl
-listed-node (small-atom v) q = absurd (not-true q)
-listed-node (unknown k i) q = absurd (not-true q)
-
-small-node : (n : Node) → is-listed n ≡ false → is-atom n ≡ true → n ≡ small-atom (index-of n)
-small-node (pair i) q a = absurd (not-true a)
-small-node (listed-atom i) q a = absurd (not-true (sym q))
-small-node (small-atom v) q a = refl
-small-node (unknown k i) q a = absurd (not-true a)
 
 -- A node that is named and no pair is an atom.
 pub named-atom : (a p : ℕ) (n : Node) → named a p n ≡ true → is-pair n ≡ false → is-atom n ≡ true
@@ -65,7 +50,7 @@ module _ {file w : List ℕ} {h : ℕ} {out out′ : List ℕ} {size : ℕ} {r :
         bytes = bytes-at file w x;
         short = part-short file (at w (ATOMS + 2 * x)) (at w (ATOMS + 2 * x + 1) - at w (ATOMS + 2 * x)) (places .short);
         are = λ f t th.
-            ap (bytes-named f) (listed-node (node-of h) l ∙ ap listed-atom (sym q))
+            ap (bytes-named f) (listed-is (node-of h) l ∙ ap listed-atom (sym q))
             ∙ sym (th .bytes x (omega (arith, q, t .atom-count, listed-low w h wh n l)));
         answer = a;
       }
@@ -76,6 +61,6 @@ module _ {file w : List ℕ} {h : ℕ} {out out′ : List ℕ} {size : ℕ} {r :
       record {
         bytes = small-bytes v;
         short = omega (arith, length-small-bytes v, len-at-most 3 v (omega (arith, q, index-low h)));
-        are = λ f t th. ap (bytes-named f) (small-node (node-of h) l b ∙ ap small-atom (sym q));
+        are = λ f t th. ap (bytes-named f) (small-is (node-of h) l b ∙ ap small-atom (sym q));
         answer = a;
       }

@@ -292,7 +292,7 @@ module _ {w : List ℕ} {p : Place} {v i : ℕ} (o : Innermost w p v i) where
         (subst (λ (x : ℕ). Closes w w′ (p .depth) x) (sym number-is) cl) file out run
 
 -- Two entries popped leave the words whole.
-module _ (w w′ : List ℕ) (d : ℕ) (len : length w′ ≡ length w) (pop : PoppedTwo w w′ d) (wh : Whole w) where
+module _ {w w′ : List ℕ} {d : ℕ} (len : length w′ ≡ length w) (pop : PoppedTwo w w′ d) (wh : Whole w) where
   popped-only : WriterOnly w w′
   popped-only =
       record {

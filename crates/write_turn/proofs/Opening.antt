@@ -2,7 +2,7 @@
 -- Assumes nothing.
 use Prim.Native.Nat.{ℕ, zero, suc, _+_, _*_, _/_, _%_, _≤_, _<_}
 use mathlib.Core.Path.{_≡_, refl, sym, ap, _∙_, subst}
-use mathlib.Core.Bool.{Bool, true, false}
+use mathlib.Core.Bool.{true, false}
 use mathlib.Core.List.{List, [], _∷_, _++_}
 use mathlib.Core.Option.{some}
 use native.Mathlib.Omega.{arith}
@@ -30,6 +30,7 @@ use Rattle.search_find.specs.declared.find_path.Path.the-variants.{NoPath}
 use Rattle.write_item.specs.declared.Put.the-variants as item
 use Rattle.write_item.specs.Answers.{written}
 use Rattle.cache_nodes.specs.Meaning.{Tables, Names}
+use Rattle.cache_nodes.proofs.Atoms.{not-true}
 use Rattle.cache_nodes.proofs.Entering.{names-grow, pair-low, is-node}
 use Rattle.write_turn.specs.declared.writer_place.Place.{Place}
 use Rattle.write_turn.specs.declared.Next.{Next}
@@ -40,9 +41,6 @@ use Rattle.write_turn.proofs.Frames.{only-same, pairs-stay, names-stay,
 use Rattle.write_turn.proofs.Items.{size-more, output-more, PutNext, put-next, put-none, taken-all, taken-before, length-stays, room-there, room-gone}
 use Rattle.write_turn.proofs.Values.{found-is, pair-is}
 use Rattle.write_turn.proofs.Storing.{left-odd, store-only, store-standing, store-todo, store-writes}
-
-not-true : _≡_ {A = Bool} false true → ⊥
-not-true q = let z : _≡_ {A = ℕ} 0 1 = cc in omega arith
 
 pub pair-node : (n : Node) → is-pair n ≡ true → n ≡ pair (index-of n)
 pair-node (pair i) q = refl
@@ -90,7 +88,7 @@ module _ {w out : List ℕ} {p : Place} (h : NodePtr) {e : ℕ} (fo : Found w ou
       ap (λ (u : Unfolded). goes-on c (length out) (parse u ∷ k) s) (is-node w (h .0) i (fo .running .stands .whole) (fo .names) (fo .inner) is-number f t)
       ∙ turn-pair (find-in counted) (room-in (length out)) c i (unfolded f (at w (PAIRS + 2 * i))) (unfolded f (at w (PAIRS + 2 * i + 1))) k s
       (ap (λ (g : ℕ). find-in counted c (s .marked) (s .stack) g (pair-entry c i)) (sym (is-pair-handle (h .0) i is-number))
-      ∙ found-is [] w out p (h .0) e NoPath fo f c s t wr (pair-entry c i) (pair-is [] w out p (h .0) e NoPath fo f c s t wr i is-number))
+      ∙ found-is fo t wr (pair-is fo t wr i is-number))
 
   refused : (file : List ℕ) (n : ℕ) → ((f : File) (c : Cache) (s : Written) → Writes f w out (p .depth) (p .size) c s
       → room-in (length out) (todo-of f w (p .opens)) (s .items) cons-item ≡ suc n) → Turns file w w out out (Parse p h) (Refused (suc n) p)

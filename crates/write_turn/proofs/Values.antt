@@ -174,11 +174,11 @@ without-end (b ∷ steps) = go steps (without-end steps)
     go [] q = refl
     go (x ∷ bs) q = ap {B = List Bool} (λ r. b ∷ r) q
 
-module _ (file w out : List ℕ) (p : Place) (h e : ℕ) (path : Path) (fo : Found w out p h e path) (f : File) (c : Cache) (s : Written)
+module _ {w out : List ℕ} {p : Place} {h e : ℕ} {path : Path} (fo : Found w out p h e path) {f : File} {c : Cache} {s : Written}
     (t : Tables f w) (wr : Writes f w out (p .depth) (p .size) c s) where
   -- The search of the definitions gives what was found.
-  pub found-is : (x : ℕ) → x ≡ e → find-in counted c (s .marked) (s .stack) h x ≡ steps-of w path
-  found-is x q =
+  pub found-is : {x : ℕ} → x ≡ e → find-in counted c (s .marked) (s .stack) h x ≡ steps-of w path
+  found-is q =
       ap (λ (y : ℕ). find-in counted c (s .marked) (s .stack) h y) q ∙ ap (λ (st : List ℕ). find-in counted c (s .marked) st h e) (wr .stack)
       ∙ fo .finds .answer f c (s .marked) t (wr .cache) (wr .marks)
 
@@ -193,67 +193,68 @@ module _ (file w out : List ℕ) (p : Place) (h e : ℕ) (path : Path) (fo : Fou
 
 -- ---- a reference
 
-module _ (file w out : List ℕ) (p : Place) (h e slot : ℕ) (fo : Found w out p h e (At slot)) (steps : List Bool) (is : path-at w slot ≡ steps ++ true ∷ []) where
+module _ (file : List ℕ) {w out : List ℕ} {p : Place} {h e slot : ℕ} (fo : Found w out p h e (At slot)) (steps : List Bool) (is : path-at w slot ≡ steps ++ true ∷ []) where
   pub reference-stands : StandsFor file w out p h e (reference-item steps)
   reference-stands f c s t th wr k = go (is-atom (node-of h)) refl
     where
       whole : ℕ → session.Outcome
       whole x = and-then (put-whole (find-in counted) (room-in (length out)) c k x (reference-item steps) s) (goes-on c (length out) k)
 
-      found : (x : ℕ) → x ≡ e → find-in counted c (s .marked) (s .stack) h x ≡ some steps
-      found x q = found-is file w out p h e (At slot) fo f c s t wr x q ∙ ap {B = Option (List Bool)} (λ b. some (without-terminator b)) is ∙ ap {B = Option (List Bool)} some (without-end steps)
+      found : {x : ℕ} → x ≡ e → find-in counted c (s .marked) (s .stack) h x ≡ some steps
+      found q =
+          found-is fo t wr q ∙ ap {B = Option (List Bool)} (λ b. some (without-terminator b)) is ∙ ap {B = Option (List Bool)} some (without-end steps)
 
       go : (b : Bool) → is-atom (node-of h) ≡ b → goes-on c (length out) (parse (unfolded f h) ∷ k) s ≡ whole e
       go true a =
           let bs = bytes-named f (node-of h) in
-          let q = atom-is file w out p h e (At slot) fo f c s t wr a in
-          ap (λ (u : Unfolded). goes-on c (length out) (parse u ∷ k) s) (leaf-there file w out p h e (At slot) fo f c s t wr a)
-          ∙ turn-atom-ref (find-in counted) (room-in (length out)) c h bs k s steps (found (atom-entry c bs) q)
+          let q = atom-is fo t wr a in
+          ap (λ (u : Unfolded). goes-on c (length out) (parse u ∷ k) s) (leaf-there fo t wr a)
+          ∙ turn-atom-ref (find-in counted) (room-in (length out)) c h bs k s steps (found q)
           ∙ ap whole q
       go false a =
           let i = index-of (node-of h) in
           let n = names-pair w (at w PAIR-COUNT) h (fo .names) a in
-          let q = pair-is file w out p h e (At slot) fo f c s t wr i n in
+          let q = pair-is fo t wr i n in
           let z = is-pair-handle h i n in
           ap (λ (u : Unfolded). goes-on c (length out) (parse u ∷ k) s) (is-node w h i (fo .running .stands .whole) (fo .names) (fo .inner) n f t)
           ∙ turn-pair-ref (find-in counted) (room-in (length out)) c i _ _ k s steps
-          (ap (λ (g : ℕ). find-in counted c (s .marked) (s .stack) g (pair-entry c i)) (sym z) ∙ found (pair-entry c i) q)
+          (ap (λ (g : ℕ). find-in counted c (s .marked) (s .stack) g (pair-entry c i)) (sym z) ∙ found q)
           ∙ ap whole q
 
 -- ---- an atom in full
 
-module _ (file w out : List ℕ) (p : Place) (h e : ℕ) (fo : Found w out p h e NoPath) (a : is-atom (node-of h) ≡ true) (bytes : List ℕ)
+module _ (file : List ℕ) {w out : List ℕ} {p : Place} {h e : ℕ} (fo : Found w out p h e NoPath) (a : is-atom (node-of h) ≡ true) (bytes : List ℕ)
     (are : (f : File) → Tables f w → AtomsThere file f w → bytes-named f (node-of h) ≡ bytes) where
   pub atom-stands : StandsFor file w out p h e (atom-item bytes)
   atom-stands f c s t th wr k =
       let bs = bytes-named f (node-of h) in
-      let q = atom-is file w out p h e NoPath fo f c s t wr a in
-      ap (λ (u : Unfolded). goes-on c (length out) (parse u ∷ k) s) (leaf-there file w out p h e NoPath fo f c s t wr a)
-      ∙ turn-atom (find-in counted) (room-in (length out)) c h bs k s (found-is file w out p h e NoPath fo f c s t wr (atom-entry c bs) q)
+      let q = atom-is fo t wr a in
+      ap (λ (u : Unfolded). goes-on c (length out) (parse u ∷ k) s) (leaf-there fo t wr a)
+      ∙ turn-atom (find-in counted) (room-in (length out)) c h bs k s (found-is fo t wr q)
       ∙ ap (λ (x : ℕ). and-then (put-whole (find-in counted) (room-in (length out)) c k x (atom-item bs) s) (goes-on c (length out) k)) q
       ∙ ap (λ (b : List ℕ). and-then (put-whole (find-in counted) (room-in (length out)) c k e (atom-item b) s) (goes-on c (length out) k)) (are f t th)
 
 -- ---- what `refer` and `write_full` leave
 
-module _ (w w′ out out′ : List ℕ) (p : Place) (h : NodePtr) (e : ℕ) (len : length w′ ≡ length w) (x : Put) (r : Next) (pu : Pushes w w′ p e x r) where
-  pub refer-turns : (slot : ℕ) (fo : Found w out p (h .0) e (At slot)) → Ends (path-at w slot)
+module _ {w w′ out out′ : List ℕ} {p : Place} {h : NodePtr} {e : ℕ} (len : length w′ ≡ length w) (x : Put) {r : Next} (pu : Pushes w w′ p e x r) where
+  pub refer-turns : {slot : ℕ} (fo : Found w out p (h .0) e (At slot)) → Ends (path-at w slot)
       → ((path : List Bool) → path-at w slot ≡ path ++ true ∷ [] → written x out′ ≡ put out (p .size) (some (item-bytes (reference-item path))))
       → (file : List ℕ) → (Turns file w w′ out out′ (Parse p h) r) × Falls (length out) (Parse p h) r
-  refer-turns slot fo en a file =
+  refer-turns fo en a file =
       value-after file w w′ out out′ p h e (reference-item (en .steps)) (fo .running) tt (omega arith)
-      (reference-stands file w out p (h .0) e slot fo (en .steps) (en .ends)) len x r (a (en .steps) (en .ends)) pu
+      (reference-stands file fo (en .steps) (en .ends)) len x r (a (en .steps) (en .ends)) pu
 
-  pub atom-turns : (file : List ℕ) (fo : Found w out p (h .0) e NoPath) → is-atom (node-of (h .0)) ≡ true → AtomPut file w (h .0) out out′ (p .size) x
+  pub atom-turns : {file : List ℕ} (fo : Found w out p (h .0) e NoPath) → is-atom (node-of (h .0)) ≡ true → AtomPut file w (h .0) out out′ (p .size) x
       → (Turns file w w′ out out′ (Parse p h) r) × Falls (length out) (Parse p h) r
-  atom-turns file fo a b =
+  atom-turns {file} fo a b =
       value-after file w w′ out out′ p h e (atom-item (b .bytes)) (fo .running) tt (atom-bytes (b .bytes) (b .short))
-      (atom-stands file w out p (h .0) e fo a (b .bytes) (b .are)) len x r (b .answer) pu
+      (atom-stands file fo a (b .bytes) (b .are)) len x r (b .answer) pu
 
 -- ---- what `push_value` leaves
 
-pub pushes-next : (w w′ : List ℕ) (p : Place) (e n m : ℕ) (x : Put) → x ≡ item.Next m → LengthOf w e n → PushedMarked w w′ (p .depth) e n
+pub pushes-next : {w w′ : List ℕ} (p : Place) {e n m : ℕ} {x : Put} → x ≡ item.Next m → LengthOf w e n → PushedMarked w w′ (p .depth) e n
     → Pushes w w′ p e x (Close (record { opens = p .opens; depth = p .depth + 1; size = m }))
-pushes-next w w′ p e n m x q l pu =
+pushes-next {w} {w′} p {e} {n} {m} {x} q l pu =
     subst (λ (y : Put). Pushes w w′ p e y (Close (record { opens = p .opens; depth = p .depth + 1; size = m }))) (sym q)
     (refl, record { len = n; length-is = l; pushed = pu })
 

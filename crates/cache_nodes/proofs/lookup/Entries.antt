@@ -2,14 +2,13 @@
 -- Assumes nothing.
 use Prim.Native.Nat.{ℕ, zero, suc, _+_, _-_, _<_}
 use mathlib.Core.Path.{_≡_, refl, sym, ap, _∙_}
-use mathlib.Core.Bool.{Bool, true, false}
+use mathlib.Core.Bool.{true}
 use mathlib.Core.List.{List}
 use mathlib.Core.Option.{none, some}
 use native.Mathlib.Omega.{arith}
-use borrow.Author.Tests.{ltb-true}
 use Rattle.words.specs.Words.{at}
-use Rattle.allocator.specs.Handle.{Node, pair, listed-atom, small-atom, unknown, node-of, index-of, is-atom}
-use Rattle.spec_session.specs.File.{File, named}
+use Rattle.allocator.specs.Handle.{pair, node-of, is-atom}
+use Rattle.spec_session.specs.File.{File}
 use Rattle.spec_session.specs.Cache.{Entry, Cache, atom-key, find-key}
 use Rattle.spec_session.specs.Writer.{or-zero, atom-entry}
 use Rattle.work_layout.specs.Layout.{MAPS, USED, PAIR-COUNT}
@@ -19,6 +18,7 @@ use Rattle.cache_entries.specs.Contracts.{find-row, option-of}
 use Rattle.cache_entries.proofs.Rows.{find-low}
 use Rattle.cache_nodes.specs.Meaning.{ATOM-KEY, bytes-named, entry-or-none, Tables, Whole, Holds}
 use Rattle.cache_nodes.specs.Contracts.{Stands}
+use Rattle.cache_nodes.proofs.Atoms.{not-true}
 use Rattle.cache_nodes.proofs.Keys.{find-atom}
 use Rattle.cache_nodes.specs.lookup.Contracts.{PairEntry, AtomEntry, EntryOf}
 
@@ -61,9 +61,6 @@ module _ {w : List ℕ} {h key : ℕ} (wh : Whole w) (s : Stands w h key) (r : F
 
 -- ---- a node is an atom or a pair
 
-not-true : _≡_ {A = Bool} false true → ⊥
-not-true q = let z : _≡_ {A = ℕ} 0 1 = cc in omega arith
-
 pub entry-of-atom : {w : List ℕ} {h e : ℕ} → is-atom (node-of h) ≡ true → AtomEntry w h e → EntryOf w h e
 entry-of-atom a x =
     record { low = x .low; of-pair = λ i q. absurd (not-true (sym (ap is-atom q) ∙ a)); of-atom = λ b. x }
@@ -75,10 +72,3 @@ entry-of-pair {w} {h} {e} {i} n x =
       of-pair = λ j q. let z : i ≡ j = cc in rw (sym z) x;
       of-atom = λ b. absurd (not-true (sym (ap is-atom n) ∙ b));
     }
-
--- A node that is named and no atom is one of the pairs.
-pub named-pair : (a p : ℕ) (n : Node) → named a p n ≡ true → is-atom n ≡ false → (n ≡ pair (index-of n)) × (index-of n < p)
-named-pair a p (pair i) q b = (refl, ltb-true i p q)
-named-pair a p (listed-atom i) q b = absurd (not-true (sym b))
-named-pair a p (small-atom v) q b = absurd (not-true (sym b))
-named-pair a p (unknown k i) q b = absurd (not-true q)

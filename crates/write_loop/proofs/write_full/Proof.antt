@@ -45,9 +45,7 @@ returns-2 c =
     let pushed = c .before .before .push-value in
     let put = c .before .before .before .before .before .before in
     let no-pair = put .before .before .before in
-    let s = no-pair .before .before .before .before .before in
-    atom-turns (s .args .work .now) _ (s .args .output .now) _ (s .args .place) (s .args .node) (s .args .e .0) (pushed .kept .0) (put .write-atom .result)
-    (pushed .result) (pushed .ensures) (s .args .file .now) (s .pre .1) (atom no-pair) (put .write-atom .ensures)
+    atom-turns (pushed .kept .0) (put .write-atom .result) (pushed .ensures) (no-pair .before .before .before .before .before .pre .1) (atom no-pair) (put .write-atom .ensures)
 
 pub write-full-spec : {M : Type 1} → statement M
 write-full-spec =

@@ -26,10 +26,8 @@ same-length c = search needs
 returns : tie.Need-returns
 returns c =
     let measured = c .before .before .before .before .before in
-    let item = measured .before .before .before .item in
     let s = measured .before .before .before .before .before .before in
-    pushes-next (s .args .work .now) _ (s .args .place) (s .args .e .0) (measured .length-at .result) (item .given .0 .0) (s .args .item) (item .given .1)
-    (measured .length-at .ensures) (c .before .before .before .push-marked .ensures)
+    pushes-next (s .args .place) (measured .before .before .before .item .given .1) (measured .length-at .ensures) (c .before .before .before .push-marked .ensures)
 
 returns-2 : tie.Need-returns-2
 returns-2 c = let s = c .before .before .before in pushes-full (s .args .work .now) (s .args .place) (s .args .e .0) (s .args .item) (c .enum-told .given .1)

@@ -21,9 +21,8 @@ returns : tie.Need-returns
 returns c =
     let pushed = c .before .before .push-value in
     let put = c .before .before .before .before .before .before in
-    let s = put .before .before .before .before .before in
-    refer-turns (s .args .work .now) _ (s .args .output .now) _ (s .args .place) (s .args .node) (s .args .e .0) (pushed .kept .0) (put .write-reference .result)
-    (pushed .result) (pushed .ensures) (s .args .slot) (s .pre) (s .pre .finds .ready .1) (put .write-reference .ensures)
+    let p = put .before .before .before .before .before .pre in
+    refer-turns (pushed .kept .0) (put .write-reference .result) (pushed .ensures) p (p .finds .ready .1) (put .write-reference .ensures)
 
 pub refer-spec : {M : Type 1} → statement M
 refer-spec =

@@ -10,16 +10,13 @@ pop2-requires : tie.Need-pop2-requires
 pop2-requires c κs = search needs
 
 pair-entry-requires : tie.Need-pair-entry-requires
-pair-entry-requires c κs = let s = c .before .before .before .before .before .before in
-    let p = c .before .before .before .pop2 in (
-      popped-whole (s .args .work .now) (p .last .0) (s .args .depth) (p .kept .0) (p .ensures) (s .pre .0),
-      omega (arith, popped-pairs (s .args .work .now) (p .last .0) (s .args .depth) (p .kept .0) (p .ensures) (s .pre .0)),
-    )
+pair-entry-requires c κs =
+    let p = c .before .before .before .pop2 in
+    let wh = c .before .before .before .before .before .before .pre .0 in
+    (popped-whole (p .kept .0) (p .ensures) wh, omega (arith, popped-pairs (p .kept .0) (p .ensures) wh))
 
 length-at-requires : tie.Need-length-at-requires
-length-at-requires c κs = let s = c .before .before .before .before .before .before .before .before in
-    let p = c .before .before .before .before .before .pop2 in
-    popped-whole (s .args .work .now) (p .last .0) (s .args .depth) (p .kept .0) (p .ensures) (s .pre .0)
+length-at-requires c κs = let p = c .before .before .before .before .before .pop2 in popped-whole (p .kept .0) (p .ensures) (c .before .before .before .before .before .before .before .before .pre .0)
 
 sub-push-marked : tie.Need-sub-push-marked
 sub-push-marked c = search needs
