@@ -63,7 +63,8 @@ loop-less c = omega arith
 
 loop-again : tie.Need-loop-again Inv-loop μ-loop
 loop-again c =
-    writing-more (fits (c .before .before .before .before .before .before .before .before)) (c .before .before .before .loop .inv) (c .before .before .loop-test .taken) (c .before .next-byte .ensures)
+    writing-more (fits (c .before .before .before .before .before .before .before .before)) (c .before .before .before .loop .inv)
+    (c .before .before .loop-test .taken) (c .before .next-byte .ensures)
 
 same-length : tie.Need-same-length Inv-loop μ-loop
 same-length c = c .before .loop .inv .len

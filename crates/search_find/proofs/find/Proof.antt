@@ -65,7 +65,8 @@ returns-4 : tie.Need-returns-4
 returns-4 c =
     let x = c .before .before .before .before .before in
     let s = start x in
-    finds-path (s .pre .0 .sound) (named (x .before .before .before)) (s .pre .3) (marked x) (x .length-at .ensures) (c .before .before .before .before .if3 .left) (c .before .before .find-path .ensures)
+    finds-path (s .pre .0 .sound) (named (x .before .before .before)) (s .pre .3) (marked x) (x .length-at .ensures)
+    (c .before .before .before .before .if3 .left) (c .before .before .find-path .ensures)
 
 pub find-spec : {M : Type 1} → statement M
 find-spec =
