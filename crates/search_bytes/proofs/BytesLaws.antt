@@ -102,8 +102,8 @@ pub record Writing (w : List ℕ) (x₀ a₀ k : ℕ) (out out′ : List ℕ) (x
   pub ahead : octets k (read-bits w x₀ a₀) ≡ octets j (read-bits w x a) ++ drop j (take k out′)
   pub rest : drop k out′ ≡ drop k out
 
-pub writing-start : (w : List ℕ) (x a k : ℕ) (out : List ℕ) → k ≤ length out → Chain w a → Writing w x a k out out x a k
-writing-start w x a k out h c =
+pub writing-start : {w : List ℕ} {x a k : ℕ} {out : List ℕ} → k ≤ length out → Chain w a → Writing w x a k out out x a k
+writing-start {w} {x} {a} {k} {out} h c =
     let e : length (take k out) ≤ k = omega (arith, length-take-le k out h) in
     record { chain = c; within = omega arith; len = refl; ahead = sym (ap (λ (l : List ℕ). octets k (read-bits w x a) ++ l) (drop-of-length-le (take k out) e) ∙ append-nil _); rest = refl }
 
@@ -119,10 +119,10 @@ set-here : (l : List ℕ) (i v : ℕ) → i < length l → drop i (set l i v) �
 set-here l i v h =
     drop-cons (set l i v) i 0 (rw length-set h) ∙ ap₂ {C = List ℕ} (λ a b. a ∷ b) (getD-set-same l i v 0 h) (drop-set-lt (suc i) l i v (omega arith))
 
-pub writing-more : (w : List ℕ) (x₀ a₀ k : ℕ) (out out′ : List ℕ) (x a j v x′ a′ : ℕ) → k ≤ length out → Writing w x₀ a₀ k out out′ x a j → 0 < j
+pub writing-more : {w : List ℕ} {x₀ a₀ k : ℕ} {out out′ : List ℕ} {x a j v x′ a′ : ℕ} → k ≤ length out → Writing w x₀ a₀ k out out′ x a j → 0 < j
     → Read w eight-more 256 x a v x′ a′
     → Writing w x₀ a₀ k out (set out′ (j - 1) v) x′ a′ (j - 1)
-writing-more w x₀ a₀ k out out′ x a j v x′ a′ hk m h r =
+writing-more {w} {k = k} {out} {out′} {x} {a} {j} {v} {x′} {a′} hk m h r =
     let i : ℕ = j - 1 in
     let e : j ≡ suc (j - 1) = omega arith in
     let b : k ≤ length out′ = omega (arith, m .len) in
@@ -152,10 +152,10 @@ pub path-count : (w : List ℕ) (i t : ℕ) → Readable w i → t ≡ at w (LEN
     → ((t + 7) / 8 ≡ (length (path-at w i) + 7) / 8) × ((t + 7) / 8 ≤ 641)
 path-count w i t r e = (ap (λ (q : ℕ). (q + 7) / 8) (e ∙ readable-size w i r), omega (arith, r .short, r .extra))
 
-pub writing-end : (w : List ℕ) (i k : ℕ) (out out′ : List ℕ) (x a j : ℕ) → k ≡ (length (path-at w i) + 7) / 8 → j ≡ 0
+pub writing-end : {w : List ℕ} {i k : ℕ} {out out′ : List ℕ} {x a j : ℕ} → k ≡ (length (path-at w i) + 7) / 8 → j ≡ 0
     → Writing w (extra-at w i) (node-at w i) k out out′ x a j → Written w i out out′
 unfolding trail-of path-bytes
-writing-end w i k out out′ x a j e z m =
+writing-end {w} {i} {k} {out} {out′} {x} {a} e z m =
     record {
       bytes =
           ap (λ (q : ℕ). take q out′) (sym e)

@@ -30,7 +30,7 @@ kept-same w = record { low = λ k h. refl; high = λ k h. refl }
 
 -- ---- the exceptions
 
-module _ (w : List ℕ) (d h e : ℕ) where
+module _ {w : List ℕ} {d h e : ℕ} where
   pub finds-nil : eqb h (handle-of nil) ≡ true → FindsIn w w d h e NoPath
   unfolding find-in
   finds-nil q = record { answer = λ f c m t ho mk. rw q; ready = tt; kept = kept-same w }
@@ -40,7 +40,7 @@ module _ (w : List ℕ) (d h e : ℕ) where
     unfolding find-in
     finds-unmarked q = record { answer = λ f c m t ho mk. rw (named, mk e low, q); ready = tt; kept = kept-same w }
 
-    module _ (marked : marked-at w e ≡ true) (n : ℕ) (len : LengthOf w e n) where
+    module _ (marked : marked-at w e ≡ true) {n : ℕ} (len : LengthOf w e n) where
       pub finds-short : n < 4 → FindsIn w w d h e NoPath
       unfolding find-in
       finds-short q =
@@ -57,7 +57,7 @@ ready-of w w′ d n e (At i) q u =
     (u, search-ends (parents-of-all w) (stack-of w d) n e (path-at w′ i) (used-some counted n (search (parents-of-all w) (stack-of w d) n e) (path-at w′ i) q .given))
 ready-of w w′ d n e NoPath q u = tt
 
-module _ (w w′ : List ℕ) (d h e n : ℕ) (r : Path) (s : Sound w) (named : eqb h (handle-of nil) ≡ false) (low : e < ENTRIES)
+module _ {w w′ : List ℕ} {d h e n : ℕ} {r : Path} (s : Sound w) (named : eqb h (handle-of nil) ≡ false) (low : e < ENTRIES)
     (marked : marked-at w e ≡ true) (len : LengthOf w e n) (long : 4 ≤ n) (found : FoundPath w w′ d n e r) where
   pub finds-path : FindsIn w w′ d h e r
   unfolding find-in

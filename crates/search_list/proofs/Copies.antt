@@ -103,11 +103,11 @@ upward-one seen bits q qs = cond-append (member (q .0) seen) _ [] (upward seen b
 pub copying-start : (w : List ℕ) (e m first count : ℕ) → first ≤ count-at w e → PathsOK w m count → Copying w w e m first count count first
 copying-start w e m first count h p = record { within = h; len = refl; room = omega arith; paths = p; ahead = refl; low = λ k l. refl; high = λ k l. refl }
 
-pub copying-more : (w₀ w y : List ℕ) (e m first count n n′ i : ℕ) → Links w₀ → Nodes w₀ m → e < ENTRIES → Copying w₀ w e m first count n i → i < count-at w₀ e
+pub copying-more : {w₀ w y : List ℕ} {e m first count n n′ i : ℕ} → Links w₀ → Nodes w₀ m → e < ENTRIES → Copying w₀ w e m first count n i → i < count-at w₀ e
     → length y ≡ length w
     → Relisted w y m n′ (trails-of w n ++ upward (seen-of w m) (node-bits w m) (parent-of (at w (PARENTS + e * 100 + i)) ∷ []))
     → Copying w₀ y e m first count n′ (i + 1)
-copying-more w₀ w y e m first count n n′ i links ok h k l len r =
+copying-more {w₀} {w} {y} {e} {m} {first} {count} {n} {n′} {i} links ok h k l len r =
     let b : count-at w₀ e ≤ 100 = links .counts e h in
     let q : List (ℕ × Bool) = parent-of (at w₀ (PARENTS + e * 100 + i)) ∷ [] in
     let S : List ℕ = seen-of w₀ m in
@@ -132,9 +132,9 @@ copying-more w₀ w y e m first count n n′ i links ok h k l len r =
       high = λ j q. r .high j q ∙ k .high j q;
     }
 
-pub copying-end : (w₀ w : List ℕ) (e m first count n i : ℕ) → Links w₀ → e < ENTRIES → Copying w₀ w e m first count n i → count-at w₀ e ≤ i
+pub copying-end : {w₀ w : List ℕ} {e m first count n i : ℕ} → Links w₀ → e < ENTRIES → Copying w₀ w e m first count n i → count-at w₀ e ≤ i
     → Relisted w₀ w m n (trails-of w₀ count ++ copies w₀ m e first)
-copying-end w₀ w e m first count n i links h k l = record {
+copying-end {w₀} {w} {e} {m} {n = n} {i = i} links h k l = record {
   trails =
       sym (append-nil (trails-of w n))
       ∙ ap (λ (x : List (ℕ × Bool)). trails-of w n ++ upward (seen-of w₀ m) (node-bits w₀ m) x) (sym (links-end w₀ e links h i l)) ∙ k .ahead;
@@ -144,11 +144,10 @@ copying-end w₀ w e m first count n i links h k l = record {
 }
 
 -- What the next copy asks.
-pub copying-asks : (w₀ w : List ℕ) (e m first count n i all : ℕ) → Links w₀ → Nodes w₀ m → e < ENTRIES → count + (count-at w₀ e - first) ≤ MOST-PATHS
-    → all ≡ count-at w₀ e
-    → Copying w₀ w e m first count n i → i < all
+pub copying-asks : {w₀ w : List ℕ} {e m first count n i : ℕ} → Links w₀ → Nodes w₀ m → e < ENTRIES → count + (count-at w₀ e - first) ≤ MOST-PATHS
+    → Copying w₀ w e m first count n i → i < count-at w₀ e
     → (Links w × Nodes w m × PathsOK w m n) × (e < ENTRIES × i < count-at w e × n < MOST-PATHS)
-copying-asks w₀ w e m first count n i all links ok h r q k l =
+copying-asks {w₀} {w} {e} {m} links ok h r k l =
     let c : count-at w e ≡ count-at w₀ e = k .low (COUNTS + e) (omega arith) in
     ((low-links w₀ w links (λ j q. k .low j (omega arith)) (k .len), low-nodes w₀ w m ok (k .low), k .paths), (h, omega arith, omega (arith, k .room)))
 

@@ -38,7 +38,7 @@ wide-requires-2 c κs = search needs
 loop-holds : tie.Need-loop-holds Inv-loop μ-loop
 loop-holds c =
     let s = c .before .before .before .before .before .before .before in
-    writing-start (s .args .work .now) _ _ _ (s .args .out .now) (fits (c .before .before .before .before))
+    writing-start (fits (c .before .before .before .before))
     (subst (Chain (s .args .work .now)) (sym (c .wide2 .ensures ∙ c .before .node-of .ensures)) (s .pre .1 .chain))
 
 next-byte-requires : tie.Need-next-byte-requires Inv-loop μ-loop
@@ -63,9 +63,7 @@ loop-less c = omega arith
 
 loop-again : tie.Need-loop-again Inv-loop μ-loop
 loop-again c =
-    let p = c .before .before .before .before .before .before .before .before in
-    let a = p .before .before .before .args in
-    writing-more (a .work .now) _ _ _ (a .out .now) _ _ _ _ _ _ _ (fits p) (c .before .before .before .loop .inv)
+    writing-more (fits (c .before .before .before .before .before .before .before .before)) (c .before .before .before .loop .inv)
     (c .before .before .loop-test .taken) (c .before .next-byte .ensures)
 
 same-length : tie.Need-same-length Inv-loop μ-loop
@@ -76,11 +74,9 @@ returns c =
     let k = c .before .loop in
     let a = c .before .before in
     let x = a .before .before in
-    let p = x .before .before in
-    let s = p .before .before .before in
     let e : k .j ≡ 0 = omega (arith, c .loop-test .left) in
     let m = rw (x .wide .ensures, x .before .extra-of .ensures, a .wide2 .ensures, a .before .node-of .ensures) at (k .inv) in
-    writing-end (s .args .work .now) (s .args .slot) _ (s .args .out .now) (k .out) (k .x) (k .a) (k .j) (p .path-length .ensures .0) e m
+    writing-end (x .before .before .path-length .ensures .0) e m
 
 pub path-bytes-spec : {M : Type 1} → statement M
 path-bytes-spec =

@@ -29,9 +29,7 @@ same-requires c κs = search needs
 
 returns : tie.Need-returns
 unfolding handle-of
-returns c =
-    let s = c .before .before .before in
-    finds-nil (s .args .work .now) (s .args .depth) (s .args .node .0) (s .args .e .0) (sym (c .before .same .ensures) ∙ c .if1 .taken)
+returns c = finds-nil (sym (c .before .same .ensures) ∙ c .if1 .taken)
 
 is-marked-requires : tie.Need-is-marked-requires
 is-marked-requires c κs = search needs
@@ -42,9 +40,7 @@ same-length c = search needs
 returns-2 : tie.Need-returns-2
 returns-2 c =
     let x = c .before in
-    let s = x .before .before .before .before .before in
-    finds-unmarked (s .args .work .now) (s .args .depth) (s .args .node .0) (s .args .e .0) (named x) (s .pre .3)
-    (sym (x .is-marked .ensures) ∙ not-true (x .is-marked .result) (c .if2 .taken))
+    finds-unmarked (named x) (x .before .before .before .before .before .pre .3) (sym (x .is-marked .ensures) ∙ not-true (x .is-marked .result) (c .if2 .taken))
 
 length-at-requires : tie.Need-length-at-requires
 length-at-requires c κs = search needs
@@ -55,9 +51,7 @@ same-length-2 c = search needs
 returns-3 : tie.Need-returns-3
 returns-3 c =
     let x = c .before in
-    let s = start x in
-    finds-short (s .args .work .now) (s .args .depth) (s .args .node .0) (s .args .e .0) (named (x .before .before .before)) (s .pre .3) (marked x)
-    (x .length-at .result) (x .length-at .ensures) (c .if3 .taken)
+    finds-short (named (x .before .before .before)) (start x .pre .3) (marked x) (x .length-at .ensures) (c .if3 .taken)
 
 find-path-requires : tie.Need-find-path-requires
 find-path-requires c κs =
@@ -69,11 +63,10 @@ same-length-3 c = search needs
 
 returns-4 : tie.Need-returns-4
 returns-4 c =
-    let p = c .before .before .find-path in
     let x = c .before .before .before .before .before in
     let s = start x in
-    finds-path (s .args .work .now) (p .last .0) (s .args .depth) (s .args .node .0) (s .args .e .0) (x .length-at .result) (p .result) (s .pre .0 .sound)
-    (named (x .before .before .before)) (s .pre .3) (marked x) (x .length-at .ensures) (c .before .before .before .before .if3 .left) (p .ensures)
+    finds-path (s .pre .0 .sound) (named (x .before .before .before)) (s .pre .3) (marked x) (x .length-at .ensures)
+    (c .before .before .before .before .if3 .left) (c .before .before .find-path .ensures)
 
 pub find-spec : {M : Type 1} → statement M
 find-spec =

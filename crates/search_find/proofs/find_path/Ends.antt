@@ -90,11 +90,11 @@ module _ (n : ℕ) where
 
 -- ---- the whole
 
-module _ (w w′ : List ℕ) (d len e : ℕ) where
+module _ {w w′ : List ℕ} {d len e : ℕ} where
   pub path-none : Finds w w′ d len e Nothing → FoundPath w w′ d len e NoPath
   path-none f = record { answer = ap (used counted len) (f .answer); usable = tt; kept = f .kept }
 
-  module _ (i : ℕ) (f : Finds w w′ d len e (By i)) (t c : ℕ) (et : t ≡ length (path-at w′ i)) (ec : c ≡ counted-of t) where
+  module _ {i : ℕ} (f : Finds w w′ d len e (By i)) {t c : ℕ} (et : t ≡ length (path-at w′ i)) (ec : c ≡ counted-of t) where
     is-counted : counted (path-at w′ i) ≡ c
     is-counted = counted-is (path-at w′ i) (search-ends (parents-of-all w) (stack-of w d) len e (path-at w′ i) (f .answer)) ∙ ap counted-of (sym et) ∙ sym ec
 

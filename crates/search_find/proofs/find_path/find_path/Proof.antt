@@ -46,12 +46,8 @@ same-length c = search needs
 
 returns : tie.Need-returns
 returns c =
-    let k = c .before .before .counted in
     let t = c .before .before .before in
-    let x = t .before .before in
-    let a = start x .args in
-    path-used (a .work .now) (x .before .before .before .before .before .search .last .0) (a .depth) (a .len) _ _ (found x) (t .size-of .result) (k .result) (measured t) (k .ensures)
-    (rw (c .before .wide-len .ensures) at (c .if1 .taken))
+    path-used (found (t .before .before)) (measured t) (c .before .before .counted .ensures) (rw (c .before .wide-len .ensures) at (c .if1 .taken))
 
 enum-told : tie.Need-enum-told
 enum-told c = search needs
@@ -61,21 +57,14 @@ same-length-2 c = search needs
 
 returns-2 : tie.Need-returns-2
 returns-2 c =
-    let k = c .before .before .counted in
     let t = c .before .before .before in
-    let x = t .before .before in
-    let a = start x .args in
-    path-long (a .work .now) (x .before .before .before .before .before .search .last .0) (a .depth) (a .len) _ _ (found x) (t .size-of .result) (k .result) (measured t) (k .ensures)
-    (rw (c .before .wide-len .ensures) at (c .if1 .left))
+    path-long (found (t .before .before)) (measured t) (c .before .before .counted .ensures) (rw (c .before .wide-len .ensures) at (c .if1 .left))
 
 same-length-3 : tie.Need-same-length-3
 same-length-3 c = search needs
 
 returns-3 : tie.Need-returns-3
-returns-3 c =
-    let s = c .before .before .before .before .before .before .before in
-    let g = c .before .before .before .before .search in
-    path-none (s .args .work .now) (g .last .0) (s .args .depth) (s .args .len) _ (rw (c .enum-told .given .1) at (g .ensures))
+returns-3 c = path-none (rw (c .enum-told .given .1) at (c .before .before .before .before .search .ensures))
 
 pub find-path-spec : {M : Type 1} → statement M
 find-path-spec =

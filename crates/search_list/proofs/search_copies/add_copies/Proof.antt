@@ -28,10 +28,7 @@ loop-holds c =
 add-copy-requires : tie.Need-add-copy-requires Inv-loop μ-loop
 add-copy-requires c κs =
     let s = c .before .before .before .before .before .before in
-    let k = c .before .before .loop in
-    let a = c .before .before .before .count-of in
-    copying-asks (s .args .work .now) _ (s .args .e) (s .args .s .nodes) (s .args .first) (s .args .s .paths) (k .paths) (k .i) (a .result)
-    (s .pre .0 .0) (s .pre .0 .1) (s .pre .1 .0) (s .pre .1 .2) (a .ensures) (k .inv) (c .before .loop-test .taken)
+    copying-asks (s .pre .0 .0) (s .pre .0 .1) (s .pre .1 .0) (s .pre .1 .2) (c .before .before .loop .inv) (next (c .before))
 
 add-i : tie.Need-add-i Inv-loop μ-loop
 add-i c =
@@ -44,10 +41,8 @@ loop-less c = omega arith
 loop-again : tie.Need-loop-again Inv-loop μ-loop
 loop-again c =
     let s = c .before .before .before .before .before .before .before .before .before in
-    let k = c .before .before .before .before .before .loop in
     let a = c .before .before .add-copy in
-    copying-more (s .args .work .now) _ (a .last .0) (s .args .e) (s .args .s .nodes) (s .args .first) (s .args .s .paths) (k .paths) (a .result) (k .i)
-    (s .pre .0 .0) (s .pre .0 .1) (s .pre .1 .0) (k .inv) (next (c .before .before .before .before)) (a .kept .0) (a .ensures)
+    copying-more (s .pre .0 .0) (s .pre .0 .1) (s .pre .1 .0) (c .before .before .before .before .before .loop .inv) (next (c .before .before .before .before)) (a .kept .0) (a .ensures)
 
 same-length : tie.Need-same-length Inv-loop μ-loop
 same-length c = c .before .loop .inv .len
@@ -55,9 +50,7 @@ same-length c = c .before .loop .inv .len
 returns : tie.Need-returns Inv-loop μ-loop
 returns c =
     let s = c .before .before .before .before .before in
-    let k = c .before .loop in
-    copying-end (s .args .work .now) _ (s .args .e) (s .args .s .nodes) (s .args .first) (s .args .s .paths) (k .paths) (k .i) (s .pre .0 .0)
-    (s .pre .1 .0) (k .inv) (omega (arith, c .loop-test .left, c .before .before .count-of .ensures))
+    copying-end (s .pre .0 .0) (s .pre .1 .0) (c .before .loop .inv) (omega (arith, c .loop-test .left, c .before .before .count-of .ensures))
 
 pub add-copies-spec : {M : Type 1} → statement M
 add-copies-spec =
