@@ -10,7 +10,7 @@ use lib.ListN.{length, getD, set, drop, length-append, List·getD-append, length
 use Rattle.spec_search.specs.Search.{Trail, upward, sideward, distance}
 use Rattle.spec_search.specs.Flat.{swap-remove}
 use Rattle.words.specs.Words.{at, WORK}
-use Rattle.work_layout.specs.Layout.{PARENTS, COUNTS, STACK, SEEN, PATHS, DEPTH, ENTRIES, TOPS}
+use Rattle.work_layout.specs.Layout.{PARENTS, COUNTS, STACK, SEEN, PATHS, DEPTH, ENTRIES, TOPS, MAX-PARENTS}
 use Rattle.search_list.specs.State.{seen-of, node-bits, trail, trail-of, trails-of, count-at, MOST-PATHS}
 use Rattle.search_list.specs.Steps.{copies, stacked, Links, Nodes, PathsOK, Stored, Relisted}
 use Rattle.work_layout.specs.Rows.{parents-of, stack-of, Tops}
@@ -64,7 +64,7 @@ pub record Up (w x : List ℕ) (c n m e k d v : ℕ) : Type 0 where
   pub entry : e < ENTRIES
   pub parent : k < count-at w e
   pub room : n + (count-at w e - k) ≤ MOST-PATHS
-  pub word : v ≡ at w (PARENTS + e * 100 + k)
+  pub word : v ≡ at w (PARENTS + e * MAX-PARENTS + k)
   pub stored : Stored w x c m v 0
   pub len : length x ≡ length w
 
@@ -132,7 +132,7 @@ module _ {w x : List ℕ} {c n m e k d v : ℕ} (u : Up w x c n m e k d v) where
         ((re-links w y m low-y l (u .links), re-tops w y m low-y l d (u .tops), re-nodes w y m low-y l (u .nodes), r .paths), (u .entry, omega arith))
 
     pub up-done : {z : List ℕ} {n₃ : ℕ} → Relisted y z m n₃ (trails-of y n₂ ++ stacked y m e d)
-        → Relisted w z m n₃ (set (trails-of w n) c (trail 0 (node-bits w m) (at w (PARENTS + e * 100 + k))) ++ (copies w m e (k + 1) ++ stacked w m e d))
+        → Relisted w z m n₃ (set (trails-of w n) c (trail 0 (node-bits w m) (at w (PARENTS + e * MAX-PARENTS + k))) ++ (copies w m e (k + 1) ++ stacked w m e d))
     unfolding S B up
     up-done t = record {
       trails =

@@ -16,7 +16,7 @@ use Rattle.words.specs.Words.{at}
 use Rattle.search_list.specs.Cursor.{goes, Mid, ahead}
 use Rattle.search_list.proofs.CursorLaws.{Facing, over, over-mid, over-less, is-result, is-capped, stays-goes, stays-mid, stays-less, dropped-goes, dropped-mid, dropped-less}
 use Rattle.search_list.specs.declared.Turned.the-variants.{On, Result, Capped}
-use Rattle.work_layout.specs.Layout.{PARENTS, COUNTS, PATHS, DEPTH, ENTRIES}
+use Rattle.work_layout.specs.Layout.{PARENTS, COUNTS, PATHS, DEPTH, ENTRIES, MAX-PARENTS}
 use Rattle.work_layout.specs.Rows.{parents-of, stack-of, Tops}
 use Rattle.search_list.specs.State.{parents-of-all, seen-of, node-bits, trail, trail-of, trails-of, node-at, place-at, extra-at, seen-at, count-at, Readable, MOST-PATHS}
 use Rattle.search_list.specs.Steps.{copies, stacked, search-of, unseen, Links, Nodes, PathOK, PathsOK, Working, Kept, Stored, Relisted, Visited, FirstUnseen, Turns, Steps}
@@ -325,7 +325,7 @@ module _ {w x : List ℕ} {d c n m e : ℕ} (u : Visiting w x d c n m e) where
   visit-asks-2 = ((visit-links, tops-x, v .nodes, paths-x), (here .slot, visit-low, omega (arith, few (here .ok))))
 
   module _ {k : ℕ} (f : FirstUnseen x e k) where
-    link-low : (j : ℕ) → j < count-at x e → at x (PARENTS + e * 100 + j) / 2 < ENTRIES
+    link-low : (j : ℕ) → j < count-at x e → at x (PARENTS + e * MAX-PARENTS + j) / 2 < ENTRIES
     link-low j l = omega (arith, visit-links .links e j visit-low l)
 
     skipped : upward S′ B′ (parents-of x e) ≡ upward S′ B′ (drop k (parents-of x e))
@@ -356,11 +356,11 @@ module _ {w x : List ℕ} {d c n m e : ℕ} (u : Visiting w x d c n m e) where
 
       pub visit-up : k < count-at x e
           → Relisted x y (m + 1) n′
-          (set (trails-of x n) c (trail 0 (node-bits x (m + 1)) (at x (PARENTS + e * 100 + k))) ++ (copies x (m + 1) e (k + 1) ++ stacked x (m + 1) e d))
+          (set (trails-of x n) c (trail 0 (node-bits x (m + 1)) (at x (PARENTS + e * MAX-PARENTS + k))) ++ (copies x (m + 1) e (k + 1) ++ stacked x (m + 1) e d))
           → Steps w y d c n m (On (c + 1) (search-of n′ (m + 1) d))
       unfolding S′ B′
       visit-up h r =
-          let q : Trail = trail 0 (node-bits x (m + 1)) (at x (PARENTS + e * 100 + k)) in
+          let q : Trail = trail 0 (node-bits x (m + 1)) (at x (PARENTS + e * MAX-PARENTS + k)) in
           let up : List Trail = copies x (m + 1) e (k + 1) in
           let side : List Trail = stacked x (m + 1) e d in
           let s : step (parents-of-all w) (stack-of w d) (seen-of w m) (trail-of w c) ≡ stays q (up ++ side) (seen-of x (m + 1)) =

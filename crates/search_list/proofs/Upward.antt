@@ -13,7 +13,7 @@ use borrow.Author.Tests.{lt-ltb, ltb-true}
 use Rattle.spec_search.specs.Search.{Trail, at-entry, member, upward}
 use Rattle.words.specs.Choice.{cond-true, cond-false, by-cond}
 use Rattle.words.specs.Words.{at, part, WORK}
-use Rattle.work_layout.specs.Layout.{PARENTS, COUNTS, SEEN, ENTRIES}
+use Rattle.work_layout.specs.Layout.{PARENTS, COUNTS, SEEN, ENTRIES, MAX-PARENTS}
 use Rattle.work_layout.specs.Rows.{parent-of, parents-of}
 use Rattle.search_list.specs.State.{parents-of-all, count-at}
 use Rattle.search_list.specs.Steps.{Links}
@@ -26,19 +26,19 @@ map-getD (x ∷ xs) zero d = refl
 map-getD (x ∷ xs) (suc i) d = map-getD xs i d
 
 module _ (w : List ℕ) (e : ℕ) (ok : Links w) (h : e < ENTRIES) where
-  within : PARENTS + e * 100 + count-at w e ≤ length w
+  within : PARENTS + e * MAX-PARENTS + count-at w e ≤ length w
   within = omega (arith, ok .long, ok .counts e h)
 
   pub length-links : length (parents-of w e) ≡ count-at w e
   unfolding parents-of
-  length-links = length-map (part w (PARENTS + e * 100) (count-at w e)) parent-of ∙ part-length w (PARENTS + e * 100) (count-at w e) within
+  length-links = length-map (part w (PARENTS + e * MAX-PARENTS) (count-at w e)) parent-of ∙ part-length w (PARENTS + e * MAX-PARENTS) (count-at w e) within
 
-  pub links-cons : (i : ℕ) → i < count-at w e → drop i (parents-of w e) ≡ parent-of (at w (PARENTS + e * 100 + i)) ∷ drop (i + 1) (parents-of w e)
+  pub links-cons : (i : ℕ) → i < count-at w e → drop i (parents-of w e) ≡ parent-of (at w (PARENTS + e * MAX-PARENTS + i)) ∷ drop (i + 1) (parents-of w e)
   unfolding parents-of
   links-cons i l =
       drop-cons (parents-of w e) i (parent-of 0) (rw length-links l)
       ∙ ap₂ {C = List (ℕ × Bool)} (λ q k. q ∷ drop k (parents-of w e))
-      (map-getD (part w (PARENTS + e * 100) (count-at w e)) i 0 ∙ ap parent-of (part-at w (PARENTS + e * 100) (count-at w e) i l))
+      (map-getD (part w (PARENTS + e * MAX-PARENTS) (count-at w e)) i 0 ∙ ap parent-of (part-at w (PARENTS + e * MAX-PARENTS) (count-at w e) i l))
       (sym (add-one i))
 
   pub links-end : (i : ℕ) → count-at w e ≤ i → drop i (parents-of w e) ≡ []
@@ -49,19 +49,19 @@ module _ (w : List ℕ) (e : ℕ) (ok : Links w) (h : e < ENTRIES) where
   parents-are = cond-true _ _ _ (lt-ltb e ENTRIES h)
 
   module _ (seen : List ℕ) (bits : List Bool) where
-    pub up-seen : (i : ℕ) → i < count-at w e → member (at w (PARENTS + e * 100 + i) / 2) seen ≡ true
+    pub up-seen : (i : ℕ) → i < count-at w e → member (at w (PARENTS + e * MAX-PARENTS + i) / 2) seen ≡ true
         → upward seen bits (drop i (parents-of w e)) ≡ upward seen bits (drop (i + 1) (parents-of w e))
     up-seen i l t = ap (upward seen bits) (links-cons i l) ∙ cond-true _ _ _ t
 
-    pub up-new : (i : ℕ) → i < count-at w e → member (at w (PARENTS + e * 100 + i) / 2) seen ≡ false
-        → upward seen bits (drop i (parents-of w e)) ≡ at-entry bits (at w (PARENTS + e * 100 + i) / 2) (odd (at w (PARENTS + e * 100 + i))) ∷ upward seen bits
+    pub up-new : (i : ℕ) → i < count-at w e → member (at w (PARENTS + e * MAX-PARENTS + i) / 2) seen ≡ false
+        → upward seen bits (drop i (parents-of w e)) ≡ at-entry bits (at w (PARENTS + e * MAX-PARENTS + i) / 2) (odd (at w (PARENTS + e * MAX-PARENTS + i))) ∷ upward seen bits
         (drop (i + 1) (parents-of w e))
     up-new i l t = ap (upward seen bits) (links-cons i l) ∙ cond-false _ _ _ t
 
     pub up-end : (i : ℕ) → count-at w e ≤ i → upward seen bits (drop i (parents-of w e)) ≡ []
     up-end i l = ap (upward seen bits) (links-end i l)
 
-    pub up-skip : (i : ℕ) → i ≤ count-at w e → ((j : ℕ) → j < i → member (at w (PARENTS + e * 100 + j) / 2) seen ≡ true)
+    pub up-skip : (i : ℕ) → i ≤ count-at w e → ((j : ℕ) → j < i → member (at w (PARENTS + e * MAX-PARENTS + j) / 2) seen ≡ true)
         → upward seen bits (parents-of w e) ≡ upward seen bits (drop i (parents-of w e))
     up-skip zero l t = refl
     up-skip (suc i) l t =
@@ -79,10 +79,10 @@ module _ (w w′ : List ℕ) (ok : Links w) (low : (k : ℕ) → k < SEEN → at
   pub low-links-of : (e : ℕ) → e < ENTRIES → parents-of w′ e ≡ parents-of w e
   unfolding parents-of
   low-links-of e h =
-      let b : at w (COUNTS + e) ≤ 100 = ok .counts e h in
+      let b : at w (COUNTS + e) ≤ MAX-PARENTS = ok .counts e h in
       let l : WORK ≤ length w = ok .long in
-      ap (λ (k : ℕ). map parent-of (part w′ (PARENTS + e * 100) k)) (low (COUNTS + e) (omega arith))
-      ∙ ap (map parent-of) (part-same w w′ (PARENTS + e * 100) (at w (COUNTS + e)) (omega arith) len (λ i k. low (PARENTS + e * 100 + i) (omega arith)))
+      ap (λ (k : ℕ). map parent-of (part w′ (PARENTS + e * MAX-PARENTS) k)) (low (COUNTS + e) (omega arith))
+      ∙ ap (map parent-of) (part-same w w′ (PARENTS + e * MAX-PARENTS) (at w (COUNTS + e)) (omega arith) len (λ i k. low (PARENTS + e * MAX-PARENTS + i) (omega arith)))
 
   pub low-parents : parents-of-all w′ ≡ parents-of-all w
   unfolding parents-of-all
@@ -97,7 +97,7 @@ module _ (w w′ : List ℕ) (ok : Links w) (low : (k : ℕ) → k < SEEN → at
     long = omega arith;
     counts = λ x h. rw (low (COUNTS + x) (omega arith)) (ok .counts x h);
     links = λ x i h q.
-        let b : at w (COUNTS + x) ≤ 100 = ok .counts x h in
+        let b : at w (COUNTS + x) ≤ MAX-PARENTS = ok .counts x h in
         let q′ : i < at w (COUNTS + x) = rw (low (COUNTS + x) (omega arith)) at q in
-        rw (low (PARENTS + x * 100 + i) (omega arith)) (ok .links x i h q′);
+        rw (low (PARENTS + x * MAX-PARENTS + i) (omega arith)) (ok .links x i h q′);
   }
