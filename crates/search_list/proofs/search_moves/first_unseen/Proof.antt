@@ -2,7 +2,7 @@
 -- Assumes nothing.
 use Rattle.search_list.proofs.Copies.{Seeking, seeking-start, seeking-more, seeking-found, seeking-none}
 use Rattle.words.specs.Words.{at}
-use Rattle.work_layout.specs.Layout.{PARENTS}
+use Rattle.work_layout.specs.Layout.{PARENTS, MAX-PARENTS}
 use Rattle.search_list.specs.State.{seen-at, count-at}
 use Prim.Native.Nat.{ℕ, _+_, _*_, _-_, _/_, _<_}
 use mathlib.Core.Path.{_≡_, ap, sym, _∙_}
@@ -26,7 +26,7 @@ abbrev start : tie.After-is-seen Inv-loop μ-loop → tie.Start Inv-loop μ-loop
 start x = x .before .before .before .before .before .before .before
 
 seen : (x : tie.After-is-seen Inv-loop μ-loop)
-    → seen-at (start x .args .work .now) (at (start x .args .work .now) (PARENTS + start x .args .e * 100 + x .before .before .before .before .loop .i) / 2) ≡ x .is-seen .result
+    → seen-at (start x .args .work .now) (at (start x .args .work .now) (PARENTS + start x .args .e * MAX-PARENTS + x .before .before .before .before .loop .i) / 2) ≡ x .is-seen .result
 seen x =
     ap (λ (z : ℕ). seen-at (start x .args .work .now) (z / 2)) (sym (x .before .wide .ensures ∙ x .before .before .parent-at .ensures))
     ∙ sym (x .is-seen .ensures)
