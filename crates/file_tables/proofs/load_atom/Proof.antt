@@ -64,7 +64,8 @@ same-length c = search needs
 returns : tie.Need-returns
 returns c =
     let s = c .before .before .before .before .before .before .before .before .before .before in
-    known-turn (s .pre .2) (s .pre .0) (c .before .before .before .before .before .before .slot-at .ensures) (c .before .before .before .before .find-first .ensures) (c .before .before .length-at .ensures) (c .if1 .taken)
+    known-turn (s .pre .2) (s .pre .0) (c .before .before .before .before .before .before .slot-at .ensures) (c .before .before .before .before .find-first .ensures)
+    (c .before .before .length-at .ensures) (c .if1 .taken)
 
 add-work-3 : tie.Need-add-work-3
 add-work-3 c = search needs
@@ -104,7 +105,8 @@ same-length-2 c = search needs
 returns-2 : tie.Need-returns-2
 returns-2 c =
     let s = c .before .before .before .before .before .before .before .before .before .before in
-    new-turn (s .pre .2) (s .pre .0) (c .before .before .before .before .before .before .slot-at .ensures) (c .before .before .before .before .find-first .ensures) (c .before .before .length-at .ensures) (c .if1 .left)
+    new-turn (s .pre .2) (s .pre .0) (c .before .before .before .before .before .before .slot-at .ensures) (c .before .before .before .before .find-first .ensures)
+    (c .before .before .length-at .ensures) (c .if1 .left)
 
 pub load-atom-spec : {M : Type 1} → statement M
 load-atom-spec =
