@@ -8,11 +8,10 @@ READING=Callee('Reading','reads','Rattle.round_trip.proofs.read_finishe
 f=Frame('round_trip.py','Rattle.round_trip.proofs.round_trip',[('shared','u8'),('given','u32'),('given','u32'),('given','T.the-row'),('lent','u8'),('given','u32'),('given','u32'),('given','u8')],[SESSION,READING])
 HEAD='''-- `round_trip::round_trip` meets its contract: a walk of its MIR. It knows of `nikvoldra_session` and `read_first` that each meets its contract.
 -- `work` and `output` are lent again to the session call (`Again`); `output` is then lent as a `&[u8]` to the reading (`Shared`), and the other slices go
--- to the calls for good. That the values make the three facts is `Returned`.
+-- to the calls for good. That the values keep the promise is `Returned`.
 -- Assumes nothing.
 '''
 USES='''use Rattle.spec_reading.specs.Call.{reading}
-use Rattle.spec_session.specs.Call.{Slices}
 use Rattle.read_answer.specs.declared.ReadAnswer.{ReadAnswer}
 use Rattle.read_answer.specs.Answer.{slices as store-slices}
 use Rattle.read_answer.proofs.ReadAnswer as Q
@@ -21,10 +20,10 @@ use Rattle.read_call.specs.Outcome.{read-result-of}
 use Rattle.session_answer.specs.declared.SessionAnswer.{SessionAnswer}
 use Rattle.session_answer.proofs.SessionAnswer as R
 use Rattle.session_answer.proofs.SessionAnswer.Laws as R′
-use Rattle.session_call.specs.Outcome.{slices, result-of, ReadsBack}
+use Rattle.session_call.specs.Outcome.{result-of, ReadsBack}
 use Rattle.round_trip.specs.declared.RoundTrip.{RoundTrip}
-use Rattle.round_trip.specs.RoundTrip.{the-session}
-use Rattle.round_trip.proofs.Returned.{session-part, reading-part, whole-read}
+use Rattle.round_trip.specs.RoundTrip.{Lists, lists, the-session}
+use Rattle.round_trip.proofs.Returned.{trip}
 use Rattle.round_trip.proofs.Shared.{Kept, shares-at, returns-at}
 use Rattle.round_trip.proofs.RoundTrip as RT
 use Rattle.round_trip.proofs.RoundTrip.Laws as RT′
@@ -42,26 +41,16 @@ mach-s s = LL.val R.the-type R′.the-laws s
 both-are : (s : SessionAnswer) (u : Val) → Is R.the-row s (u ∷ []) → (r : ReadAnswer) (y : Val) → Is Q.the-row r (y ∷ []) → Is RT.the-row (both s r) (mach (both s r) ∷ [])
 both-are s u s-is r y r-is = LL.owes RT.the-type RT′.the-laws (both s r) (@S@, (@R@, tt))
 
--- A goal with three facts beside P: they are shown, and P is left.
-says-three : {M : Type 1} (𝓤 : URA M) {φ₁ φ₂ φ₃ : Type 0} (P : SProp 𝓤) → φ₁ → φ₂ → φ₃ → ent 𝓤 P (sep 𝓤 P (sep 𝓤 (fact 𝓤 φ₁) (sep 𝓤 (fact 𝓤 φ₂) (fact 𝓤 φ₃))))
-says-three 𝓤 {φ₁} {φ₂} {φ₃} P h₁ h₂ h₃ =
-    via 𝓤 (sep 𝓤 (emp 𝓤) P) (emp∗ 𝓤 P)
-    (via 𝓤 (sep 𝓤 (sep 𝓤 (fact 𝓤 φ₁) (sep 𝓤 (fact 𝓤 φ₂) (fact 𝓤 φ₃))) P)
-    (monoL 𝓤 P
-    (via 𝓤 (sep 𝓤 (emp 𝓤) (emp 𝓤)) (emp∗ 𝓤 (emp 𝓤))
-    (mono∗ 𝓤 (factI 𝓤 φ₁ (emp 𝓤) h₁) (via 𝓤 (sep 𝓤 (emp 𝓤) (emp 𝓤)) (emp∗ 𝓤 (emp 𝓤)) (mono∗ 𝓤 (factI 𝓤 φ₂ (emp 𝓤) h₂) (factI 𝓤 φ₃ (emp 𝓤) h₃))))))
-    (comm∗ 𝓤 (sep 𝓤 (fact 𝓤 φ₁) (sep 𝓤 (fact 𝓤 φ₂) (fact 𝓤 φ₃))) P))
-
 '''.replace('@S@',ANSWER.spelled('s','s-is')).replace('@R@',READ.spelled('r','r-is'))
 last={1:'w₁',2:'w₂',3:'cs',5:'ps',6:'ns',7:'bs'}
 ENDS=['x0']+['t%d'%i for i in range(8)]+['f1','f2','f3','x4','f5','f6','f7']
 def item(n): i=int(n[1]); return f.tok(i) if n[0]=='t' else f.fin(i,last[i]) if n[0]=='f' else f.own(i,'(at-last x₄ o)' if i else None)
-OPEN='''    -- The lent slices, and what the two contracts say of the values.
-    abbrev lent : Slices Checkpoint
-    lent = slices (x₁ .now) (x₂ .now) (x₃ .now) (x₄ .now)
+OPEN='''    -- The lists that are lent, and what the two contracts say of the values.
+    abbrev before : Lists
+    before = lists (x₁ .now) (x₂ .now) (x₃ .now) (x₄ .now) (x₅ .now) (x₆ .now) (x₇ .now)
 
     abbrev Ran : SessionAnswer → (w w₂ : List ℕ) (cs : List Checkpoint) (o : List ℕ) → Type 0
-    Ran s w w₂ cs o = result-of s w w₂ cs o ≡ the-session (x₀ .now) lent
+    Ran s w w₂ cs o = result-of s w w₂ cs o ≡ the-session (x₀ .now) before
 
     abbrev Back : SessionAnswer → (w w₂ : List ℕ) (cs : List Checkpoint) (o : List ℕ) → Type 0
     Back s w w₂ cs o = ReadsBack (x₀ .now) (result-of s w w₂ cs o)
@@ -76,9 +65,6 @@ OPEN='''    -- The lent slices, and what the two contracts say of the values.
         → (r : ReadAnswer) (w₁ ps ns bs : List ℕ) → length w₁ ≡ length w → length ps ≡ n₅ → length ns ≡ n₆ → length bs ≡ n₇ → WasRead s w o r w₁ ps ns bs
         → Is RT.the-row (both s r) (mach (both s r) ∷ []) → ent 𝓤 (⋆ 𝓤 H A (Ends w₁ w₂ cs o ps ns bs)) (Post (mach (both s r)))
     exits s w w₂ cs o e₁ e₂ e₃ e₄ ran back r w₁ ps ns bs d₁ e₅ e₆ e₇ was-read is =
-        let says₁ = session-part @PARTS@ in
-        let says₂ = reading-part @PARTS@ in
-        let says₃ = whole-read @PARTS@ back e₁ in
 @EXITS@
 
     -- The session call: work and output, lent again, and the other slices.
@@ -89,14 +75,13 @@ OPEN='''    -- The lent slices, and what the two contracts say of the values.
 x=Walk(f,ENDS)
 x.e('qed W (Ends w₁ w₂ cs o ps ns bs) ∵')
 x.e('suffices ! _ (ends-at %s W bound (mach (both s r)) (both s r) %s %s) $'%(f.spec,nest(['tt','w₁','w₂','cs','o','ps','ns','bs']),nest(['tt','d₁ ∙ e₁','e₂','e₃','e₄','e₅','e₆','e₇'])))
-x.e('suffices ! _ (says-three 𝓤 _ says₁ says₂ says₃) $')
+x.e('says ! (trip (x₀ .now) before (lists w₁ w₂ cs o ps ns bs) w s r ran was-read back e₁) $')
 x.ends(['f7','f6','f5','x4','f3','f2','f1','x0'],TRIP,'both s r','is')
 session=Call(f,SESSION,[Slice(0),Slice(1,'(again₁ δ₁ (x₁ .now))',True),Slice(2),Slice(3),Slice(4,'(again₄ δ₄ (x₄ .now))',True)],'(ν₁ ν₄ : ℕ) (δ₁ δ₄ : GName)')
 SEEN='‵ (ShrSlice (named 0) (ν ∷ []) u8 .own (again₄ δ %s) (v₄ ∷ []))'
 reads=Call(f,READING,[Slice(4,'(again₄ δ o)',True,SEEN%'o',True),Plain(ANSWER,'s','mach-s s','s-is'),Slice(1,'(at-last x₁ w)'),Slice(5),Slice(6),Slice(7)],
     '(o w : List ℕ) (s : SessionAnswer) (ν : ℕ) (δ : GName)',None,'(s-is : Is R.the-row s (mach-s s ∷ []))','ls')
-for k,v in {'ENDS':items(map(item,ENDS)),'PARTS':'(x₀ .now) lent (x₅ .now) (x₆ .now) (x₇ .now) (result-of s w w₂ cs o) ran (read-result-of r w₁ ps ns bs) was-read',
-    'EXITS':x.text(8),'SESSION':session.text(4,Walk),'READING':reads.text(4,Walk)}.items(): OPEN=OPEN.replace('@%s@'%k,v)
+for k,v in {'ENDS':items(map(item,ENDS)),'EXITS':x.text(8),'SESSION':session.text(4,Walk),'READING':reads.text(4,Walk)}.items(): OPEN=OPEN.replace('@%s@'%k,v)
 
 # ---- The walk. The session leaves work W, the words and records, and the output O; the reading leaves LS.
 W,O='(zs .1 .0)','(zs .1 .1 .1 .1 .0)'
