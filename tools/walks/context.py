@@ -72,40 +72,32 @@ class Walk:
         if f.plain: s.drop('plain')
         s.scatter('toks',['t%d'%i for i in range(f.n)],'split')
     def copy(s,i):   # A shared slice, twice.
-        x=s.f.own(i); s.comment('A copy of `file` is kept.')
-        s.move('x%d'%i); s.e('use1 W (%s ⊛ %s) (shr-slice-copy 𝓤 H A W (named %d) κ%s u8 .twice x%s (v%s ∷ [])) $ split ! $'%(x,x,i,sub(i),sub(i),sub(i)))
-        s.head(1,'x%d'%i,'copy%d'%i)
+        s.comment('A copy of `file` is kept.')
+        s.move('x%d'%i); s.e('twice ! u8 %d κ%s x%s (v%s ∷ []) $'%(i,sub(i),sub(i),sub(i))); s.head(1,'x%d'%i,'copy%d'%i)
     # ---- A slice at the list ys is lent again, for a lifetime of a call, and comes back at zs.
     def lend(s,i,ys,e):
-        f=s.f; j=sub(i); args=f.lent(i,ys,e)
-        s.e('lft-new ! tt (λ ν%s.'%j); s.ctx=['n%d'%i]+s.ctx; s.move('x%d'%i,'t%d'%i)
-        s.e('use2 W (later (some (λ (δ : GName). %s ⊛ ‵ (Lent %s δ)))) (lends-at %s) $ await ! tt $ pick ! (λ δ%s. split ! $'%(f.own(i,'(under %s δ)'%args,new('ν'+j)),args,args,j))
-        s.head(2,'x%d'%i,'lent%d'%i)
+        s.move('x%d'%i,'t%d'%i); s.e('lends ! tt %s (λ ν%s δ%s.'%(s.f.lent(i,ys,e),sub(i),sub(i))); s.head(2,'x%d'%i,'n%d'%i,'lent%d'%i)
     def back(s,i,ys,e,zs,eq):
-        f=s.f; j=sub(i)
-        s.dies('n%d'%i); s.move('dead','lent%d'%i,'f%d'%i)
-        s.e('use3 W (later (%s ⊛ %s)) (comes-at %s δ%s %s room%s %s) $ await ! tt $ split ! $'%(f.own(i,'(at-last x%s %s)'%(j,zs)),f.tok(i),f.lent(i,ys,e),j,zs,j,eq))
-        s.head(3,'x%d'%i,'t%d'%i)
+        s.move('n%d'%i,'lent%d'%i,'f%d'%i); s.e('comes ! tt %s ν%s δ%s %s room%s %s $'%(s.f.lent(i,ys,e),sub(i),sub(i),zs,sub(i),eq)); s.head(3,'x%d'%i,'t%d'%i)
     def dies(s,n): s.move(n); s.e('lft-end ! tt $'); s.head(1,'dead')   # The lifetime with the token n.
     # ---- A call, which answers r, and v in the machine, to local i. It says the facts, (fact, name) each; e₁, .. say how long the last lists are.
     def call(s,c,args,premises=''):   # Its arguments are locals, or (local, field).
-        s.move(*[x for a in c.slices for x in ('x%d'%a.i,c.tokname(a))])
+        s.move(*[x for a in c.slices for x in (a.name,a.tokname)])
         n=2*len(c.slices); X=c.callee.contract
-        s.e('group ! %d $ use1 W (raw (%s .pre %s)) (%s) $'%(n,X,c.to,(c.goes+' '+premises).strip())); s.head(n,'pre')
+        s.e('group ! %d $ use1 W (raw (%s .pre %s)) %s $'%(n,X,c.to,par((unpar(c.goes)+' '+premises).strip()))); s.head(n,'pre')
         s.ctx=[x.replace('copy','x') for x in s.ctx]
         s.e('calls-at ! fm %s %s %s %s'%(X,c.callee.known,c.to,s.ops([s.part(*a) if isinstance(a,tuple) else s.ld(a) for a in args])))
     def answer(s,c,row,r,v,i,facts=None,eqs={}):
-        x=c.name; at='%s %s'%(c.ks,c.given); clauses='(%s.clauses 𝓤 H A mem run)'%x
-        s.e('(λ %s. use1 W (later (some (λ (%s : %s). ((%s ⊛ ‵ ftrue) ⊛ ‵ (%s .own %s (%s ∷ []))) ⊛ raw (ensured 𝓤 H A %s.ended %s %s tt %s)))) (id⊢ 𝓤 _) $'%(v,r,row.ty,' ⊛ '.join(c.toks),row.row,r,v,x,clauses,at,r))
-        s.e('await ! tt $ pick ! (λ %s. split ! $'%r); s.head(1,'tr','ens'); s.move('ens')
+        x=c.name; at='%s %s'%(c.ks,c.given)
         said=' ⊛ '.join('raw (fact 𝓤 (%s))'%t for t,_ in facts) if facts else 'raw (%s.clauses 𝓤 H A mem run %s .ensures tt %s (atExit %s.ended %s %s))'%(x,at,r,x,at,c.zs)
-        s.e('use1 W (some (λ (%s : %s). ‵ (lasts %s.ended %s %s) ⊛ %s)) (id⊢ 𝓤 _) $ pick ! (λ %s. split ! $'%(c.zs,times(c.last),x,at,c.zs,'(%s)'%said if facts and len(facts)>1 else said,c.zs))
-        s.head(1,'lasts','facts'); s.move('facts')
+        s.e('(λ %s. use1 W (later (some (λ (%s : %s). ((%s ⊛ ‵ ftrue) ⊛ ‵ (%s .own %s (%s ∷ [])))'%(v,r,row.ty,' ⊛ '.join(a.tok for a in c.slices),row.row,r,v))
+        s.e('⊛ some (λ (%s : %s). ‵ (lasts %s.ended %s %s) ⊛ %s)))) (id⊢ 𝓤 _) $'%(c.zs,times(c.last),x,at,c.zs,'(%s)'%said if facts and len(facts)>1 else said))
+        s.e('await ! tt $ pick ! (λ %s. split ! $'%r); s.head(1,'tr','ens'); s.move('ens'); s.e('pick ! (λ %s. split ! $'%c.zs); s.head(1,'lasts','facts'); s.move('facts')
         if not facts: s.drop('facts')
         else:
             for _ in facts[1:]: s.e('split ! $')
             s.head(1)
-            for t,n in facts: s.e('heard ! (%s) (λ %s.'%(t,n))
+            for t,n in facts: s.e('heard ! _ (λ %s.'%n)
         s.comment('Each last list, and its length.')
         mine=[None if t=='Unit {0}' else a.i for t,a in zip(c.last,c.args)]
         while mine and mine[-1] is None: mine.pop()
@@ -119,7 +111,7 @@ class Walk:
         s.e('facts ! %s (Is %s) (shows 𝓤 H A %s) %s (%s ∷ []) (λ %s-is.'%(row.row,row.row,row.row,r,v,r)); s.head(1)
         s.e('land ! %s $'%s.put(i,row.typed(r,r+'-is')))
         if row.tells: s.spell(i,row,r,r+'-is')
-        s.scatter('toks',[c.tokname(a) for a in c.slices],'split')
+        s.scatter('toks',[a.tokname for a in c.slices],'split')
     # ---- The text.
     def leave(s,*ns):   # Nothing else is had.
         assert sorted(ns)==sorted(s.ctx),(sorted(ns),sorted(s.ctx))
@@ -128,7 +120,7 @@ class Walk:
     def text(s,indent,close=True):   # A new line after a comment, before a statement, and where one is full. At the end what is open is closed.
         lines=[]; cur=''
         for o in s.out:
-            new=o.startswith('-- ') or o.split(' ')[0] in ('assigns','calls-at','lft-new','land','returns','heard','by')
+            new=o.startswith('-- ') or o.split(' ')[0] in ('assigns','calls-at','lft-new','lends','land','returns','heard','by')
             if cur and (new or indent+len(cur)+len(o)+1>WIDTH): lines.append(cur); cur=''
             cur=(cur+' '+o).strip()
             if o.startswith('-- '): lines.append(cur); cur=''

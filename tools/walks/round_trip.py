@@ -5,7 +5,8 @@ from frame import *
 READ=struct('ReadAnswer','Q'); TRIP=struct('RoundTrip','RT')
 SESSION=Callee('Session','call','Rattle.session_call.proofs.nikvoldra_session')
 READING=Callee('Reading','reads','Rattle.round_trip.proofs.read_finished.read_first')
-f=Frame('round_trip.py','Rattle.round_trip.proofs.round_trip',[('shared','u8'),('given','u32'),('given','u32'),('given','T.the-row'),('lent','u8'),('given','u32'),('given','u32'),('given','u8')],[SESSION,READING])
+f=Frame('round_trip.py','Rattle.round_trip.proofs.round_trip',
+    [('shared','u8'),('given','u32'),('given','u32'),('given','T.the-row'),('lent','u8'),('given','u32'),('given','u32'),('given','u8')],[SESSION,READING])
 HEAD='''-- `round_trip::round_trip` meets its contract: a walk of its MIR. It knows of `nikvoldra_session` and `read_first` that each meets its contract.
 -- `work` and `output` are lent again to the session call (`Again`); `output` is then lent as a `&[u8]` to the reading (`Shared`), and the other slices go
 -- to the calls for good. That the values keep the promise is `Returned`.
@@ -21,6 +22,7 @@ use Rattle.session_answer.specs.declared.SessionAnswer.{SessionAnswer}
 use Rattle.session_answer.proofs.SessionAnswer as R
 use Rattle.session_answer.proofs.SessionAnswer.Laws as R′
 use Rattle.session_call.specs.Outcome.{result-of, ReadsBack}
+use Rattle.session_call.proofs.Lending.{lends, comes, twice}
 use Rattle.round_trip.specs.declared.RoundTrip.{RoundTrip}
 use Rattle.round_trip.specs.RoundTrip.{Lists, lists, the-session}
 use Rattle.round_trip.proofs.Returned.{trip}
@@ -41,7 +43,8 @@ mach-s s = LL.val R.the-type R′.the-laws s
 both-are : (s : SessionAnswer) (u : Val) → Is R.the-row s (u ∷ []) → (r : ReadAnswer) (y : Val) → Is Q.the-row r (y ∷ []) → Is RT.the-row (both s r) (mach (both s r) ∷ [])
 both-are s u s-is r y r-is = LL.owes RT.the-type RT′.the-laws (both s r) (@S@, (@R@, tt))
 
-'''.replace('@S@',ANSWER.spelled('s','s-is')).replace('@R@',READ.spelled('r','r-is'))
+'''
+MACH=fill(MACH,S=ANSWER.spelled('s','s-is'),R=READ.spelled('r','r-is'))
 last={1:'w₁',2:'w₂',3:'cs',5:'ps',6:'ns',7:'bs'}
 ENDS=['x0']+['t%d'%i for i in range(8)]+['f1','f2','f3','x4','f5','f6','f7']
 def item(n): i=int(n[1]); return f.tok(i) if n[0]=='t' else f.fin(i,last[i]) if n[0]=='f' else f.own(i,'(at-last x₄ o)' if i else None)
@@ -61,7 +64,8 @@ OPEN='''    -- The lists that are lent, and what the two contracts say of the va
     abbrev Ends : (w₁ w₂ : List ℕ) (cs : List Checkpoint) (o ps ns bs : List ℕ) → List (Item 𝓤)
     Ends w₁ w₂ cs o ps ns bs = @ENDS@
 
-    exits : (s : SessionAnswer) (w w₂ : List ℕ) (cs : List Checkpoint) (o : List ℕ) → length w ≡ n₁ → length w₂ ≡ n₂ → length cs ≡ n₃ → length o ≡ n₄ → Ran s w w₂ cs o → Back s w w₂ cs o
+    exits : (s : SessionAnswer) (w w₂ : List ℕ) (cs : List Checkpoint) (o : List ℕ) → length w ≡ n₁ → length w₂ ≡ n₂ → length cs ≡ n₃ → length o ≡ n₄
+        → Ran s w w₂ cs o → Back s w w₂ cs o
         → (r : ReadAnswer) (w₁ ps ns bs : List ℕ) → length w₁ ≡ length w → length ps ≡ n₅ → length ns ≡ n₆ → length bs ≡ n₇ → WasRead s w o r w₁ ps ns bs
         → Is RT.the-row (both s r) (mach (both s r) ∷ []) → ent 𝓤 (⋆ 𝓤 H A (Ends w₁ w₂ cs o ps ns bs)) (Post (mach (both s r)))
     exits s w w₂ cs o e₁ e₂ e₃ e₄ ran back r w₁ ps ns bs d₁ e₅ e₆ e₇ was-read is =
@@ -74,14 +78,16 @@ OPEN='''    -- The lists that are lent, and what the two contracts say of the va
 '''
 x=Walk(f,ENDS)
 x.e('qed W (Ends w₁ w₂ cs o ps ns bs) ∵')
-x.e('suffices ! _ (ends-at %s W bound (mach (both s r)) (both s r) %s %s) $'%(f.spec,nest(['tt','w₁','w₂','cs','o','ps','ns','bs']),nest(['tt','d₁ ∙ e₁','e₂','e₃','e₄','e₅','e₆','e₇'])))
+lists,long=nest('tt w₁ w₂ cs o ps ns bs'.split()),nest(['tt','d₁ ∙ e₁']+['e'+sub(i) for i in range(2,8)])
+x.e(f'suffices ! _ (ends-at {f.spec} W bound (mach (both s r)) (both s r) {lists} {long}) $')
 x.e('says ! (trip (x₀ .now) before (lists w₁ w₂ cs o ps ns bs) w s r ran was-read back e₁) $')
 x.ends(['f7','f6','f5','x4','f3','f2','f1','x0'],TRIP,'both s r','is')
-session=Call(f,SESSION,[Slice(0),Slice(1,'(again₁ δ₁ (x₁ .now))',True),Slice(2),Slice(3),Slice(4,'(again₄ δ₄ (x₄ .now))',True)],'(ν₁ ν₄ : ℕ) (δ₁ δ₄ : GName)')
+session=Call(f,SESSION,[Slice(0),Slice(1,'(again₁ δ₁ (x₁ .now))',True),
+    Slice(2),Slice(3),Slice(4,'(again₄ δ₄ (x₄ .now))',True)],'(ν₁ ν₄ : ℕ) (δ₁ δ₄ : GName)')
 SEEN='‵ (ShrSlice (named 0) (ν ∷ []) u8 .own (again₄ δ %s) (v₄ ∷ []))'
 reads=Call(f,READING,[Slice(4,'(again₄ δ o)',True,SEEN%'o',True),Plain(ANSWER,'s','mach-s s','s-is'),Slice(1,'(at-last x₁ w)'),Slice(5),Slice(6),Slice(7)],
     '(o w : List ℕ) (s : SessionAnswer) (ν : ℕ) (δ : GName)',None,'(s-is : Is R.the-row s (mach-s s ∷ []))','ls')
-for k,v in {'ENDS':items(map(item,ENDS)),'EXITS':x.text(8),'SESSION':session.text(4,Walk),'READING':reads.text(4,Walk)}.items(): OPEN=OPEN.replace('@%s@'%k,v)
+OPEN=fill(OPEN,ENDS=items(map(item,ENDS)),EXITS=x.text(8),SESSION=session.text(4,Walk),READING=reads.text(4,Walk))
 
 # ---- The walk. The session leaves work W, the words and records, and the output O; the reading leaves LS.
 W,O='(zs .1 .0)','(zs .1 .1 .1 .1 .0)'

@@ -12,6 +12,7 @@ HEAD='''-- `session::run` is safe and ends: a walk of its MIR. It knows of `nikv
 USES='''use Rattle.session_answer.specs.declared.SessionAnswer.{SessionAnswer}
 use Rattle.session_answer.proofs.SessionAnswer as R
 use Rattle.session_answer.proofs.SessionAnswer.Laws as R′
+use Rattle.session_call.proofs.Lending.{twice}
 use Rattle.session.proofs.Lent.{lends-array, array-back}
 '''
 MACH='''blank-is : Is T.the-row blank (LL.vals T.the-type T′.the-laws blank)
@@ -41,7 +42,8 @@ OPEN='''    -- The records as the call takes them.
     abbrev Ends : (w₁ w₂ w₃ : List ℕ) → List (Item 𝓤)
     Ends w₁ w₂ w₃ = @ENDS@
 
-    exits : (r : SessionAnswer) (w₁ w₂ w₃ : List ℕ) → length w₁ ≡ n₁ → length w₂ ≡ n₂ → length w₃ ≡ n₃ → Is R.the-row r (mach r ∷ []) → ent 𝓤 (⋆ 𝓤 H A (Ends w₁ w₂ w₃)) (Post (mach r))
+    exits : (r : SessionAnswer) (w₁ w₂ w₃ : List ℕ) → length w₁ ≡ n₁ → length w₂ ≡ n₂ → length w₃ ≡ n₃ → Is R.the-row r (mach r ∷ [])
+        → ent 𝓤 (⋆ 𝓤 H A (Ends w₁ w₂ w₃)) (Post (mach r))
     exits r w₁ w₂ w₃ e₁ e₂ e₃ r-is =
 @EXITS@
 
@@ -52,14 +54,15 @@ x.ends(['f3','f2','f1','x0'],ANSWER,'r','r-is',says=False)
 # The records are slice 9.
 RECORDS='‵ (MutSlice (named 3) (ν ∷ []) T.the-row .own (records %s γ) (sliceVal (%s, 0) 16 ∷ []))'
 call=Call(f,CALL,[Slice(0),Slice(1),Slice(2),Slice(9,'(records l γ)',True,RECORDS%('l','l'),False,'T.the-row','sliceVal (l, 0) 16'),Slice(3)],'(l ν : ℕ) (γ : GName)')
-OPEN=OPEN.replace('@CALL@',call.text(4,Walk)).replace('@ENDS@',items(map(item,ENDS))).replace('@EXITS@',x.text(8))
+OPEN=fill(OPEN,CALL=call.text(4,Walk),ENDS=items(map(item,ENDS)),EXITS=x.text(8))
 
 w=Walk(f,['toks','owns'])
 w.enter(15)
 w.comment('The sixteen records.')
 ARRAY='Array T.the-row 16'
 w.assign('agg ! '+w.ops(['(lit ! tt)']*4),6,RECORD.typed('blank','blank-is'))
-w.e(RECORD.owned('blank','blank-is')+' $ use1 W (‵ (%s .own blanks (zeros ∷ []))) (array-repeat 𝓤 H A W T.the-row (LL.copy T.the-type T′.the-copy 𝓤 H A W) 16 blank (LL.val T.the-type T′.the-laws blank)) $'%ARRAY)
+w.e(RECORD.owned('blank','blank-is')+' $ use1 W (‵ (%s .own blanks (zeros ∷ [])))'%ARRAY)
+w.e('(array-repeat 𝓤 H A W T.the-row (LL.copy T.the-type T′.the-copy 𝓤 H A W) 16 blank (LL.val T.the-type T′.the-laws blank)) $')
 w.ctx=['array']+w.ctx
 w.e('peeks ! (%s) (Is (%s)) (shows 𝓤 H A (%s)) blanks (zeros ∷ []) (λ are.'%(ARRAY,ARRAY,ARRAY))
 w.assign('rep ! 16 '+w.ld(6),5,'(array-lawful 𝓤 H A W T.the-row (%s) 16 .typed blanks (zeros ∷ []) are .0)'%RECORD.lawful)
@@ -70,7 +73,8 @@ w.assign('agg ! '+w.ops([w.ld(11),'(lit ! tt)']),12,'(tt, (tt, (record { fits = 
 w.slice_again(4,13,3)
 w.comment('The array is lent for a lifetime of the call.')
 w.e('lft-new ! tt (λ ν.'); w.ctx=['n9']+w.ctx; w.move('_5','array')
-w.e('use2 W (later (some (λ (γ : GName). %s ⊛ ‵ (flent (ν ∷ []) (Held T.the-row 16 l₅ 0 γ))))) (lends-array 𝓤 H A W T.the-row (named 3) (ν ∷ []) 16 l₅ tt room blanks zeros) $ await ! tt $ pick ! (λ γ. split ! $'%(RECORDS%('l₅','l₅')))
+w.e('use2 W (later (some (λ (γ : GName). %s ⊛ ‵ (flent (ν ∷ []) (Held T.the-row 16 l₅ 0 γ)))))'%(RECORDS%('l₅','l₅')))
+w.e('(lends-array 𝓤 H A W T.the-row (named 3) (ν ∷ []) 16 l₅ tt room blanks zeros) $ await ! tt $ pick ! (λ γ. split ! $')
 w.head(2,'x9','lent9')
 w.copy(0)
 call=call.applied('l₅','ν','γ')

@@ -23,6 +23,7 @@ use Rattle.session_state.proofs.progress.Progress.Laws as S′
 use Rattle.session_state.proofs.progress.StepAnswer as R
 use Rattle.session_state.proofs.progress.StepAnswer.Laws as R′
 use Rattle.session_run.specs.Driven.{Going, Driven}
+use Rattle.session_run.proofs.Lending.{lends, comes, twice}
 use Rattle.session_run.proofs.Between.{Values, ahead, Slot, Stepped, after-step, goes, stops, Between, at-start, in-rows, ready, goes-on, falls, at-end}
 '''
 MACH='''-- The machine values of the structs.
@@ -73,20 +74,30 @@ OPEN='''    abbrev file : List ℕ
     Nearer-wf : WellFounded Nearer
     Nearer-wf = InvImage·wf (λ (i : X). ahead (i .0 .progress)) (Nat·lt-wfRel .wf)
 
+    -- Records as the borrow's ghost variable has them.
+    abbrev coded : List Checkpoint → Gv
+    coded cs = codedHoleys T.the-row .code (heres T.the-row cs)
+
     -- What a turn has of the parameters: the row of records, the borrow that is open, and the other slices at the present lists.
     abbrev Has : Values → List (Item 𝓤) → List (Item 𝓤)
-    Has m Γ = ‵ (row T.the-row fullShare (m .rows) b o) ∷ ‵ (fobor κ₀ q₀ (Held T.the-row n₀ b o (x₀ .name))) ∷ ‵ (fobs (x₀ .name) (codedHoleys T.the-row .code (heres T.the-row rows))) ∷ ‵ (fauth (x₀ .name) (codedHoleys T.the-row .code (heres T.the-row rows))) ∷ @REST@ ∷ Γ
+    Has m Γ = ‵ (row T.the-row fullShare (m .rows) b o) ∷ ‵ (fobor κ₀ q₀ (Held T.the-row n₀ b o (x₀ .name)))
+        ∷ ‵ (fobs (x₀ .name) (coded rows)) ∷ ‵ (fauth (x₀ .name) (coded rows))
+        ∷ @REST@ ∷ Γ
 
     -- At exit the borrow is closed.
     abbrev Ends : Values → List (Item 𝓤)
-    Ends m = ‵ (fobs (x₀ .name) (codedHoleys T.the-row .code (heres T.the-row (m .rows)))) ∷ ‵ (fbor κ₀ (Held T.the-row (length (m .rows)) b o (x₀ .name))) ∷ ‵ (flft κ₀ q₀) ∷ @REST@ ∷ []
+    Ends m = ‵ (fobs (x₀ .name) (coded (m .rows))) ∷ ‵ (fbor κ₀ (Held T.the-row (length (m .rows)) b o (x₀ .name))) ∷ ‵ (flft κ₀ q₀)
+        ∷ @REST@ ∷ []
 
-    exits : (m : Values) → Facts m → Driven file (x₁ .now) (x₂ .now) rows (x₃ .now) s (m .work) (m .words) (m .rows) (m .out) (m .progress) (s .done) → ent 𝓤 (⋆ 𝓤 H A (Ends m)) (Post (mach (m .progress)))
+    exits : (m : Values) → Facts m
+        → Driven file (x₁ .now) (x₂ .now) rows (x₃ .now) s (m .work) (m .words) (m .rows) (m .out) (m .progress) (s .done)
+        → ent 𝓤 (⋆ 𝓤 H A (Ends m)) (Post (mach (m .progress)))
     exits m f e =
 @EXITS@
 
     -- The facts after a turn.
-    next : (i : X) → Holds (not (i .0 .progress .done)) → (k : ℕ) (r : StepAnswer) (z₁ z₂ z₃ : List ℕ) → Slot file (i .0 .progress) k → Stepped file (i .0) k z₁ z₂ z₃ r
+    next : (i : X) → Holds (not (i .0 .progress .done)) → (k : ℕ) (r : StepAnswer) (z₁ z₂ z₃ : List ℕ)
+        → Slot file (i .0 .progress) k → Stepped file (i .0) k z₁ z₂ z₃ r
         → length z₁ ≡ length (i .0 .work) → length z₂ ≡ length (i .0 .words) → length z₃ ≡ length (i .0 .out) → Is S.the-row (r .state) (mach (r .state) ∷ [])
         → Facts (after-step (i .0) k r z₁ z₂ z₃)
     next i go k r z₁ z₂ z₃ ek e e₁ e₂ e₃ t-is = record {
@@ -101,11 +112,13 @@ OPEN='''    abbrev file : List ℕ
 '''
 x=Walk(f,ENDS)
 x.e('qed W (Ends m) ∵')
-x.e('suffices ! _ (ends-at %s W bound (mach (m .progress)) (m .progress) (m .rows, (m .work, (m .words, (m .out, (tt, (tt, tt)))))) (f .rows-len, (f .work-len, (f .words-len, (f .out-len, (tt, (tt, tt))))))) $ says ! e $'%f.spec)
-x.e('fjoin ! $ pureI ! (at-slice T.the-row (at-last x₀ (m .rows)) (v₀ ∷ [])) (tt, (tt, tt)) (ap (λ (n : ℕ). sliceVal (b, o) n ∷ []) (sym (f .rows-len)), subst (Room T.the-row) (sym (f .rows-len)) room₀) $ fjoin ! $')
+x.e('suffices ! _ (ends-at %s W bound (mach (m .progress)) (m .progress) (m .rows, (m .work, (m .words, (m .out, (tt, (tt, tt))))))'%f.spec)
+x.e('(f .rows-len, (f .work-len, (f .words-len, (f .out-len, (tt, (tt, tt))))))) $ says ! e $')
+x.e('fjoin ! $ pureI ! (at-slice T.the-row (at-last x₀ (m .rows)) (v₀ ∷ [])) (tt, (tt, tt))')
+x.e('(ap (λ (n : ℕ). sliceVal (b, o) n ∷ []) (sym (f .rows-len)), subst (Room T.the-row) (sym (f .rows-len)) room₀) $ fjoin ! $')
 x.head(2,'x0')
 x.ends(['s','x4','x3','x2','x1','x0'],PROGRESS,'m .progress','(f .progress-is)',{'s':PROGRESS.owned('s','s-is')})
-OPEN=OPEN.replace('@REST@',rest).replace('@EXITS@',x.text(8))
+OPEN=fill(OPEN,REST=rest,EXITS=x.text(8))
 
 locals=Locals(['S′.mir',slice_type('T.the-row',0),slice_type('u32',1),slice_type('u32',2),slice_type('u8',3),slice_type('u8',4,'shr'),
     'S′.mir','S′.mir',WORD,'T′.mir','R′.mir','tyBool',WORD,'tyPtr','T′.mir',*again_types('u32','u32','u8'),'tyPtr'])
@@ -113,8 +126,10 @@ params={**{i+1:'v'+sub(i) for i in range(5)},6:'mach s'}
 all_locals=range(locals.n-1,-1,-1)
 def is_field(x): return USIZE.is_('m .progress .'+x,'vint w64 (m .progress .%s)'%x)
 slot=Call(f,SLOT,[Slice(4)]+[Plain(USIZE,'m .progress .'+x,'vint w64 (m .progress .%s)'%x,x+'-is') for x in ('at','adds')])
-step=Call(f,STEP,[Slice(i,'(again%s δ%s (m .%s))'%(sub(i),sub(i),lists[i]),True) for i in lists]+[Slice(4),Plain(PROGRESS,'m .progress','mach (m .progress)','(f .progress-is)'),Plain(RECORD,'rec k','mach-c (rec k)','c-is')],
-    '(ν₁ ν₂ ν₃ : ℕ) (δ₁ δ₂ δ₃ : GName) (k : ℕ)','rd','(c-is : Is T.the-row (rec k) (mach-c (rec k) ∷ [])) (rd : Ready file (the-file file) (m .work) (m .words) (take 65535 (m .out)) (m .progress) (rec k))')
+step=Call(f,STEP,[Slice(i,'(again%s δ%s (m .%s))'%(sub(i),sub(i),lists[i]),True) for i in lists]+[Slice(4),
+    Plain(PROGRESS,'m .progress','mach (m .progress)','(f .progress-is)'),Plain(RECORD,'rec k','mach-c (rec k)','c-is')],
+    '(ν₁ ν₂ ν₃ : ℕ) (δ₁ δ₂ δ₃ : GName) (k : ℕ)','rd','(c-is : Is T.the-row (rec k) (mach-c (rec k) ∷ [])) '
+    '(rd : Ready file (the-file file) (m .work) (m .words) (take 65535 (m .out)) (m .progress) (rec k))')
 lent=[(i,'(m .%s)'%lists[i],'(f .%s-len)'%lists[i]) for i in lists]
 ZS='(zs .0) (zs .1 .0) (zs .1 .1 .0)'
 
@@ -160,7 +175,8 @@ into('elem-put ! T.the-row fullShare (m .rows) k (r .saved) (mach-c (r .saved) �
 on.assign('of-opd ! '+on.part(10,0),7,PROGRESS.typed('r .state','(parts r w r-is .0)'),'store',True)
 on.comment('The context of a turn again.')
 on.forget(range(8,22)); on.leave(*TURN,*locals.names)
-on.e('again ! Nearer At i (after-step m k r %s, next i go k r %s ek e e₁ e₂ e₃ (parts r w r-is .0)) (falls file start m (f .stands) (goes (m .progress .done) go) k ek r %s e)'%(ZS,ZS,ZS))
+on.e(f'again ! Nearer At i (after-step m k r {ZS}, next i go k r {ZS} ek e e₁ e₂ e₃ (parts r w r-is .0))')
+on.e(f'(falls file start m (f .stands) (goes (m .progress .done) go) k ek r {ZS} e)')
 over=w.fork()
 over.e('(λ over. jumps ! $ exec ! (𝓣 .C) (𝓣 .Λ) En body.t-3 (atRet En Post) $')
 over.assign('of-opd ! '+over.ld(7),0,PROGRESS.typed('m .progress','(f .progress-is)'))
@@ -199,7 +215,8 @@ LOOP='''      -- The context of a turn, and its postcondition: it ends nearer to
         adds-is : @IS-ADDS@
         adds-is = LL.owed S.the-type S′.the-laws (m .progress) _ (f .progress-is) .1 .1 .0
 
-        parts : (r : StepAnswer) (w : Val) → Is R.the-row r (w ∷ []) → Is S.the-row (r .state) (mach (r .state) ∷ []) × (Is T.the-row (r .saved) (mach-c (r .saved) ∷ []) × Unit {0})
+        parts : (r : StepAnswer) (w : Val) → Is R.the-row r (w ∷ [])
+            → Is S.the-row (r .state) (mach (r .state) ∷ []) × (Is T.the-row (r .saved) (mach-c (r .saved) ∷ []) × Unit {0})
         parts r w r-is = LL.owed R.the-type R′.the-laws r _ r-is
 
         -- `slot_of`: the file, and two numbers of the progress.
@@ -220,9 +237,9 @@ LOOP='''      -- The context of a turn, and its postcondition: it ends nearer to
 @BEGINS@
 
 '''
-for k,v in {'AT':locals.chain(all_locals,{**params,7:'mach (i .0 .progress)'},'[]'),'START':locals.chain(all_locals,params,'[]'),'IS-AT':is_field('at'),'IS-ADDS':is_field('adds'),'SLOT':slot.text(8,Walk),'STEP':step.text(8,Walk),
-    'TURN':'\n'.join((turn,on.text(10),over.text(10))),'BEGINS':w.text(10)}.items(): LOOP=LOOP.replace('@%s@'%k,v)
-LOOP='      module _ (%s : ℕ) where\n'%locals.ids+'\n'.join('  '+l if l else l for l in (locals.text()+LOOP).split('\n'))
+LOOP=fill(LOOP,AT=locals.chain(all_locals,{**params,7:'mach (i .0 .progress)'},'[]'),START=locals.chain(all_locals,params,'[]'),
+    **{'IS-AT':is_field('at'),'IS-ADDS':is_field('adds')},SLOT=slot.text(8,Walk),STEP=step.text(8,Walk),
+    TURN='\n'.join((turn,on.text(10),over.text(10))),BEGINS=w.text(10))
 
 w=Walk(f,['toks','owns'])
 w.enter(locals.n)
@@ -231,4 +248,5 @@ w.move('x0','t0')
 w.e('fsplit ! $'); w.head(1,'pure','x0'); w.drop('pure'); w.e('fsplit ! $ opens-slice ! tt T.the-row rows b o $'); w.head(2,'row','open','obs','auth')
 w.leave(*TURN,*locals.names)
 w.e('begins '+locals.ids)
-write(f.head(HEAD,USES)+TYPES+MACH+f.opens()+f.agains([1,2,3])+OPEN+f.calls()+LOOP+f.walk(w.text(10))+f.tail('run-steps-spec'),sys.argv[1])
+write(f.head(HEAD,USES)+TYPES+MACH+f.opens()+f.agains([1,2,3])+OPEN+f.calls()
+    +locals.module(LOOP)+f.walk(w.text(10))+f.tail('run-steps-spec'),sys.argv[1])

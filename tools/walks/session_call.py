@@ -22,6 +22,7 @@ use Rattle.session_state.specs.declared.progress.Progress.{Progress}
 use Rattle.session_state.proofs.progress.Progress as S
 use Rattle.session_state.proofs.progress.Progress.Laws as S′
 use Rattle.session_run.specs.Driven.{Driven}
+use Rattle.session_run.proofs.Lending.{lends, comes, twice}
 use Rattle.session_begin.specs.declared.Begun.{Begun}
 use Rattle.session_begin.specs.Begins.{asked, Begins}
 use Rattle.session_begin.proofs.Begun as B
@@ -79,13 +80,15 @@ OPEN='''    abbrev input : List ℕ
     exits r w ws cs o lw lws lcs lo r-is e reads =
 @EXITS@
 
-'''.replace('@LISTS@',LISTS).replace('@HAS@',had(HAS)).replace('@LEFT@',had(LEFT)).replace('@ENDS@',had(ENDS)).replace('@KS@',f.ks).replace('@QS@',f.qs)
+'''
 x=Walk(f,ENDS)
 x.e('qed W (Ends w ws cs o) ∵')
-x.e('suffices ! _ (via 𝓤 (sep 𝓤 (Leaves r w ws cs o) (sep 𝓤 (fact 𝓤 (Said r w ws cs o)) (fact 𝓤 (Reads r w ws cs o)))) (assoc∗ 𝓤 (Leaves r w ws cs o) (fact 𝓤 (Said r w ws cs o)) (fact 𝓤 (Reads r w ws cs o))) (ends-at %s W bound (mach-r r) r (tt, (w, (ws, (cs, (o, tt))))) (tt, (lw, (lws, (lcs, (lo, tt))))))) $'%f.spec)
+leaves,said,reads=['(%s r w ws cs o)'%n for n in ('Leaves','Said','Reads')]
+x.e(f'suffices ! _ (via 𝓤 (sep 𝓤 {leaves} (sep 𝓤 (fact 𝓤 {said}) (fact 𝓤 {reads}))) (assoc∗ 𝓤 {leaves} (fact 𝓤 {said}) (fact 𝓤 {reads}))')
+x.e(f'(ends-at {f.spec} W bound (mach-r r) r (tt, (w, (ws, (cs, (o, tt))))) (tt, (lw, (lws, (lcs, (lo, tt))))))) $')
 x.e('says ! reads $ says ! e $')
 x.ends(['f4','f3','f2','f1','x0'],ANSWER,'r','r-is')
-OPEN=OPEN.replace('@EXITS@',x.text(8))
+OPEN=fill(OPEN,LISTS=LISTS,HAS=had(HAS),LEFT=had(LEFT),ENDS=had(ENDS),KS=f.ks,QS=f.qs,EXITS=x.text(8))
 
 locals=Locals(['R′.mir',slice_type('u8',0,'shr'),slice_type('u32',1),slice_type('u32',2),slice_type('T.the-row',3),slice_type('u8',4),
     WORD,WORD,'B′.mir','S′.mir',WORD,'S′.mir',*again_types('u32','T.the-row','u32','u32','u8'),'tyUnit',*again_types('T.the-row','u32','u32','u8')])
@@ -103,11 +106,14 @@ now_in='input (x₁ .now) (x₂ .now) (x₃ .now) (x₄ .now) b w₁ lw₁ (bega
 now_run=now_in+' p w₂ ws₂ cs₂ o₂ lw₂ lws₂ lcs₂ lo₂ drove'
 
 # ---- What each call is handed.
-begin=Call(f,BEGIN,[Slice(0),Slice(1,'(again₁ δ₁ (x₁ .now))',True),Plain(USIZE,'n₂','vint w64 n₂','(refl, room₂ .0)'),Plain(USIZE,'n₃','vint w64 n₃','(refl, room₃ .0)')],'(ν₁ : ℕ) (δ₁ : GName)')
-drive=Call(f,DRIVE,[Slice(3,'(again₃ δ₃ (x₃ .now))',True),Slice(1,'(again₁ δ₁ w₁)',True),Slice(2,'(again₂ δ₂ (x₂ .now))',True),Slice(4,'(again₄ δ₄ (x₄ .now))',True),Slice(0),
+begin=Call(f,BEGIN,[Slice(0),Slice(1,'(again₁ δ₁ (x₁ .now))',True),
+    Plain(USIZE,'n₂','vint w64 n₂','(refl, room₂ .0)'),Plain(USIZE,'n₃','vint w64 n₃','(refl, room₃ .0)')],'(ν₁ : ℕ) (δ₁ : GName)')
+drive=Call(f,DRIVE,[Slice(3,'(again₃ δ₃ (x₃ .now))',True),Slice(1,'(again₁ δ₁ w₁)',True),
+    Slice(2,'(again₂ δ₂ (x₂ .now))',True),Slice(4,'(again₄ δ₄ (x₄ .now))',True),Slice(0),
     Plain(PROGRESS,'b .start','mach-p (b .start)','start-is')],'(ν₁ ν₂ ν₃ ν₄ : ℕ) (δ₁ δ₂ δ₃ δ₄ : GName)','(run-asks %s)'%now_in)
 clear=Call(f,CLEAR,[Slice(3,'(at-last x₃ cs₂)'),Plain(USIZE,'b .records','vint w64 (b .records)','(refl, records-fit)')],'','(clear-asks %s)'%now_run)
-finish=Call(f,FINISH,[Slice(1,'(at-last x₁ w₂)'),Slice(2,'(at-last x₂ ws₂)'),Slice(4,'(at-last x₄ o₂)'),Plain(BOOL,'b .start .done','vbool (b .start .done)','refl'),Plain(PROGRESS,'p','mach-p p','p-is')],'','(finish-asks %s)'%now_run)
+finish=Call(f,FINISH,[Slice(1,'(at-last x₁ w₂)'),Slice(2,'(at-last x₂ ws₂)'),Slice(4,'(at-last x₄ o₂)'),
+    Plain(BOOL,'b .start .done','vbool (b .start .done)','refl'),Plain(PROGRESS,'p','mach-p p','p-is')],'','(finish-asks %s)'%now_run)
 
 # ---- The parts of the walk.
 def part(ctx): return Walk(f,ctx+locals.names,locals.n)
@@ -164,12 +170,15 @@ PARTS='''      -- What `begin` says.
       abbrev Began : Begun → List ℕ → Type 0
       Began b w₁ = Bytes input × Begins input (x₁ .now) n₂ n₃ w₁ b (asked input n₁ n₂ n₃)
 
-      module _ (b : Begun) (w₁ : List ℕ) (lw₁ : length w₁ ≡ n₁) (began : Began b w₁) (start-is : Is S.the-row (b .start) (mach-p (b .start) ∷ [])) (records-fit : b .records < 2 ^ 64) where
+      module _ (b : Begun) (w₁ : List ℕ) (lw₁ : length w₁ ≡ n₁) (began : Began b w₁)
+          (start-is : Is S.the-row (b .start) (mach-p (b .start) ∷ [])) (records-fit : b .records < 2 ^ 64) where
         -- What `run_steps` says.
         abbrev Drove : (p : Progress) (w₂ ws₂ : List ℕ) (cs₂ : List Checkpoint) (o₂ : List ℕ) → Type 0
         Drove p w₂ ws₂ cs₂ o₂ = Driven input w₁ (x₂ .now) (x₃ .now) (x₄ .now) (b .start) w₂ ws₂ cs₂ o₂ p (b .start .done)
 
-        module _ (p : Progress) (w₂ ws₂ : List ℕ) (cs₂ : List Checkpoint) (o₂ : List ℕ) (lw₂ : length w₂ ≡ length w₁) (lws₂ : length ws₂ ≡ n₂) (lcs₂ : length cs₂ ≡ n₃) (lo₂ : length o₂ ≡ n₄) (drove : Drove p w₂ ws₂ cs₂ o₂) (p-is : Is S.the-row p (mach-p p ∷ [])) where
+        module _ (p : Progress) (w₂ ws₂ : List ℕ) (cs₂ : List Checkpoint) (o₂ : List ℕ)
+            (lw₂ : length w₂ ≡ length w₁) (lws₂ : length ws₂ ≡ n₂) (lcs₂ : length cs₂ ≡ n₃) (lo₂ : length o₂ ≡ n₄)
+            (drove : Drove p w₂ ws₂ cs₂ o₂) (p-is : Is S.the-row p (mach-p p ∷ [])) where
           -- What `clear_first` and `finish` say.
           abbrev Emptied : List Checkpoint → Type 0
           Emptied cs₃ = cs₃ ≡ replicate (b .records) blank ++ skip (b .records) cs₂
@@ -178,7 +187,8 @@ PARTS='''      -- What `begin` says.
           Finished r w₃ ws₃ o₃ = (answer-of r ≡ answer-at p) × Cleared p w₂ ws₂ o₂ w₃ ws₃ o₃ (b .start .done)
 
           -- The end of the call: both clauses, from what the calls say.
-          closes : (r : SessionAnswer) (w₃ ws₃ : List ℕ) (cs₃ : List Checkpoint) (o₃ : List ℕ) → length w₃ ≡ length w₂ → length ws₃ ≡ length ws₂ → length cs₃ ≡ length cs₂ → length o₃ ≡ length o₂
+          closes : (r : SessionAnswer) (w₃ ws₃ : List ℕ) (cs₃ : List Checkpoint) (o₃ : List ℕ)
+              → length w₃ ≡ length w₂ → length ws₃ ≡ length ws₂ → length cs₃ ≡ length cs₂ → length o₃ ≡ length o₂
               → Is R.the-row r (mach-r r ∷ []) → Emptied cs₃ → Finished r w₃ ws₃ o₃ → ent 𝓤 (⋆ 𝓤 H A (Ends w₃ ws₃ cs₃ o₃)) (Post (mach-r r))
           closes r w₃ ws₃ cs₃ o₃ lw₃ lws₃ lcs₃ lo₃ r-is emptied finished =
               exits r w₃ ws₃ cs₃ o₃ (lw₃ ∙ lw₂ ∙ lw₁) (lws₃ ∙ lws₂) (lcs₃ ∙ lcs₂) (lo₃ ∙ lo₂) r-is same
@@ -215,9 +225,10 @@ PARTS='''      -- What `begin` says.
 w=Walk(f,['toks','owns'])
 w.enter(locals.n); w.leave(*HAS,*locals.names)
 w.e('begins '+locals.ids)
-for k,v in {'RUN':now_run,'FINISH':finish.text(10,Walk),'CLEAR':clear.text(10,Walk),'DRIVE':drive.text(8,Walk),'BEGIN':begin.text(6,Walk),'LAST':last,'THIRD':third,'SECOND':second,'BEGINS':begins,
-    'SQ4':sq('Left w₂ ws₂ cs₃ o₂ '+between(START),'t-20'),'SQ3':sq('Has w₂ ws₂ cs₂ o₂ '+between({**START,10:'vint w64 (b .records)'}),'t-17'),
-    'SQ2':sq('Has w₁ (x₂ .now) (x₃ .now) (x₄ .now) '+between({8:'mach-b b'}),'t-6'),'SQ1':sq('Has (x₁ .now) (x₂ .now) (x₃ .now) (x₄ .now) '+between({}),'t-1')}.items(): PARTS=PARTS.replace('@%s@'%k,v)
-# The parts stand in a module over the locals.
-PARTS='      module _ (%s : ℕ) where\n'%locals.ids+'\n'.join('  '+l if l else l for l in (locals.text()+TEMPS+PARTS).split('\n'))
-write(f.head(HEAD,USES)+TYPES+MACH+f.opens()+f.agains([1,2,3,4])+OPEN+f.calls()+PARTS+f.walk(w.text(10))+f.tail('nikvoldra-session-spec'),sys.argv[1])
+PARTS=fill(PARTS,RUN=now_run,FINISH=finish.text(10,Walk),CLEAR=clear.text(10,Walk),DRIVE=drive.text(8,Walk),BEGIN=begin.text(6,Walk),
+    LAST=last,THIRD=third,SECOND=second,BEGINS=begins,SQ4=sq('Left w₂ ws₂ cs₃ o₂ '+between(START),'t-20'),
+    SQ3=sq('Has w₂ ws₂ cs₂ o₂ '+between({**START,10:'vint w64 (b .records)'}),'t-17'),
+    SQ2=sq('Has w₁ (x₂ .now) (x₃ .now) (x₄ .now) '+between({8:'mach-b b'}),'t-6'),
+    SQ1=sq('Has (x₁ .now) (x₂ .now) (x₃ .now) (x₄ .now) '+between({}),'t-1'))
+write(f.head(HEAD,USES)+TYPES+MACH+f.opens()+f.agains([1,2,3,4])+OPEN+f.calls()
+    +locals.module(TEMPS+PARTS)+f.walk(w.text(10))+f.tail('nikvoldra-session-spec'),sys.argv[1])

@@ -43,13 +43,19 @@ class Row:
     def owned(s,x,is_): return 'owned ! %s (Is %s) (%s) %s _ %s'%(s.row,s.row,s.makes,par(x),is_)
     def spelled(s,x,is_): return '(subst (Is %s %s) %s %s)'%(s.row,par(x),s.tells(x,is_),is_)
     def is_(s,x,v): return 'Is %s %s (%s ∷ [])'%(s.row,par(x),v)
-def struct(ty,m): return Row(ty,m+'.the-row','LL.lawful %s.the-type %s′.the-laws 𝓤 H A W'%(m,m),'LL.makes %s.the-type %s′.the-plain 𝓤 H A'%(m,m),lambda x,i:'(LL.tells %s.the-type %s′.the-laws %s _ %s)'%(m,m,x,i),m+'′.mir')
+def struct(ty,m):   # A struct, whose module here is m.
+    laws=f'{m}.the-type {m}′.the-laws'
+    return Row(ty,m+'.the-row',f'LL.lawful {laws} 𝓤 H A W',f'LL.makes {m}.the-type {m}′.the-plain 𝓤 H A',lambda x,i: f'(LL.tells {laws} {x} _ {i})',m+'′.mir')
 USIZE=Row('ℕ','usize','uint-lawful 𝓤 H A W w64','uint-makes 𝓤 H A W w64',lambda x,i:'(%s .0)'%i,WORD)
 BOOL=Row('bool .Denot','bool',None,'bool-makes 𝓤 H A W',None,None)
 UNIT=Row('Unit {0}','unit','nothing-lawful 𝓤 H A W',None,None,'tyUnit')
 RECORD=struct('Checkpoint','T')
 ANSWER=struct('SessionAnswer','R')
 PROGRESS=struct('Progress','S')
+# A text, with these parts for the marks @NAME@.
+def fill(t,**parts):
+    for k,v in parts.items(): t=t.replace('@%s@'%k,v)
+    return t
 def list_of(elem): return 'List '+('Checkpoint' if elem=='T.the-row' else 'ℕ')
 # A long line is broken: after a `$` or before an arrow or the like, where few parentheses are open; else at any space.
 WIDTH=160

@@ -40,7 +40,8 @@ module _ (input : List ℕ) (before after : Lists) (work : List ℕ) (s : Sessio
           filling = m .filling;
           reads =
               subst (λ (x : read.Result). ReadAs x (m .tree)) (sym was-read)
-              (m .reads (store-slices work (before .pairs) (before .atoms) (before .bytes)) (same-enough (before .work) work (before .pairs) (before .atoms) (before .bytes) same long));
+              (m .reads (store-slices work (before .pairs) (before .atoms) (before .bytes))
+              (same-enough (before .work) work (before .pairs) (before .atoms) (before .bytes) same long));
         }
 
     pub trip : Trip input before after both

@@ -19,7 +19,7 @@ use prog.Wp.{Heap, WpFn, Tables}
 use ghost.Atoms.{Atoms}
 use contract.Monad.{Fun, fact}
 use contract.Running.{givenOf, tables, tablesOf}
-use types.Kit.{Given, Item, ‵, raw, some, later, _⊛_, ⋆, _$_, _∵_, !, qed, by, move, drop, use1, use2, use3}
+use types.Kit.{Given, Item, ‵, raw, some, later, _⊛_, ⋆, _$_, _∵_, !, qed, by, move, drop, use1, use2}
 use types.Kit.{split, join, pick, rewrite, group, fsplit, fjoin, feqL, suffices, frame, await, done}
 use types.Part.{agg, whole, sub, look-in}
 use types.Run.{look, init, forget, stop, hop, fld, from, load, addr, and-then, no-more, assigns}
@@ -30,7 +30,7 @@ use denote.RattleType.{owns}
 use denote.Laws.{Is, shows}
 use denote.Builtin.{u8, u32}
 use denote.Ref.{RefT, at-last}
-use denote.Slice.{sliceVal, MutSlice, ShrSlice, Room, finally, slice-vals, mut-slice-tells, shr-slice-tells, shr-slice-copy}
+use denote.Slice.{sliceVal, MutSlice, ShrSlice, Room, finally, slice-vals, mut-slice-tells, shr-slice-tells}
 use denote.Signature.{plain}
 use denote.Steps.{only, owned, facts, heard, nothing}
 use denote.Struct.Laws as LL
@@ -38,13 +38,12 @@ use denote.Triple.Entry.{onEntry}
 use denote.Triple.Spec.{Meets, tripleOf}
 use denote.Triple.Statement.{Contract, Triple}
 use denote.Triple.Call.{calls-at}
-use denote.Triple.Clauses.{ensured, lasts}
+use denote.Triple.Clauses.{lasts}
 use denote.Triple.Table.{entered, cited}
 use denote.Triple.Walked.{says, Stays, stay-slice, gave-slice, stay-none-slice, walkOf, ends-at, walked, walk-meets}
 use denote.Triple.Walked.{goes-slice, goes-gave-slice, goes-none-slice}
 use denote.Exit.{yes}
 use Rattle.session_state.specs.declared.checkpoints.Checkpoint.{Checkpoint}
-use Rattle.session_state.proofs.checkpoints.Again.{Lent, under, lends-at, comes-at}
 use Rattle.session_state.proofs.checkpoints.Checkpoint as T
 use Rattle.spec_reading.specs.Call.{reading}
 use Rattle.read_answer.specs.declared.ReadAnswer.{ReadAnswer}
@@ -56,6 +55,7 @@ use Rattle.session_answer.specs.declared.SessionAnswer.{SessionAnswer}
 use Rattle.session_answer.proofs.SessionAnswer as R
 use Rattle.session_answer.proofs.SessionAnswer.Laws as R′
 use Rattle.session_call.specs.Outcome.{result-of, ReadsBack}
+use Rattle.session_call.proofs.Lending.{lends, comes, twice}
 use Rattle.round_trip.specs.declared.RoundTrip.{RoundTrip}
 use Rattle.round_trip.specs.RoundTrip.{Lists, lists, the-session}
 use Rattle.round_trip.proofs.Returned.{trip}
@@ -327,35 +327,24 @@ module _ {M : Type 1} (𝓤 : URA M) (H : Heap 𝓤) (A : Atoms 𝓤) (W : Given
           assigns ! (agg ! (and-then ! (load ! (from ! (stop !)) (look ! 38 refl))
           (and-then ! (load ! (from ! (fld ! refl (stop !))) (look-in ! 62 (sub ! 1 refl (whole !)))) (no-more !)))) (from ! (stop !))
           (init ! 36 refl (tt, (tt, (record { fits = room₄ .0 }, tt)))) $
-          lft-new ! tt (λ ν₁. move ! (15 ∷ 7 ∷ []) $
-          use2 W (later (some (λ (δ : GName). ‵ (MutSlice (named 1) (ν₁ ∷ []) u32 .own
-          (under u32 κ₁ (ν₁ ∷ []) q₁ 𝓤 H A W (named 1) (named 1) x₁ n₁ (x₁ .now) refl δ) (v₁ ∷ []))
-          ⊛ ‵ (Lent u32 κ₁ (ν₁ ∷ []) q₁ 𝓤 H A W (named 1) (named 1) x₁ n₁ (x₁ .now) refl δ))))
-          (lends-at u32 κ₁ (ν₁ ∷ []) q₁ 𝓤 H A W (named 1) (named 1) x₁ n₁ (x₁ .now) refl) $ await ! tt $ pick ! (λ δ₁. split ! $
-          lft-new ! tt (λ ν₄. move ! (14 ∷ 7 ∷ []) $
-          use2 W (later (some (λ (δ : GName). ‵ (MutSlice (named 4) (ν₄ ∷ []) u8 .own
-          (under u8 κ₄ (ν₄ ∷ []) q₄ 𝓤 H A W (named 4) (named 4) x₄ n₄ (x₄ .now) refl δ) (v₄ ∷ []))
-          ⊛ ‵ (Lent u8 κ₄ (ν₄ ∷ []) q₄ 𝓤 H A W (named 4) (named 4) x₄ n₄ (x₄ .now) refl δ))))
-          (lends-at u8 κ₄ (ν₄ ∷ []) q₄ 𝓤 H A W (named 4) (named 4) x₄ n₄ (x₄ .now) refl) $ await ! tt $ pick ! (λ δ₄. split ! $
+          move ! (14 ∷ 6 ∷ []) $
+          lends ! tt u32 1 κ₁ q₁ x₁ n₁ (x₁ .now) refl (λ ν₁ δ₁. move ! (13 ∷ 6 ∷ []) $
+          lends ! tt u8 4 κ₄ q₄ x₄ n₄ (x₄ .now) refl (λ ν₄ δ₄.
           -- A copy of `file` is kept.
-          move ! (17 ∷ []) $
-          use1 W (‵ (ShrSlice (named 0) κ₀ u8 .own x₀ (v₀ ∷ [])) ⊛ ‵ (ShrSlice (named 0) κ₀ u8 .own x₀ (v₀ ∷ [])))
-          (shr-slice-copy 𝓤 H A W (named 0) κ₀ u8 .twice x₀ (v₀ ∷ [])) $ split ! $
-          move ! (0 ∷ 13 ∷ 5 ∷ 7 ∷ 18 ∷ 12 ∷ 17 ∷ 11 ∷ 2 ∷ 4 ∷ []) $ group ! 10 $ use1 W (raw (Session .pre (to-call ν₁ ν₄ δ₁ δ₄))) (goes-call ν₁ ν₄ δ₁ δ₄) $
+          move ! (17 ∷ []) $ twice ! u8 0 κ₀ x₀ (v₀ ∷ []) $ move ! (0 ∷ 13 ∷ 5 ∷ 6 ∷ 18 ∷ 12 ∷ 17 ∷ 11 ∷ 2 ∷ 3 ∷ []) $
+          group ! 10 $ use1 W (raw (Session .pre (to-call ν₁ ν₄ δ₁ δ₄))) (goes-call ν₁ ν₄ δ₁ δ₄) $
           calls-at ! fm Session known-call (to-call ν₁ ν₄ δ₁ δ₄) (and-then ! (load ! (from ! (stop !)) (look ! 64 refl))
           (and-then ! (load ! (from ! (stop !)) (look ! 42 refl)) (and-then ! (load ! (from ! (stop !)) (look ! 38 refl))
           (and-then ! (load ! (from ! (stop !)) (look ! 34 refl)) (and-then ! (load ! (from ! (stop !)) (look ! 30 refl)) (no-more !))))))
           (λ u. use1 W (later (some (λ (s : SessionAnswer). ((‵ (flft κ₀ q₀) ⊛ ‵ (flft (ν₁ ∷ []) fullShare) ⊛ ‵ (flft κ₂ q₂) ⊛ ‵ (flft κ₃ q₃)
-          ⊛ ‵ (flft (ν₄ ∷ []) fullShare) ⊛ ‵ ftrue) ⊛ ‵ (R.the-row .own s (u ∷ []))) ⊛ raw
-          (ensured 𝓤 H A call.ended (call.clauses 𝓤 H A mem run) (κ₀, (ν₁ ∷ [], (κ₂, (κ₃, (ν₄ ∷ [], tt))))) (given-call ν₁ ν₄ δ₁ δ₄) tt s)))) (id⊢ 𝓤 _) $
-          await ! tt $ pick ! (λ s. split ! $ move ! (1 ∷ []) $
-          use1 W (some (λ (zs : Unit {0} × (List ℕ × (List ℕ × (List Checkpoint × (List ℕ × Unit {0}))))). ‵ (lasts call.ended
+          ⊛ ‵ (flft (ν₄ ∷ []) fullShare) ⊛ ‵ ftrue) ⊛ ‵ (R.the-row .own s (u ∷ [])))
+          ⊛ some (λ (zs : Unit {0} × (List ℕ × (List ℕ × (List Checkpoint × (List ℕ × Unit {0}))))). ‵ (lasts call.ended
           (κ₀, (ν₁ ∷ [], (κ₂, (κ₃, (ν₄ ∷ [], tt))))) (given-call ν₁ ν₄ δ₁ δ₄) zs) ⊛
           (raw (fact 𝓤 (Ran s (zs .1 .0) (zs .1 .1 .0) (zs .1 .1 .1 .0) (zs .1 .1 .1 .1 .0))) ⊛ raw
-          (fact 𝓤 (Back s (zs .1 .0) (zs .1 .1 .0) (zs .1 .1 .1 .0) (zs .1 .1 .1 .1 .0)))))) (id⊢ 𝓤 _) $ pick ! (λ zs. split ! $
-          move ! (1 ∷ []) $ split ! $
-          heard ! (Ran s (zs .1 .0) (zs .1 .1 .0) (zs .1 .1 .1 .0) (zs .1 .1 .1 .1 .0)) (λ ran.
-          heard ! (Back s (zs .1 .0) (zs .1 .1 .0) (zs .1 .1 .1 .0) (zs .1 .1 .1 .1 .0)) (λ back.
+          (fact 𝓤 (Back s (zs .1 .0) (zs .1 .1 .0) (zs .1 .1 .1 .0) (zs .1 .1 .1 .1 .0)))))))) (id⊢ 𝓤 _) $
+          await ! tt $ pick ! (λ s. split ! $ move ! (1 ∷ []) $ pick ! (λ zs. split ! $ move ! (1 ∷ []) $ split ! $
+          heard ! _ (λ ran.
+          heard ! _ (λ back.
           -- Each last list, and its length.
           fsplit ! $ drop ! $ fsplit ! $ fsplit ! $ move ! (1 ∷ []) $ feqL ! (λ e₁. move ! (1 ∷ []) $ fsplit ! $ fsplit ! $ move ! (1 ∷ []) $ feqL ! (λ e₂.
           move ! (1 ∷ []) $ fsplit ! $ fsplit ! $ move ! (1 ∷ []) $ feqL ! (λ e₃. move ! (1 ∷ []) $ fsplit ! $ fsplit ! $ move ! (1 ∷ []) $ feqL ! (λ e₄.
@@ -364,12 +353,8 @@ module _ {M : Type 1} (𝓤 : URA M) (H : Heap 𝓤) (A : Atoms 𝓤) (W : Given
           rewrite ! 52 (λ (z : Val). ‵ (fat fullShare R′.mir l₉ 0 z)) (ap only (LL.tells R.the-type R′.the-laws s _ s-is)) refl $ split ! $ move ! (1 ∷ []) $
           split ! $ move ! (1 ∷ []) $ split ! $ move ! (1 ∷ []) $ split ! $ move ! (1 ∷ []) $ split ! $ move ! (1 ∷ []) $ drop ! $
           -- The lifetimes are ended, and work and output come back.
-          move ! (3 ∷ []) $ lft-end ! tt $ move ! (0 ∷ 11 ∷ 8 ∷ []) $
-          use3 W (later (‵ (MutSlice (named 1) κ₁ u32 .own (at-last x₁ (zs .1 .0)) (v₁ ∷ [])) ⊛ ‵ (flft κ₁ q₁)))
-          (comes-at u32 κ₁ (ν₁ ∷ []) q₁ 𝓤 H A W (named 1) (named 1) x₁ n₁ (x₁ .now) refl δ₁ (zs .1 .0) room₁ e₁) $ await ! tt $ split ! $
-          move ! (2 ∷ []) $ lft-end ! tt $ move ! (0 ∷ 10 ∷ 6 ∷ []) $
-          use3 W (later (‵ (MutSlice (named 4) κ₄ u8 .own (at-last x₄ (zs .1 .1 .1 .1 .0)) (v₄ ∷ [])) ⊛ ‵ (flft κ₄ q₄)))
-          (comes-at u8 κ₄ (ν₄ ∷ []) q₄ 𝓤 H A W (named 4) (named 4) x₄ n₄ (x₄ .now) refl δ₄ (zs .1 .1 .1 .1 .0) room₄ e₄) $ await ! tt $ split ! $
+          move ! (3 ∷ 11 ∷ 8 ∷ []) $ comes ! tt u32 1 κ₁ q₁ x₁ n₁ (x₁ .now) refl ν₁ δ₁ (zs .1 .0) room₁ e₁ $ move ! (2 ∷ 10 ∷ 6 ∷ []) $
+          comes ! tt u8 4 κ₄ q₄ x₄ n₄ (x₄ .now) refl ν₄ δ₄ (zs .1 .1 .1 .1 .0) room₄ e₄ $
           -- The slices as the reading takes them; output is lent as a `&[u8]`.
           assigns ! (addr ! (from ! (fld ! refl (hop ! (look-in ! 62 (sub ! 0 refl (whole !))) (stop !))))) (from ! (stop !)) (init ! 34 refl (tt, tt)) $
           assigns ! (agg ! (and-then ! (load ! (from ! (stop !)) (look ! 34 refl))
@@ -403,15 +388,12 @@ module _ {M : Type 1} (𝓤 : URA M) (H : Heap 𝓤) (A : Atoms 𝓤) (W : Given
           (and-then ! (load ! (from ! (stop !)) (look ! 20 refl)) (and-then ! (load ! (from ! (stop !)) (look ! 16 refl))
           (and-then ! (load ! (from ! (stop !)) (look ! 12 refl)) (and-then ! (load ! (from ! (stop !)) (look ! 8 refl)) (no-more !)))))))
           (λ y. use1 W (later (some (λ (r : ReadAnswer). ((‵ (flft (ν ∷ []) fullShare) ⊛ ‵ (flft κ₁ q₁) ⊛ ‵ (flft κ₅ q₅) ⊛ ‵ (flft κ₆ q₆) ⊛ ‵ (flft κ₇ q₇)
-          ⊛ ‵ ftrue) ⊛ ‵ (Q.the-row .own r (y ∷ []))) ⊛ raw (ensured 𝓤 H A reads.ended (reads.clauses 𝓤 H A mem run) (ν ∷ [], (κ₁, (κ₅, (κ₆, (κ₇, tt)))))
-          (given-reads (zs .1 .1 .1 .1 .0) (zs .1 .0) s ν δ) tt r)))) (id⊢ 𝓤 _) $
-          await ! tt $ pick ! (λ r. split ! $ move ! (1 ∷ []) $
-          use1 W (some (λ (ls : Unit {0} × (Unit {0} × (List ℕ × (List ℕ × (List ℕ × (List ℕ × Unit {0})))))). ‵ (lasts reads.ended
+          ⊛ ‵ ftrue) ⊛ ‵ (Q.the-row .own r (y ∷ [])))
+          ⊛ some (λ (ls : Unit {0} × (Unit {0} × (List ℕ × (List ℕ × (List ℕ × (List ℕ × Unit {0})))))). ‵ (lasts reads.ended
           (ν ∷ [], (κ₁, (κ₅, (κ₆, (κ₇, tt))))) (given-reads (zs .1 .1 .1 .1 .0) (zs .1 .0) s ν δ) ls) ⊛ raw
-          (fact 𝓤 (WasRead s (zs .1 .0) (zs .1 .1 .1 .1 .0) r (ls .1 .1 .0) (ls .1 .1 .1 .0) (ls .1 .1 .1 .1 .0) (ls .1 .1 .1 .1 .1 .0)))))
-          (id⊢ 𝓤 _) $ pick ! (λ ls. split ! $
-          move ! (1 ∷ []) $
-          heard ! (WasRead s (zs .1 .0) (zs .1 .1 .1 .1 .0) r (ls .1 .1 .0) (ls .1 .1 .1 .0) (ls .1 .1 .1 .1 .0) (ls .1 .1 .1 .1 .1 .0)) (λ was-read.
+          (fact 𝓤 (WasRead s (zs .1 .0) (zs .1 .1 .1 .1 .0) r (ls .1 .1 .0) (ls .1 .1 .1 .0) (ls .1 .1 .1 .1 .0) (ls .1 .1 .1 .1 .1 .0))))))) (id⊢ 𝓤 _) $
+          await ! tt $ pick ! (λ r. split ! $ move ! (1 ∷ []) $ pick ! (λ ls. split ! $ move ! (1 ∷ []) $
+          heard ! _ (λ was-read.
           -- Each last list, and its length.
           fsplit ! $ drop ! $ fsplit ! $ drop ! $ fsplit ! $ fsplit ! $ move ! (1 ∷ []) $ feqL ! (λ d₁. move ! (1 ∷ []) $ fsplit ! $ fsplit ! $
           move ! (1 ∷ []) $ feqL ! (λ e₅. move ! (1 ∷ []) $ fsplit ! $ fsplit ! $ move ! (1 ∷ []) $ feqL ! (λ e₆. move ! (1 ∷ []) $ fsplit ! $ fsplit ! $
@@ -440,7 +422,7 @@ module _ {M : Type 1} (𝓤 : URA M) (H : Heap 𝓤) (A : Atoms 𝓤) (W : Given
           move ! (18 ∷ 19 ∷ []) $ free1 ! $ move ! (16 ∷ 17 ∷ []) $ free1 ! $ free0 ! $
           move ! (15 ∷ 12 ∷ 5 ∷ 11 ∷ 10 ∷ 1 ∷ 4 ∷ 3 ∷ 2 ∷ 9 ∷ 14 ∷ 13 ∷ 0 ∷ 8 ∷ 7 ∷ []) $
           by ! (exits s (zs .1 .0) (zs .1 .1 .0) (zs .1 .1 .1 .0) (zs .1 .1 .1 .1 .0) e₁ e₂ e₃ e₄ ran back r (ls .1 .1 .0) (ls .1 .1 .1 .0) (ls .1 .1 .1 .1 .0)
-          (ls .1 .1 .1 .1 .1 .0) d₁ e₅ e₆ e₇ was-read (both-are s u s-is r y r-is))))))))))))))))))))))))))))))))))))))))))))))))))))))))
+          (ls .1 .1 .1 .1 .1 .0) d₁ e₅ e₆ e₇ was-read (both-are s u s-is r y r-is))))))))))))))))))))))))))))))))))))))))))))))))))))))
 
   meets : (𝓣 : Tables 𝓤 H) → Triple 𝓤 (𝓣 .C #call) Session → Triple 𝓤 (𝓣 .C #reads) Reading → Meets 𝓤 H A this.signature (WpFn 𝓤 H (𝓣 .C) (𝓣 .Λ) code.function)
       (this.spec 𝓤 H A mem run)

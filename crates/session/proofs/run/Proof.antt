@@ -32,7 +32,7 @@ use denote.Laws.{Is, shows}
 use denote.Builtin.{u8, u32}
 use denote.Ref.{RefT}
 use denote.Array.{Array, arrayVal, array-lawful, array-repeat}
-use denote.Slice.{sliceVal, MutSlice, ShrSlice, Room, finally, slice-vals, mut-slice-tells, shr-slice-tells, shr-slice-copy}
+use denote.Slice.{sliceVal, MutSlice, ShrSlice, Room, finally, slice-vals, mut-slice-tells, shr-slice-tells}
 use denote.Lend.{Held}
 use denote.Signature.{plain}
 use denote.Steps.{only, owned, peeks, facts, nothing}
@@ -41,7 +41,7 @@ use denote.Triple.Entry.{onEntry}
 use denote.Triple.Spec.{Meets, tripleOf}
 use denote.Triple.Statement.{Contract, Triple}
 use denote.Triple.Call.{calls-at}
-use denote.Triple.Clauses.{ensured, lasts, atExit}
+use denote.Triple.Clauses.{lasts, atExit}
 use denote.Triple.Table.{entered, cited}
 use denote.Triple.Walked.{Stays, gave-slice, stay-none-slice, walkOf, ends-at, walked, walk-meets}
 use denote.Triple.Walked.{goes-gave-slice, goes-none-slice}
@@ -53,6 +53,7 @@ use Rattle.session_state.proofs.checkpoints.Checkpoint.Laws as T′
 use Rattle.session_answer.specs.declared.SessionAnswer.{SessionAnswer}
 use Rattle.session_answer.proofs.SessionAnswer as R
 use Rattle.session_answer.proofs.SessionAnswer.Laws as R′
+use Rattle.session_call.proofs.Lending.{twice}
 use Rattle.session.proofs.Lent.{lends-array, array-back}
 use Rattle.session_call.proofs.nikvoldra_session as call
 use Rattle.session_call.proofs.nikvoldra_session.Symbol as call-def
@@ -170,8 +171,8 @@ module _ {M : Type 1} (𝓤 : URA M) (H : Heap 𝓤) (A : Atoms 𝓤) (W : Given
     Ends w₁ w₂ w₃ = ‵ (ShrSlice (named 0) κ₀ u8 .own x₀ (v₀ ∷ [])) ∷ ‵ (flft κ₀ q₀) ∷ ‵ (flft κ₁ q₁) ∷ ‵ (flft κ₂ q₂) ∷ ‵ (flft κ₃ q₃)
         ∷ ‵ (finally u32 (x₁ .name) w₁) ∷ ‵ (finally u32 (x₂ .name) w₂) ∷ ‵ (finally u8 (x₃ .name) w₃) ∷ []
 
-    exits : (r : SessionAnswer) (w₁ w₂ w₃ : List ℕ) → length w₁ ≡ n₁ → length w₂ ≡ n₂ → length w₃ ≡ n₃ → Is R.the-row r (mach r ∷ []) → ent 𝓤
-        (⋆ 𝓤 H A (Ends w₁ w₂ w₃)) (Post (mach r))
+    exits : (r : SessionAnswer) (w₁ w₂ w₃ : List ℕ) → length w₁ ≡ n₁ → length w₂ ≡ n₂ → length w₃ ≡ n₃ → Is R.the-row r (mach r ∷ [])
+        → ent 𝓤 (⋆ 𝓤 H A (Ends w₁ w₂ w₃)) (Post (mach r))
     exits r w₁ w₂ w₃ e₁ e₂ e₃ r-is =
         qed W (Ends w₁ w₂ w₃) ∵ suffices ! _ (ends-at 𝓤 H A this.ended stayed (this.clauses 𝓤 H A mem run) W bound (mach r) r (tt, (w₁, (w₂, (w₃, tt))))
         (tt, (e₁, (e₂, (e₃, tt))))) $
@@ -223,25 +224,20 @@ module _ {M : Type 1} (𝓤 : URA M) (H : Heap 𝓤) (A : Atoms 𝓤) (W : Given
           -- The array is lent for a lifetime of the call.
           lft-new ! tt (λ ν. move ! (28 ∷ 1 ∷ []) $
           use2 W (later (some (λ (γ : GName). ‵ (MutSlice (named 3) (ν ∷ []) T.the-row .own (records l₅ γ) (sliceVal (l₅, 0) 16 ∷ []))
-          ⊛ ‵ (flent (ν ∷ []) (Held T.the-row 16 l₅ 0 γ))))) (lends-array 𝓤 H A W T.the-row (named 3)
-          (ν ∷ []) 16 l₅ tt room blanks zeros) $ await ! tt $ pick ! (λ γ. split ! $
+          ⊛ ‵ (flent (ν ∷ []) (Held T.the-row 16 l₅ 0 γ)))))
+          (lends-array 𝓤 H A W T.the-row (named 3) (ν ∷ []) 16 l₅ tt room blanks zeros) $ await ! tt $ pick ! (λ γ. split ! $
           -- A copy of `file` is kept.
-          move ! (10 ∷ []) $
-          use1 W (‵ (ShrSlice (named 0) κ₀ u8 .own x₀ (v₀ ∷ [])) ⊛ ‵ (ShrSlice (named 0) κ₀ u8 .own x₀ (v₀ ∷ [])))
-          (shr-slice-copy 𝓤 H A W (named 0) κ₀ u8 .twice x₀ (v₀ ∷ [])) $ split ! $
-          move ! (0 ∷ 8 ∷ 11 ∷ 7 ∷ 10 ∷ 6 ∷ 2 ∷ 4 ∷ 9 ∷ 5 ∷ []) $ group ! 10 $ use1 W (raw (Call .pre (to-call l₅ ν γ))) (goes-call l₅ ν γ) $
+          move ! (10 ∷ []) $ twice ! u8 0 κ₀ x₀ (v₀ ∷ []) $ move ! (0 ∷ 8 ∷ 11 ∷ 7 ∷ 10 ∷ 6 ∷ 2 ∷ 4 ∷ 9 ∷ 5 ∷ []) $
+          group ! 10 $ use1 W (raw (Call .pre (to-call l₅ ν γ))) (goes-call l₅ ν γ) $
           calls-at ! fm Call known-call (to-call l₅ ν γ) (and-then ! (load ! (from ! (stop !)) (look ! 28 refl))
           (and-then ! (load ! (from ! (stop !)) (look ! 15 refl)) (and-then ! (load ! (from ! (stop !)) (look ! 11 refl))
           (and-then ! (load ! (from ! (stop !)) (look ! 7 refl)) (and-then ! (load ! (from ! (stop !)) (look ! 3 refl)) (no-more !))))))
           (λ w. use1 W (later (some (λ (r : SessionAnswer). ((‵ (flft κ₀ q₀) ⊛ ‵ (flft κ₁ q₁) ⊛ ‵ (flft κ₂ q₂) ⊛ ‵ (flft (ν ∷ []) fullShare) ⊛ ‵ (flft κ₃ q₃)
-          ⊛ ‵ ftrue) ⊛ ‵ (R.the-row .own r (w ∷ []))) ⊛ raw (ensured 𝓤 H A call.ended (call.clauses 𝓤 H A mem run) (κ₀, (κ₁, (κ₂, (ν ∷ [], (κ₃, tt)))))
-          (given-call l₅ ν γ) tt r)))) (id⊢ 𝓤 _) $
-          await ! tt $ pick ! (λ r. split ! $ move ! (1 ∷ []) $
-          use1 W (some (λ (zs : Unit {0} × (List ℕ × (List ℕ × (List Checkpoint × (List ℕ × Unit {0}))))). ‵ (lasts call.ended
-          (κ₀, (κ₁, (κ₂, (ν ∷ [], (κ₃, tt))))) (given-call l₅ ν γ) zs) ⊛ raw
-          (call.clauses 𝓤 H A mem run (κ₀, (κ₁, (κ₂, (ν ∷ [], (κ₃, tt))))) (given-call l₅ ν γ) .ensures tt r
-          (atExit call.ended (κ₀, (κ₁, (κ₂, (ν ∷ [], (κ₃, tt))))) (given-call l₅ ν γ) zs)))) (id⊢ 𝓤 _) $ pick ! (λ zs. split ! $
-          move ! (1 ∷ []) $ drop ! $
+          ⊛ ‵ ftrue) ⊛ ‵ (R.the-row .own r (w ∷ [])))
+          ⊛ some (λ (zs : Unit {0} × (List ℕ × (List ℕ × (List Checkpoint × (List ℕ × Unit {0}))))). ‵ (lasts call.ended (κ₀, (κ₁, (κ₂, (ν ∷ [], (κ₃, tt)))))
+          (given-call l₅ ν γ) zs) ⊛ raw (call.clauses 𝓤 H A mem run (κ₀, (κ₁, (κ₂, (ν ∷ [], (κ₃, tt))))) (given-call l₅ ν γ) .ensures tt r
+          (atExit call.ended (κ₀, (κ₁, (κ₂, (ν ∷ [], (κ₃, tt))))) (given-call l₅ ν γ) zs)))))) (id⊢ 𝓤 _) $
+          await ! tt $ pick ! (λ r. split ! $ move ! (1 ∷ []) $ pick ! (λ zs. split ! $ move ! (1 ∷ []) $ drop ! $
           -- Each last list, and its length.
           fsplit ! $ drop ! $ fsplit ! $ fsplit ! $ move ! (1 ∷ []) $ feqL ! (λ e₁. move ! (1 ∷ []) $ fsplit ! $ fsplit ! $ move ! (1 ∷ []) $ feqL ! (λ e₂.
           move ! (1 ∷ []) $ fsplit ! $ fsplit ! $ move ! (1 ∷ []) $ feqL ! (λ e₉. move ! (1 ∷ []) $ fsplit ! $ fsplit ! $ move ! (1 ∷ []) $ feqL ! (λ e₃.

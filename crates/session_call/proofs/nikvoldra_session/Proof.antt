@@ -19,12 +19,11 @@ use prog.Wp.{Heap, Env, WpFn, Tables}
 use ghost.Atoms.{Atoms}
 use contract.Monad.{Fun, fact}
 use contract.Running.{givenOf, tables, tablesOf}
-use types.Kit.{Given, Item, Sq, runs, atRet, ‵, raw, some, later, _⊛_, ⋆, _$_, _∵_, !, qed, by, move, drop, use1, use2, use3}
+use types.Kit.{Given, Item, Sq, runs, atRet, ‵, raw, some, later, _⊛_, ⋆, _$_, _∵_, !, qed, by, move, drop, use1}
 use types.Kit.{split, join, pick, rewrite, group, fsplit, fjoin, feqL, suffices, frame, await, done}
 use types.Part.{agg, whole, sub, look-in}
 use types.Run.{look, init, forget, stop, hop, fld, from, load, addr, of-opd, and-then, no-more, assigns}
 use types.Run.{land, returns, enter, alloc1, alloc0, params1, pass1, pass0, free1, free0}
-use types.Tokens.{lft-new, lft-end}
 use sound.WpLaws.{FmC, fmOf, WpFn-mono}
 use denote.RattleType.{RattleType, owns}
 use denote.Laws.{Is, shows}
@@ -32,7 +31,7 @@ use denote.Plain.{uint-makes, bool-makes, nothing-lawful}
 use denote.Memory.{pointee}
 use denote.Builtin.{u8, u32, usize, bool, unit}
 use denote.Ref.{RefT, at-last}
-use denote.Slice.{sliceTy, sliceVal, MutSlice, ShrSlice, Room, finally, slice-vals, mut-slice-tells, shr-slice-tells, shr-slice-copy}
+use denote.Slice.{sliceTy, sliceVal, MutSlice, ShrSlice, Room, finally, slice-vals, mut-slice-tells, shr-slice-tells}
 use denote.Signature.{plain}
 use denote.Steps.{only, owned, facts, heard, nothing}
 use denote.Struct.Laws as LL
@@ -40,14 +39,13 @@ use denote.Triple.Entry.{onEntry}
 use denote.Triple.Spec.{Meets, tripleOf}
 use denote.Triple.Statement.{Contract, Triple}
 use denote.Triple.Call.{calls-at}
-use denote.Triple.Clauses.{ensured, lasts}
+use denote.Triple.Clauses.{lasts}
 use denote.Triple.Table.{entered, cited}
 use denote.Triple.Walked.{says, Stays, gave-slice, stay-none-slice, onExit, walkOf, ends-at, walked, walk-meets}
 use denote.Triple.Walked.{goes-gave-slice, goes-none-slice}
 use denote.Exit.{yes}
 use Rattle.session_state.specs.declared.checkpoints.Checkpoint.{Checkpoint}
 use Rattle.session_state.specs.Records.{blank}
-use Rattle.session_state.proofs.checkpoints.Again.{Lent, under, lends-at, comes-at}
 use Rattle.session_state.proofs.checkpoints.Checkpoint as T
 use Rattle.words.specs.Lists.{Bytes}
 use Rattle.path.specs.Measure.{counted}
@@ -57,6 +55,7 @@ use Rattle.session_state.specs.declared.progress.Progress.{Progress}
 use Rattle.session_state.proofs.progress.Progress as S
 use Rattle.session_state.proofs.progress.Progress.Laws as S′
 use Rattle.session_run.specs.Driven.{Driven}
+use Rattle.session_run.proofs.Lending.{lends, comes, twice}
 use Rattle.session_begin.specs.declared.Begun.{Begun}
 use Rattle.session_begin.specs.Begins.{asked, Begins}
 use Rattle.session_begin.proofs.Begun as B
@@ -227,8 +226,7 @@ module _ {M : Type 1} (𝓤 : URA M) (H : Heap 𝓤) (A : Atoms 𝓤) (W : Given
         qed W (Ends w ws cs o) ∵
         suffices ! _ (via 𝓤 (sep 𝓤 (Leaves r w ws cs o) (sep 𝓤 (fact 𝓤 (Said r w ws cs o)) (fact 𝓤 (Reads r w ws cs o))))
         (assoc∗ 𝓤 (Leaves r w ws cs o) (fact 𝓤 (Said r w ws cs o)) (fact 𝓤 (Reads r w ws cs o)))
-        (ends-at 𝓤 H A this.ended stayed (this.clauses 𝓤 H A mem run) W bound (mach-r r) r (tt, (w, (ws, (cs, (o, tt)))))
-        (tt, (lw, (lws, (lcs, (lo, tt))))))) $
+        (ends-at 𝓤 H A this.ended stayed (this.clauses 𝓤 H A mem run) W bound (mach-r r) r (tt, (w, (ws, (cs, (o, tt))))) (tt, (lw, (lws, (lcs, (lo, tt))))))) $
         says ! reads $ says ! e $
         -- The tokens; and what is had of the parameters.
         nothing ! $ move ! (5 ∷ []) $ join ! $ move ! (4 ∷ []) $ join ! $ move ! (3 ∷ []) $ join ! $ move ! (2 ∷ []) $ join ! $ move ! (1 ∷ []) $ join ! $
@@ -271,14 +269,15 @@ module _ {M : Type 1} (𝓤 : URA M) (H : Heap 𝓤) (A : Atoms 𝓤) (W : Given
         abbrev Began : Begun → List ℕ → Type 0
         Began b w₁ = Bytes input × Begins input (x₁ .now) n₂ n₃ w₁ b (asked input n₁ n₂ n₃)
 
-        module _ (b : Begun) (w₁ : List ℕ) (lw₁ : length w₁ ≡ n₁) (began : Began b w₁) (start-is : Is S.the-row (b .start) (mach-p (b .start) ∷ []))
-            (records-fit : b .records < 2 ^ 64) where
+        module _ (b : Begun) (w₁ : List ℕ) (lw₁ : length w₁ ≡ n₁) (began : Began b w₁)
+            (start-is : Is S.the-row (b .start) (mach-p (b .start) ∷ [])) (records-fit : b .records < 2 ^ 64) where
           -- What `run_steps` says.
           abbrev Drove : (p : Progress) (w₂ ws₂ : List ℕ) (cs₂ : List Checkpoint) (o₂ : List ℕ) → Type 0
           Drove p w₂ ws₂ cs₂ o₂ = Driven input w₁ (x₂ .now) (x₃ .now) (x₄ .now) (b .start) w₂ ws₂ cs₂ o₂ p (b .start .done)
 
-          module _ (p : Progress) (w₂ ws₂ : List ℕ) (cs₂ : List Checkpoint) (o₂ : List ℕ) (lw₂ : length w₂ ≡ length w₁) (lws₂ : length ws₂ ≡ n₂)
-              (lcs₂ : length cs₂ ≡ n₃) (lo₂ : length o₂ ≡ n₄) (drove : Drove p w₂ ws₂ cs₂ o₂) (p-is : Is S.the-row p (mach-p p ∷ [])) where
+          module _ (p : Progress) (w₂ ws₂ : List ℕ) (cs₂ : List Checkpoint) (o₂ : List ℕ)
+              (lw₂ : length w₂ ≡ length w₁) (lws₂ : length ws₂ ≡ n₂) (lcs₂ : length cs₂ ≡ n₃) (lo₂ : length o₂ ≡ n₄)
+              (drove : Drove p w₂ ws₂ cs₂ o₂) (p-is : Is S.the-row p (mach-p p ∷ [])) where
             -- What `clear_first` and `finish` say.
             abbrev Emptied : List Checkpoint → Type 0
             Emptied cs₃ = cs₃ ≡ replicate (b .records) blank ++ skip (b .records) cs₂
@@ -287,8 +286,8 @@ module _ {M : Type 1} (𝓤 : URA M) (H : Heap 𝓤) (A : Atoms 𝓤) (W : Given
             Finished r w₃ ws₃ o₃ = (answer-of r ≡ answer-at p) × Cleared p w₂ ws₂ o₂ w₃ ws₃ o₃ (b .start .done)
 
             -- The end of the call: both clauses, from what the calls say.
-            closes : (r : SessionAnswer) (w₃ ws₃ : List ℕ) (cs₃ : List Checkpoint) (o₃ : List ℕ) → length w₃ ≡ length w₂ → length ws₃ ≡ length ws₂
-                → length cs₃ ≡ length cs₂ → length o₃ ≡ length o₂
+            closes : (r : SessionAnswer) (w₃ ws₃ : List ℕ) (cs₃ : List Checkpoint) (o₃ : List ℕ)
+                → length w₃ ≡ length w₂ → length ws₃ ≡ length ws₂ → length cs₃ ≡ length cs₂ → length o₃ ≡ length o₂
                 → Is R.the-row r (mach-r r ∷ []) → Emptied cs₃ → Finished r w₃ ws₃ o₃ → ent 𝓤 (⋆ 𝓤 H A (Ends w₃ ws₃ cs₃ o₃)) (Post (mach-r r))
             closes r w₃ ws₃ cs₃ o₃ lw₃ lws₃ lcs₃ lo₃ r-is emptied finished =
                 exits r w₃ ws₃ cs₃ o₃ (lw₃ ∙ lw₂ ∙ lw₁) (lws₃ ∙ lws₂) (lcs₃ ∙ lcs₂) (lo₃ ∙ lo₂) r-is same
@@ -345,19 +344,16 @@ module _ {M : Type 1} (𝓤 : URA M) (H : Heap 𝓤) (A : Atoms 𝓤) (W : Given
                 assigns ! (agg ! (and-then ! (load ! (from ! (stop !)) (look ! 12 refl))
                 (and-then ! (load ! (from ! (fld ! refl (stop !))) (look-in ! 60 (sub ! 1 refl (whole !)))) (no-more !)))) (from ! (stop !))
                 (init ! 10 refl (tt, (tt, (record { fits = room₄ .0 }, tt)))) $
-                move ! (4 ∷ 5 ∷ 6 ∷ 7 ∷ 8 ∷ 9 ∷ []) $ group ! 6 $ use1 W (raw (Finish .pre to-finish)) (goes-finish) $
+                move ! (4 ∷ 5 ∷ 6 ∷ 7 ∷ 8 ∷ 9 ∷ []) $ group ! 6 $ use1 W (raw (Finish .pre to-finish)) goes-finish $
                 calls-at ! fm Finish known-finish to-finish (and-then ! (load ! (from ! (stop !)) (look ! 13 refl))
                 (and-then ! (load ! (from ! (stop !)) (look ! 9 refl)) (and-then ! (load ! (from ! (stop !)) (look ! 5 refl))
                 (and-then ! (load ! (from ! (fld ! refl (stop !))) (look-in ! 47 (sub ! 8 refl (whole !))))
                 (and-then ! (load ! (from ! (stop !)) (look ! 43 refl)) (no-more !))))))
-                (λ u. use1 W (later (some (λ (r : SessionAnswer). ((‵ (flft κ₁ q₁) ⊛ ‵ (flft κ₂ q₂) ⊛ ‵ (flft κ₄ q₄) ⊛ ‵ ftrue)
-                ⊛ ‵ (R.the-row .own r (u ∷ []))) ⊛ raw (ensured 𝓤 H A finish.ended (finish.clauses 𝓤 H A mem run)
-                (κ₁, (κ₂, (κ₄, tt))) given-finish tt r)))) (id⊢ 𝓤 _) $
-                await ! tt $ pick ! (λ r. split ! $ move ! (1 ∷ []) $
-                use1 W (some (λ (zs : List ℕ × (List ℕ × (List ℕ × (Unit {0} × (Unit {0} × Unit {0}))))). ‵ (lasts finish.ended
-                (κ₁, (κ₂, (κ₄, tt))) given-finish zs) ⊛ raw (fact 𝓤 (Finished r (zs .0) (zs .1 .0) (zs .1 .1 .0))))) (id⊢ 𝓤 _) $ pick ! (λ zs. split ! $
-                move ! (1 ∷ []) $
-                heard ! (Finished r (zs .0) (zs .1 .0) (zs .1 .1 .0)) (λ finished.
+                (λ u. use1 W (later (some (λ (r : SessionAnswer). ((‵ (flft κ₁ q₁) ⊛ ‵ (flft κ₂ q₂) ⊛ ‵ (flft κ₄ q₄) ⊛ ‵ ftrue) ⊛ ‵ (R.the-row .own r (u ∷ [])))
+                ⊛ some (λ (zs : List ℕ × (List ℕ × (List ℕ × (Unit {0} × (Unit {0} × Unit {0}))))). ‵ (lasts finish.ended (κ₁, (κ₂, (κ₄, tt))) given-finish zs)
+                ⊛ raw (fact 𝓤 (Finished r (zs .0) (zs .1 .0) (zs .1 .1 .0))))))) (id⊢ 𝓤 _) $
+                await ! tt $ pick ! (λ r. split ! $ move ! (1 ∷ []) $ pick ! (λ zs. split ! $ move ! (1 ∷ []) $
+                heard ! _ (λ finished.
                 -- Each last list, and its length.
                 fsplit ! $ fsplit ! $ move ! (1 ∷ []) $ feqL ! (λ e₁. move ! (1 ∷ []) $ fsplit ! $ fsplit ! $ move ! (1 ∷ []) $ feqL ! (λ e₂. move ! (1 ∷ []) $
                 fsplit ! $ fsplit ! $ move ! (1 ∷ []) $ feqL ! (λ e₄. move ! (1 ∷ []) $ drop ! $ move ! (3 ∷ []) $ split ! $ move ! (1 ∷ []) $
@@ -406,16 +402,14 @@ module _ {M : Type 1} (𝓤 : URA M) (H : Heap 𝓤) (A : Atoms 𝓤) (W : Given
                 assigns ! (agg ! (and-then ! (load ! (from ! (stop !)) (look ! 24 refl))
                 (and-then ! (load ! (from ! (fld ! refl (stop !))) (look-in ! 62 (sub ! 1 refl (whole !)))) (no-more !)))) (from ! (stop !))
                 (init ! 22 refl (tt, (tt, (record { fits = room₃ .0 }, tt)))) $
-                move ! (6 ∷ 7 ∷ []) $ group ! 2 $ use1 W (raw (Clear .pre to-clear)) (goes-clear) $
+                move ! (6 ∷ 7 ∷ []) $ group ! 2 $ use1 W (raw (Clear .pre to-clear)) goes-clear $
                 calls-at ! fm Clear known-clear to-clear (and-then ! (load ! (from ! (stop !)) (look ! 21 refl))
                 (and-then ! (load ! (from ! (stop !)) (look ! 49 refl)) (no-more !)))
-                (λ u. use1 W (later (some (λ (r : Unit {0}). ((‵ (flft κ₃ q₃) ⊛ ‵ ftrue) ⊛ ‵ (unit .own r (u ∷ []))) ⊛ raw
-                (ensured 𝓤 H A clear.ended (clear.clauses 𝓤 H A mem run) (κ₃, tt) given-clear tt r)))) (id⊢ 𝓤 _) $
-                await ! tt $ pick ! (λ r. split ! $ move ! (1 ∷ []) $
-                use1 W (some (λ (zs : List Checkpoint × (Unit {0} × Unit {0})). ‵ (lasts clear.ended (κ₃, tt) given-clear zs) ⊛ raw
-                (fact 𝓤 (Emptied (zs .0))))) (id⊢ 𝓤 _) $ pick ! (λ zs. split ! $
-                move ! (1 ∷ []) $
-                heard ! (Emptied (zs .0)) (λ emptied.
+                (λ u. use1 W (later (some (λ (r : Unit {0}). ((‵ (flft κ₃ q₃) ⊛ ‵ ftrue) ⊛ ‵ (unit .own r (u ∷ [])))
+                ⊛ some (λ (zs : List Checkpoint × (Unit {0} × Unit {0})). ‵ (lasts clear.ended (κ₃, tt) given-clear zs) ⊛ raw (fact 𝓤 (Emptied (zs .0)))))))
+                (id⊢ 𝓤 _) $
+                await ! tt $ pick ! (λ r. split ! $ move ! (1 ∷ []) $ pick ! (λ zs. split ! $ move ! (1 ∷ []) $
+                heard ! _ (λ emptied.
                 -- Each last list, and its length.
                 fsplit ! $ fsplit ! $ move ! (1 ∷ []) $ feqL ! (λ e₃. move ! (1 ∷ []) $ drop ! $ move ! (1 ∷ []) $ split ! $ move ! (1 ∷ []) $
                 facts ! unit (Is unit) (shows 𝓤 H A unit) r (u ∷ []) (λ r-is.
@@ -481,46 +475,25 @@ module _ {M : Type 1} (𝓤 : URA M) (H : Heap 𝓤) (A : Atoms 𝓤) (W : Given
               (and-then ! (load ! (from ! (fld ! refl (stop !))) (look-in ! 60 (sub ! 1 refl (whole !)))) (no-more !)))) (from ! (stop !))
               (init ! 28 refl (tt, (tt, (record { fits = room₄ .0 }, tt)))) $
               -- The slices are lent again, each for a lifetime of the call.
-              lft-new ! tt (λ ν₃. move ! (7 ∷ 8 ∷ []) $
-              use2 W (later (some (λ (δ : GName). ‵ (MutSlice (named 3) (ν₃ ∷ []) T.the-row .own
-              (under T.the-row κ₃ (ν₃ ∷ []) q₃ 𝓤 H A W (named 3) (named 3) x₃ n₃ (x₃ .now) refl δ) (v₃ ∷ []))
-              ⊛ ‵ (Lent T.the-row κ₃ (ν₃ ∷ []) q₃ 𝓤 H A W (named 3) (named 3) x₃ n₃ (x₃ .now) refl δ))))
-              (lends-at T.the-row κ₃ (ν₃ ∷ []) q₃ 𝓤 H A W (named 3) (named 3) x₃ n₃ (x₃ .now) refl) $ await ! tt $ pick ! (λ δ₃. split ! $
-              lft-new ! tt (λ ν₁. move ! (6 ∷ 7 ∷ []) $
-              use2 W (later (some (λ (δ : GName). ‵ (MutSlice (named 1) (ν₁ ∷ []) u32 .own
-              (under u32 κ₁ (ν₁ ∷ []) q₁ 𝓤 H A W (named 1) (named 1) x₁ n₁ w₁ lw₁ δ) (v₁ ∷ []))
-              ⊛ ‵ (Lent u32 κ₁ (ν₁ ∷ []) q₁ 𝓤 H A W (named 1) (named 1) x₁ n₁ w₁ lw₁ δ))))
-              (lends-at u32 κ₁ (ν₁ ∷ []) q₁ 𝓤 H A W (named 1) (named 1) x₁ n₁ w₁ lw₁) $ await ! tt $ pick ! (λ δ₁. split ! $
-              lft-new ! tt (λ ν₂. move ! (9 ∷ 10 ∷ []) $
-              use2 W (later (some (λ (δ : GName). ‵ (MutSlice (named 2) (ν₂ ∷ []) u32 .own
-              (under u32 κ₂ (ν₂ ∷ []) q₂ 𝓤 H A W (named 2) (named 2) x₂ n₂ (x₂ .now) refl δ) (v₂ ∷ []))
-              ⊛ ‵ (Lent u32 κ₂ (ν₂ ∷ []) q₂ 𝓤 H A W (named 2) (named 2) x₂ n₂ (x₂ .now) refl δ))))
-              (lends-at u32 κ₂ (ν₂ ∷ []) q₂ 𝓤 H A W (named 2) (named 2) x₂ n₂ (x₂ .now) refl) $ await ! tt $ pick ! (λ δ₂. split ! $
-              lft-new ! tt (λ ν₄. move ! (12 ∷ 13 ∷ []) $
-              use2 W (later (some (λ (δ : GName). ‵ (MutSlice (named 4) (ν₄ ∷ []) u8 .own
-              (under u8 κ₄ (ν₄ ∷ []) q₄ 𝓤 H A W (named 4) (named 4) x₄ n₄ (x₄ .now) refl δ) (v₄ ∷ []))
-              ⊛ ‵ (Lent u8 κ₄ (ν₄ ∷ []) q₄ 𝓤 H A W (named 4) (named 4) x₄ n₄ (x₄ .now) refl δ))))
-              (lends-at u8 κ₄ (ν₄ ∷ []) q₄ 𝓤 H A W (named 4) (named 4) x₄ n₄ (x₄ .now) refl) $ await ! tt $ pick ! (λ δ₄. split ! $
+              move ! (6 ∷ 7 ∷ []) $
+              lends ! tt T.the-row 3 κ₃ q₃ x₃ n₃ (x₃ .now) refl (λ ν₃ δ₃. move ! (5 ∷ 6 ∷ []) $
+              lends ! tt u32 1 κ₁ q₁ x₁ n₁ w₁ lw₁ (λ ν₁ δ₁. move ! (8 ∷ 9 ∷ []) $
+              lends ! tt u32 2 κ₂ q₂ x₂ n₂ (x₂ .now) refl (λ ν₂ δ₂. move ! (11 ∷ 12 ∷ []) $
+              lends ! tt u8 4 κ₄ q₄ x₄ n₄ (x₄ .now) refl (λ ν₄ δ₄.
               -- A copy of `file` is kept.
-              move ! (12 ∷ []) $
-              use1 W (‵ (ShrSlice (named 0) κ₀ u8 .own x₀ (v₀ ∷ [])) ⊛ ‵ (ShrSlice (named 0) κ₀ u8 .own x₀ (v₀ ∷ [])))
-              (shr-slice-copy 𝓤 H A W (named 0) κ₀ u8 .twice x₀ (v₀ ∷ [])) $ split ! $
-              move ! (11 ∷ 13 ∷ 8 ∷ 10 ∷ 5 ∷ 7 ∷ 2 ∷ 4 ∷ 0 ∷ 14 ∷ []) $
+              move ! (12 ∷ []) $ twice ! u8 0 κ₀ x₀ (v₀ ∷ []) $ move ! (11 ∷ 12 ∷ 8 ∷ 9 ∷ 5 ∷ 6 ∷ 2 ∷ 3 ∷ 0 ∷ 14 ∷ []) $
               group ! 10 $ use1 W (raw (Drive .pre (to-drive ν₁ ν₂ ν₃ ν₄ δ₁ δ₂ δ₃ δ₄))) (goes-drive ν₁ ν₂ ν₃ ν₄ δ₁ δ₂ δ₃ δ₄) $
               calls-at ! fm Drive known-drive (to-drive ν₁ ν₂ ν₃ ν₄ δ₁ δ₂ δ₃ δ₄)
               (and-then ! (load ! (from ! (stop !)) (look ! 36 refl)) (and-then ! (load ! (from ! (stop !)) (look ! 32 refl))
               (and-then ! (load ! (from ! (stop !)) (look ! 28 refl)) (and-then ! (load ! (from ! (stop !)) (look ! 24 refl))
               (and-then ! (load ! (from ! (stop !)) (look ! 64 refl)) (and-then ! (load ! (from ! (stop !)) (look ! 48 refl)) (no-more !)))))))
               (λ u. use1 W (later (some (λ (p : Progress). ((‵ (flft (ν₃ ∷ []) fullShare) ⊛ ‵ (flft (ν₁ ∷ []) fullShare) ⊛ ‵ (flft (ν₂ ∷ []) fullShare)
-              ⊛ ‵ (flft (ν₄ ∷ []) fullShare) ⊛ ‵ (flft κ₀ q₀) ⊛ ‵ ftrue) ⊛ ‵ (S.the-row .own p (u ∷ []))) ⊛ raw
-              (ensured 𝓤 H A drive.ended (drive.clauses 𝓤 H A mem run) (ν₃ ∷ [], (ν₁ ∷ [], (ν₂ ∷ [], (ν₄ ∷ [], (κ₀, tt)))))
-              (given-drive ν₁ ν₂ ν₃ ν₄ δ₁ δ₂ δ₃ δ₄) tt p)))) (id⊢ 𝓤 _) $
-              await ! tt $ pick ! (λ p. split ! $ move ! (1 ∷ []) $
-              use1 W (some (λ (zs : List Checkpoint × (List ℕ × (List ℕ × (List ℕ × (Unit {0} × (Unit {0} × Unit {0})))))). ‵ (lasts drive.ended
+              ⊛ ‵ (flft (ν₄ ∷ []) fullShare) ⊛ ‵ (flft κ₀ q₀) ⊛ ‵ ftrue) ⊛ ‵ (S.the-row .own p (u ∷ [])))
+              ⊛ some (λ (zs : List Checkpoint × (List ℕ × (List ℕ × (List ℕ × (Unit {0} × (Unit {0} × Unit {0})))))). ‵ (lasts drive.ended
               (ν₃ ∷ [], (ν₁ ∷ [], (ν₂ ∷ [], (ν₄ ∷ [], (κ₀, tt))))) (given-drive ν₁ ν₂ ν₃ ν₄ δ₁ δ₂ δ₃ δ₄) zs) ⊛ raw
-              (fact 𝓤 (Drove p (zs .1 .0) (zs .1 .1 .0) (zs .0) (zs .1 .1 .1 .0))))) (id⊢ 𝓤 _) $ pick ! (λ zs. split ! $
-              move ! (1 ∷ []) $
-              heard ! (Drove p (zs .1 .0) (zs .1 .1 .0) (zs .0) (zs .1 .1 .1 .0)) (λ drove.
+              (fact 𝓤 (Drove p (zs .1 .0) (zs .1 .1 .0) (zs .0) (zs .1 .1 .1 .0))))))) (id⊢ 𝓤 _) $
+              await ! tt $ pick ! (λ p. split ! $ move ! (1 ∷ []) $ pick ! (λ zs. split ! $ move ! (1 ∷ []) $
+              heard ! _ (λ drove.
               -- Each last list, and its length.
               fsplit ! $ fsplit ! $ move ! (1 ∷ []) $ feqL ! (λ e₃. move ! (1 ∷ []) $ fsplit ! $ fsplit ! $ move ! (1 ∷ []) $ feqL ! (λ e₁. move ! (1 ∷ []) $
               fsplit ! $ fsplit ! $ move ! (1 ∷ []) $ feqL ! (λ e₂. move ! (1 ∷ []) $ fsplit ! $ fsplit ! $ move ! (1 ∷ []) $ feqL ! (λ e₄. move ! (1 ∷ []) $
@@ -530,22 +503,14 @@ module _ {M : Type 1} (𝓤 : URA M) (H : Heap 𝓤) (A : Atoms 𝓤) (W : Given
               move ! (1 ∷ []) $
               split ! $ move ! (1 ∷ []) $ split ! $ move ! (1 ∷ []) $ split ! $ move ! (1 ∷ []) $ split ! $ move ! (1 ∷ []) $ drop ! $
               -- Each lifetime is ended, and its slice comes back.
-              move ! (4 ∷ []) $ lft-end ! tt $ move ! (0 ∷ 13 ∷ 8 ∷ []) $
-              use3 W (later (‵ (MutSlice (named 3) κ₃ T.the-row .own (at-last x₃ (zs .0)) (v₃ ∷ [])) ⊛ ‵ (flft κ₃ q₃)))
-              (comes-at T.the-row κ₃ (ν₃ ∷ []) q₃ 𝓤 H A W (named 3) (named 3) x₃ n₃ (x₃ .now) refl δ₃ (zs .0) room₃ e₃) $ await ! tt $ split ! $
-              move ! (5 ∷ []) $ lft-end ! tt $ move ! (0 ∷ 12 ∷ 8 ∷ []) $
-              use3 W (later (‵ (MutSlice (named 1) κ₁ u32 .own (at-last x₁ (zs .1 .0)) (v₁ ∷ [])) ⊛ ‵ (flft κ₁ q₁)))
-              (comes-at u32 κ₁ (ν₁ ∷ []) q₁ 𝓤 H A W (named 1) (named 1) x₁ n₁ w₁ lw₁ δ₁ (zs .1 .0) room₁ e₁) $ await ! tt $ split ! $
-              move ! (6 ∷ []) $ lft-end ! tt $ move ! (0 ∷ 11 ∷ 8 ∷ []) $
-              use3 W (later (‵ (MutSlice (named 2) κ₂ u32 .own (at-last x₂ (zs .1 .1 .0)) (v₂ ∷ [])) ⊛ ‵ (flft κ₂ q₂)))
-              (comes-at u32 κ₂ (ν₂ ∷ []) q₂ 𝓤 H A W (named 2) (named 2) x₂ n₂ (x₂ .now) refl δ₂ (zs .1 .1 .0) room₂ e₂) $ await ! tt $ split ! $
-              move ! (7 ∷ []) $ lft-end ! tt $ move ! (0 ∷ 10 ∷ 8 ∷ []) $
-              use3 W (later (‵ (MutSlice (named 4) κ₄ u8 .own (at-last x₄ (zs .1 .1 .1 .0)) (v₄ ∷ [])) ⊛ ‵ (flft κ₄ q₄)))
-              (comes-at u8 κ₄ (ν₄ ∷ []) q₄ 𝓤 H A W (named 4) (named 4) x₄ n₄ (x₄ .now) refl δ₄ (zs .1 .1 .1 .0) room₄ e₄) $ await ! tt $ split ! $
-              forget ! 54 refl $ forget ! 42 refl $ forget ! 40 refl $ forget ! 38 refl $ forget ! 36 refl $ forget ! 34 refl $ forget ! 32 refl $
-              forget ! 30 refl $ forget ! 28 refl $ move ! (9 ∷ 8 ∷ 4 ∷ 5 ∷ 2 ∷ 3 ∷ 6 ∷ 7 ∷ []) $
+              move ! (4 ∷ 13 ∷ 8 ∷ []) $ comes ! tt T.the-row 3 κ₃ q₃ x₃ n₃ (x₃ .now) refl ν₃ δ₃ (zs .0) room₃ e₃ $ move ! (5 ∷ 12 ∷ 8 ∷ []) $
+              comes ! tt u32 1 κ₁ q₁ x₁ n₁ w₁ lw₁ ν₁ δ₁ (zs .1 .0) room₁ e₁ $ move ! (6 ∷ 11 ∷ 8 ∷ []) $
+              comes ! tt u32 2 κ₂ q₂ x₂ n₂ (x₂ .now) refl ν₂ δ₂ (zs .1 .1 .0) room₂ e₂ $ move ! (7 ∷ 10 ∷ 8 ∷ []) $
+              comes ! tt u8 4 κ₄ q₄ x₄ n₄ (x₄ .now) refl ν₄ δ₄ (zs .1 .1 .1 .0) room₄ e₄ $ forget ! 54 refl $ forget ! 42 refl $ forget ! 40 refl $
+              forget ! 38 refl $ forget ! 36 refl $ forget ! 34 refl $ forget ! 32 refl $ forget ! 30 refl $ forget ! 28 refl $
+              move ! (9 ∷ 8 ∷ 4 ∷ 5 ∷ 2 ∷ 3 ∷ 6 ∷ 7 ∷ []) $
               third p (zs .1 .0) (zs .1 .1 .0) (zs .0) (zs .1 .1 .1 .0) e₁ e₂ e₃ e₄ drove
-              (subst (Is S.the-row p) (LL.tells S.the-type S′.the-laws p _ p-is) p-is))))))))))))))))))
+              (subst (Is S.the-row p) (LL.tells S.the-type S′.the-laws p _ p-is) p-is))))))))))))))
 
         -- `begin`: the file, work, lent again, and two counts.
         abbrev given-begin : (ν₁ : ℕ) (δ₁ : GName) → RefT (List ℕ) × (RefT (List ℕ) × (ℕ × (ℕ × Unit {0})))
@@ -587,26 +552,19 @@ module _ {M : Type 1} (𝓤 : URA M) (H : Heap 𝓤) (A : Atoms 𝓤) (W : Given
             assigns ! (agg ! (and-then ! (load ! (from ! (stop !)) (look ! 46 refl))
             (and-then ! (load ! (from ! (fld ! refl (stop !))) (look-in ! 66 (sub ! 1 refl (whole !)))) (no-more !)))) (from ! (stop !))
             (init ! 44 refl (tt, (tt, (record { fits = room₁ .0 }, tt)))) $
-            lft-new ! tt (λ ν₁. move ! (3 ∷ 4 ∷ []) $
-            use2 W (later (some (λ (δ : GName). ‵ (MutSlice (named 1) (ν₁ ∷ []) u32 .own
-            (under u32 κ₁ (ν₁ ∷ []) q₁ 𝓤 H A W (named 1) (named 1) x₁ n₁ (x₁ .now) refl δ) (v₁ ∷ []))
-            ⊛ ‵ (Lent u32 κ₁ (ν₁ ∷ []) q₁ 𝓤 H A W (named 1) (named 1) x₁ n₁ (x₁ .now) refl δ))))
-            (lends-at u32 κ₁ (ν₁ ∷ []) q₁ 𝓤 H A W (named 1) (named 1) x₁ n₁ (x₁ .now) refl) $ await ! tt $ pick ! (λ δ₁. split ! $
+            move ! (2 ∷ 3 ∷ []) $
+            lends ! tt u32 1 κ₁ q₁ x₁ n₁ (x₁ .now) refl (λ ν₁ δ₁.
             -- A copy of `file` is kept.
-            move ! (3 ∷ []) $
-            use1 W (‵ (ShrSlice (named 0) κ₀ u8 .own x₀ (v₀ ∷ [])) ⊛ ‵ (ShrSlice (named 0) κ₀ u8 .own x₀ (v₀ ∷ [])))
-            (shr-slice-copy 𝓤 H A W (named 0) κ₀ u8 .twice x₀ (v₀ ∷ [])) $ split ! $
-            move ! (0 ∷ 5 ∷ 2 ∷ 4 ∷ []) $ group ! 4 $ use1 W (raw (Begin .pre (to-begin ν₁ δ₁))) (goes-begin ν₁ δ₁) $
+            move ! (3 ∷ []) $ twice ! u8 0 κ₀ x₀ (v₀ ∷ []) $ move ! (0 ∷ 5 ∷ 2 ∷ 3 ∷ []) $
+            group ! 4 $ use1 W (raw (Begin .pre (to-begin ν₁ δ₁))) (goes-begin ν₁ δ₁) $
             calls-at ! fm Begin known-begin (to-begin ν₁ δ₁) (and-then ! (load ! (from ! (stop !)) (look ! 67 refl))
             (and-then ! (load ! (from ! (stop !)) (look ! 43 refl)) (and-then ! (load ! (from ! (stop !)) (look ! 57 refl))
             (and-then ! (load ! (from ! (stop !)) (look ! 55 refl)) (no-more !)))))
-            (λ u. use1 W (later (some (λ (b : Begun). ((‵ (flft κ₀ q₀) ⊛ ‵ (flft (ν₁ ∷ []) fullShare) ⊛ ‵ ftrue) ⊛ ‵ (B.the-row .own b (u ∷ []))) ⊛ raw
-            (ensured 𝓤 H A begin.ended (begin.clauses 𝓤 H A mem run) (κ₀, (ν₁ ∷ [], tt)) (given-begin ν₁ δ₁) tt b)))) (id⊢ 𝓤 _) $
-            await ! tt $ pick ! (λ b. split ! $ move ! (1 ∷ []) $
-            use1 W (some (λ (zs : Unit {0} × (List ℕ × (Unit {0} × (Unit {0} × Unit {0})))). ‵ (lasts begin.ended (κ₀, (ν₁ ∷ [], tt)) (given-begin ν₁ δ₁) zs)
-            ⊛ raw (fact 𝓤 (Began b (zs .1 .0))))) (id⊢ 𝓤 _) $ pick ! (λ zs. split ! $
-            move ! (1 ∷ []) $
-            heard ! (Began b (zs .1 .0)) (λ began.
+            (λ u. use1 W (later (some (λ (b : Begun). ((‵ (flft κ₀ q₀) ⊛ ‵ (flft (ν₁ ∷ []) fullShare) ⊛ ‵ ftrue) ⊛ ‵ (B.the-row .own b (u ∷ [])))
+            ⊛ some (λ (zs : Unit {0} × (List ℕ × (Unit {0} × (Unit {0} × Unit {0})))). ‵ (lasts begin.ended (κ₀, (ν₁ ∷ [], tt)) (given-begin ν₁ δ₁) zs) ⊛ raw
+            (fact 𝓤 (Began b (zs .1 .0))))))) (id⊢ 𝓤 _) $
+            await ! tt $ pick ! (λ b. split ! $ move ! (1 ∷ []) $ pick ! (λ zs. split ! $ move ! (1 ∷ []) $
+            heard ! _ (λ began.
             -- Each last list, and its length.
             fsplit ! $ drop ! $ fsplit ! $ fsplit ! $ move ! (1 ∷ []) $ feqL ! (λ e₁. move ! (1 ∷ []) $ drop ! $ move ! (1 ∷ []) $ split ! $ move ! (1 ∷ []) $
             facts ! B.the-row (Is B.the-row) (shows 𝓤 H A B.the-row) b (u ∷ []) (λ b-is.
@@ -614,11 +572,9 @@ module _ {M : Type 1} (𝓤 : URA M) (H : Heap 𝓤) (A : Atoms 𝓤) (W : Given
             rewrite ! 54 (λ (z : Val). ‵ (fat fullShare B′.mir l₈ 0 z)) (ap only (LL.tells B.the-type B′.the-laws b _ b-is)) refl $ split ! $ move ! (1 ∷ []) $
             split ! $ move ! (1 ∷ []) $ drop ! $
             -- Work comes back.
-            lft-end ! tt $ move ! (0 ∷ 4 ∷ 2 ∷ []) $
-            use3 W (later (‵ (MutSlice (named 1) κ₁ u32 .own (at-last x₁ (zs .1 .0)) (v₁ ∷ [])) ⊛ ‵ (flft κ₁ q₁)))
-            (comes-at u32 κ₁ (ν₁ ∷ []) q₁ 𝓤 H A W (named 1) (named 1) x₁ n₁ (x₁ .now) refl δ₁ (zs .1 .0) room₁ e₁) $ await ! tt $ split ! $
-            forget ! 58 refl $ forget ! 56 refl $ forget ! 46 refl $ forget ! 44 refl $ move ! (3 ∷ 2 ∷ []) $
-            let parts = LL.owed B.the-type B′.the-laws b _ b-is in second b (zs .1 .0) e₁ began (parts .0) (parts .1 .0 .1)))))))))
+            move ! (0 ∷ 4 ∷ 2 ∷ []) $ comes ! tt u32 1 κ₁ q₁ x₁ n₁ (x₁ .now) refl ν₁ δ₁ (zs .1 .0) room₁ e₁ $ forget ! 58 refl $ forget ! 56 refl $
+            forget ! 46 refl $ forget ! 44 refl $ move ! (3 ∷ 2 ∷ []) $
+            let parts = LL.owed B.the-type B′.the-laws b _ b-is in second b (zs .1 .0) e₁ began (parts .0) (parts .1 .0 .1))))))))
 
       walk : ent 𝓤 (onEntry 𝓤 H A this.signature (κ₀, (κ₁, (κ₂, (κ₃, (κ₄, tt))))) (q₀, (q₁, (q₂, (q₃, (q₄, tt))))) a vals)
           (WpFn 𝓤 H (𝓣 .C) (𝓣 .Λ) code.function (v₀ ∷ v₁ ∷ v₂ ∷ v₃ ∷ v₄ ∷ []) Post)

@@ -17,18 +17,18 @@ use mir.Syntax.{Ty, Lifetime, named, erased, imm, mut, w64, tyInt, tyBool, tyPtr
 use mir.Val.{Val, vint, vptr}
 use base.Logic.{SProp, ent, id⊢}
 use base.Fml.{Lft, GName, Share, ftrue, fat, froom, fdies, flft, fobs, fauth, fbor, fobor}
+use base.Stored.{Gv}
 use prog.Memory.{Memory}
 use prog.Routine.{Routine}
 use prog.Wp.{Heap, Out, Env, Wp, WpFn, Tables, afterSeq, afterBlock, afterTurn, atReturn}
 use ghost.Atoms.{Atoms}
 use contract.Monad.{Fun, fact}
 use contract.Running.{givenOf, tables, tablesOf}
-use types.Kit.{Given, Item, Sq, runs, anyQ, atRet, ‵, raw, some, later, _⊛_, ⋆, _$_, _∵_, !, qed, by, move, drop, use1, use2, use3}
+use types.Kit.{Given, Item, Sq, runs, anyQ, atRet, ‵, raw, some, later, _⊛_, ⋆, _$_, _∵_, !, qed, by, move, drop, use1}
 use types.Kit.{split, join, pick, rewrite, group, fsplit, fjoin, feqL, suffices, frame, await, done}
 use types.Part.{agg, whole, sub, look-in}
 use types.Run.{look, look-raw, init, store, store-raw, forget, stop, hop, fld, from, load, lit, addr, un, bin, of-opd, and-then, no-more, assigns, assigns-last}
 use types.Run.{land, first, skips, jumps, blocks, branches, returns, enter, alloc1, alloc0, params1, pass1, pass0, free1, free0, exec, Below, again, loops}
-use types.Tokens.{lft-new, lft-end}
 use sound.WpLaws.{FmC, fmOf, WpFn-mono}
 use denote.RattleType.{RattleType, owns}
 use denote.Shadow.{pureI}
@@ -37,7 +37,7 @@ use denote.Plain.{uint-lawful, uint-makes}
 use denote.Memory.{pointee}
 use denote.Builtin.{u8, u32, usize}
 use denote.Ref.{RefT, at-last}
-use denote.Slice.{sliceTy, sliceVal, MutSlice, ShrSlice, Room, heres, codedHoleys, at-slice, slice-vals, mut-slice-tells, shr-slice-tells, shr-slice-copy}
+use denote.Slice.{sliceTy, sliceVal, MutSlice, ShrSlice, Room, heres, codedHoleys, at-slice, slice-vals, mut-slice-tells, shr-slice-tells}
 use denote.Lend.{Held}
 use denote.Index.{place-is, row, elem-out, elem-back, elem-put, opens-slice, closes-slice}
 use denote.Signature.{plain}
@@ -47,14 +47,13 @@ use denote.Triple.Entry.{onEntry}
 use denote.Triple.Spec.{Meets, tripleOf}
 use denote.Triple.Statement.{Contract, Triple}
 use denote.Triple.Call.{calls-at}
-use denote.Triple.Clauses.{ensured, lasts}
+use denote.Triple.Clauses.{lasts}
 use denote.Triple.Table.{entered, cited}
 use denote.Triple.Walked.{says, needs, Stays, stay-slice, stay-none-slice, stay-none, walkOf, ends-at, walked, walk-meets}
 use denote.Triple.Walked.{goes-slice, goes-none-slice, goes-none}
 use denote.Exit.{yes}
 use Rattle.session_state.specs.declared.checkpoints.Checkpoint.{Checkpoint}
 use Rattle.session_state.specs.Records.{blank}
-use Rattle.session_state.proofs.checkpoints.Again.{Lent, under, lends-at, comes-at}
 use Rattle.session_state.proofs.checkpoints.Checkpoint as T
 use Rattle.session_state.proofs.checkpoints.Checkpoint.Laws as T′
 use Rattle.session_state.proofs.checkpoints.Rows.{byte-fits, the-vals, the-tells, the-typed, after}
@@ -67,6 +66,7 @@ use Rattle.session_state.proofs.progress.Progress.Laws as S′
 use Rattle.session_state.proofs.progress.StepAnswer as R
 use Rattle.session_state.proofs.progress.StepAnswer.Laws as R′
 use Rattle.session_run.specs.Driven.{Going, Driven}
+use Rattle.session_run.proofs.Lending.{lends, comes, twice}
 use Rattle.session_run.proofs.Between.{Values, ahead, Slot, Stepped, after-step, goes, stops, Between, at-start, in-rows, ready, goes-on, falls, at-end}
 use Rattle.session_state.proofs.slot_of as slot-of
 use Rattle.session_state.proofs.slot_of.Symbol as slot-of-def
@@ -212,29 +212,35 @@ module _ {M : Type 1} (𝓤 : URA M) (H : Heap 𝓤) (A : Atoms 𝓤) (W : Given
     Nearer-wf : WellFounded Nearer
     Nearer-wf = InvImage·wf (λ (i : X). ahead (i .0 .progress)) (Nat·lt-wfRel .wf)
 
+    -- Records as the borrow's ghost variable has them.
+    abbrev coded : List Checkpoint → Gv
+    coded cs = codedHoleys T.the-row .code (heres T.the-row cs)
+
     -- What a turn has of the parameters: the row of records, the borrow that is open, and the other slices at the present lists.
     abbrev Has : Values → List (Item 𝓤) → List (Item 𝓤)
     Has m Γ = ‵ (row T.the-row fullShare (m .rows) b o) ∷ ‵ (fobor κ₀ q₀ (Held T.the-row n₀ b o (x₀ .name)))
-        ∷ ‵ (fobs (x₀ .name) (codedHoleys T.the-row .code (heres T.the-row rows))) ∷ ‵ (fauth (x₀ .name) (codedHoleys T.the-row .code (heres T.the-row rows)))
+        ∷ ‵ (fobs (x₀ .name) (coded rows)) ∷ ‵ (fauth (x₀ .name) (coded rows))
         ∷ ‵ (MutSlice (named 1) κ₁ u32 .own (at-last x₁ (m .work)) (v₁ ∷ [])) ∷ ‵ (flft κ₁ q₁)
         ∷ ‵ (MutSlice (named 2) κ₂ u32 .own (at-last x₂ (m .words)) (v₂ ∷ [])) ∷ ‵ (flft κ₂ q₂)
-        ∷ ‵ (MutSlice (named 3) κ₃ u8 .own (at-last x₃ (m .out)) (v₃ ∷ [])) ∷ ‵ (flft κ₃ q₃) ∷ ‵ (ShrSlice (named 4) κ₄ u8 .own x₄ (v₄ ∷ [])) ∷ ‵ (flft κ₄ q₄)
-        ∷ Γ
+        ∷ ‵ (MutSlice (named 3) κ₃ u8 .own (at-last x₃ (m .out)) (v₃ ∷ [])) ∷ ‵ (flft κ₃ q₃) ∷ ‵ (ShrSlice (named 4) κ₄ u8 .own x₄ (v₄ ∷ []))
+        ∷ ‵ (flft κ₄ q₄) ∷ Γ
 
     -- At exit the borrow is closed.
     abbrev Ends : Values → List (Item 𝓤)
-    Ends m = ‵ (fobs (x₀ .name) (codedHoleys T.the-row .code (heres T.the-row (m .rows)))) ∷ ‵ (fbor κ₀ (Held T.the-row (length (m .rows)) b o (x₀ .name)))
-        ∷ ‵ (flft κ₀ q₀) ∷ ‵ (MutSlice (named 1) κ₁ u32 .own (at-last x₁ (m .work)) (v₁ ∷ [])) ∷ ‵ (flft κ₁ q₁)
+    Ends m = ‵ (fobs (x₀ .name) (coded (m .rows))) ∷ ‵ (fbor κ₀ (Held T.the-row (length (m .rows)) b o (x₀ .name))) ∷ ‵ (flft κ₀ q₀)
+        ∷ ‵ (MutSlice (named 1) κ₁ u32 .own (at-last x₁ (m .work)) (v₁ ∷ [])) ∷ ‵ (flft κ₁ q₁)
         ∷ ‵ (MutSlice (named 2) κ₂ u32 .own (at-last x₂ (m .words)) (v₂ ∷ [])) ∷ ‵ (flft κ₂ q₂)
-        ∷ ‵ (MutSlice (named 3) κ₃ u8 .own (at-last x₃ (m .out)) (v₃ ∷ [])) ∷ ‵ (flft κ₃ q₃) ∷ ‵ (ShrSlice (named 4) κ₄ u8 .own x₄ (v₄ ∷ [])) ∷ ‵ (flft κ₄ q₄)
-        ∷ []
+        ∷ ‵ (MutSlice (named 3) κ₃ u8 .own (at-last x₃ (m .out)) (v₃ ∷ [])) ∷ ‵ (flft κ₃ q₃) ∷ ‵ (ShrSlice (named 4) κ₄ u8 .own x₄ (v₄ ∷ []))
+        ∷ ‵ (flft κ₄ q₄) ∷ []
 
-    exits : (m : Values) → Facts m → Driven file (x₁ .now) (x₂ .now) rows (x₃ .now) s (m .work) (m .words) (m .rows) (m .out) (m .progress) (s .done) → ent 𝓤
-        (⋆ 𝓤 H A (Ends m)) (Post (mach (m .progress)))
+    exits : (m : Values) → Facts m
+        → Driven file (x₁ .now) (x₂ .now) rows (x₃ .now) s (m .work) (m .words) (m .rows) (m .out) (m .progress) (s .done)
+        → ent 𝓤 (⋆ 𝓤 H A (Ends m)) (Post (mach (m .progress)))
     exits m f e =
         qed W (Ends m) ∵
         suffices ! _ (ends-at 𝓤 H A this.ended stayed (this.clauses 𝓤 H A mem run) W bound (mach (m .progress)) (m .progress)
-        (m .rows, (m .work, (m .words, (m .out, (tt, (tt, tt)))))) (f .rows-len, (f .work-len, (f .words-len, (f .out-len, (tt, (tt, tt))))))) $ says ! e $
+        (m .rows, (m .work, (m .words, (m .out, (tt, (tt, tt))))))
+        (f .rows-len, (f .work-len, (f .words-len, (f .out-len, (tt, (tt, tt))))))) $ says ! e $
         fjoin ! $ pureI ! (at-slice T.the-row (at-last x₀ (m .rows)) (v₀ ∷ [])) (tt, (tt, tt))
         (ap (λ (n : ℕ). sliceVal (b, o) n ∷ []) (sym (f .rows-len)), subst (Room T.the-row) (sym (f .rows-len)) room₀) $ fjoin ! $
         -- The tokens; and what is had of the parameters.
@@ -244,8 +250,8 @@ module _ {M : Type 1} (𝓤 : URA M) (H : Heap 𝓤) (A : Atoms 𝓤) (W : Given
         owned ! S.the-row (Is S.the-row) (LL.makes S.the-type S′.the-plain 𝓤 H A) (m .progress) _ (f .progress-is) $ done !
 
     -- The facts after a turn.
-    next : (i : X) → Holds (not (i .0 .progress .done)) → (k : ℕ) (r : StepAnswer) (z₁ z₂ z₃ : List ℕ) → Slot file (i .0 .progress) k → Stepped file
-        (i .0) k z₁ z₂ z₃ r
+    next : (i : X) → Holds (not (i .0 .progress .done)) → (k : ℕ) (r : StepAnswer) (z₁ z₂ z₃ : List ℕ)
+        → Slot file (i .0 .progress) k → Stepped file (i .0) k z₁ z₂ z₃ r
         → length z₁ ≡ length (i .0 .work) → length z₂ ≡ length (i .0 .words) → length z₃ ≡ length (i .0 .out) → Is S.the-row (r .state) (mach (r .state) ∷ [])
         → Facts (after-step (i .0) k r z₁ z₂ z₃)
     next i go k r z₁ z₂ z₃ ek e e₁ e₂ e₃ t-is = record {
@@ -307,8 +313,8 @@ module _ {M : Type 1} (𝓤 : URA M) (H : Heap 𝓤) (A : Atoms 𝓤) (W : Given
           adds-is : Is usize (m .progress .adds) (vint w64 (m .progress .adds) ∷ [])
           adds-is = LL.owed S.the-type S′.the-laws (m .progress) _ (f .progress-is) .1 .1 .0
 
-          parts : (r : StepAnswer) (w : Val) → Is R.the-row r (w ∷ []) → Is S.the-row (r .state) (mach (r .state) ∷ []) ×
-              (Is T.the-row (r .saved) (mach-c (r .saved) ∷ []) × Unit {0})
+          parts : (r : StepAnswer) (w : Val) → Is R.the-row r (w ∷ [])
+              → Is S.the-row (r .state) (mach (r .state) ∷ []) × (Is T.the-row (r .saved) (mach-c (r .saved) ∷ []) × Unit {0})
           parts r w r-is = LL.owed R.the-type R′.the-laws r _ r-is
 
           -- `slot_of`: the file, and two numbers of the progress.
@@ -370,20 +376,15 @@ module _ {M : Type 1} (𝓤 : URA M) (H : Heap 𝓤) (A : Atoms 𝓤) (W : Given
               first ! $ branches ! (load ! (from ! (stop !)) (look ! 32 refl))
               (λ go. skips ! $ exec ! (𝓣 .C) (𝓣 .Λ) En (after (after body.turn-1)) (anyQ (Turned i)) $
               -- A copy of `file` is kept.
-              move ! (10 ∷ []) $
-              use1 W (‵ (ShrSlice (named 4) κ₄ u8 .own x₄ (v₄ ∷ [])) ⊛ ‵ (ShrSlice (named 4) κ₄ u8 .own x₄ (v₄ ∷ [])))
-              (shr-slice-copy 𝓤 H A W (named 4) κ₄ u8 .twice x₄ (v₄ ∷ [])) $ split ! $
-              move ! (0 ∷ 12 ∷ []) $ group ! 2 $ use1 W (raw (SlotOf .pre to-slot-of)) (goes-slot-of) $
+              move ! (10 ∷ []) $ twice ! u8 4 κ₄ x₄ (v₄ ∷ []) $ move ! (0 ∷ 12 ∷ []) $ group ! 2 $ use1 W (raw (SlotOf .pre to-slot-of)) goes-slot-of $
               calls-at ! fm SlotOf known-slot-of to-slot-of (and-then ! (load ! (from ! (stop !)) (look ! 44 refl))
               (and-then ! (load ! (from ! (fld ! refl (stop !))) (look-in ! 40 (sub ! 0 refl (whole !))))
               (and-then ! (load ! (from ! (fld ! refl (stop !))) (look-in ! 40 (sub ! 2 refl (whole !)))) (no-more !))))
-              (λ u. use1 W (later (some (λ (k : ℕ). ((‵ (flft κ₄ q₄) ⊛ ‵ ftrue) ⊛ ‵ (usize .own k (u ∷ []))) ⊛ raw
-              (ensured 𝓤 H A slot-of.ended (slot-of.clauses 𝓤 H A mem run) (κ₄, tt) given-slot-of tt k)))) (id⊢ 𝓤 _) $
-              await ! tt $ pick ! (λ k. split ! $ move ! (1 ∷ []) $
-              use1 W (some (λ (zs : Unit {0} × (Unit {0} × (Unit {0} × Unit {0}))). ‵ (lasts slot-of.ended (κ₄, tt) given-slot-of zs) ⊛ raw
-              (fact 𝓤 (Slot file (m .progress) k)))) (id⊢ 𝓤 _) $ pick ! (λ zs. split ! $
-              move ! (1 ∷ []) $
-              heard ! (Slot file (m .progress) k) (λ ek.
+              (λ u. use1 W (later (some (λ (k : ℕ). ((‵ (flft κ₄ q₄) ⊛ ‵ ftrue) ⊛ ‵ (usize .own k (u ∷ [])))
+              ⊛ some (λ (zs : Unit {0} × (Unit {0} × (Unit {0} × Unit {0}))). ‵ (lasts slot-of.ended (κ₄, tt) given-slot-of zs) ⊛ raw
+              (fact 𝓤 (Slot file (m .progress) k)))))) (id⊢ 𝓤 _) $
+              await ! tt $ pick ! (λ k. split ! $ move ! (1 ∷ []) $ pick ! (λ zs. split ! $ move ! (1 ∷ []) $
+              heard ! _ (λ ek.
               -- Each last list, and its length.
               drop ! $ split ! $ move ! (1 ∷ []) $ facts ! usize (Is usize) (shows 𝓤 H A usize) k (u ∷ []) (λ k-is.
               land ! (from ! (stop !)) (init ! 38 refl (uint-lawful 𝓤 H A W w64 .typed k _ k-is .0)) $
@@ -412,26 +413,12 @@ module _ {M : Type 1} (𝓤 : URA M) (H : Heap 𝓤) (A : Atoms 𝓤) (W : Given
               assigns ! (agg ! (and-then ! (load ! (from ! (stop !)) (look ! 16 refl))
               (and-then ! (load ! (from ! (fld ! refl (stop !))) (look-in ! 46 (sub ! 1 refl (whole !)))) (no-more !)))) (from ! (stop !))
               (init ! 14 refl (tt, (tt, (record { fits = room₃ .0 }, tt)))) $
-              lft-new ! tt (λ ν₁. move ! (7 ∷ 8 ∷ []) $
-              use2 W (later (some (λ (δ : GName). ‵ (MutSlice (named 1) (ν₁ ∷ []) u32 .own
-              (under u32 κ₁ (ν₁ ∷ []) q₁ 𝓤 H A W (named 1) (named 1) x₁ n₁ (m .work) (f .work-len) δ) (v₁ ∷ []))
-              ⊛ ‵ (Lent u32 κ₁ (ν₁ ∷ []) q₁ 𝓤 H A W (named 1) (named 1) x₁ n₁ (m .work) (f .work-len) δ))))
-              (lends-at u32 κ₁ (ν₁ ∷ []) q₁ 𝓤 H A W (named 1) (named 1) x₁ n₁ (m .work) (f .work-len)) $ await ! tt $ pick ! (λ δ₁. split ! $
-              lft-new ! tt (λ ν₂. move ! (10 ∷ 11 ∷ []) $
-              use2 W (later (some (λ (δ : GName). ‵ (MutSlice (named 2) (ν₂ ∷ []) u32 .own
-              (under u32 κ₂ (ν₂ ∷ []) q₂ 𝓤 H A W (named 2) (named 2) x₂ n₂ (m .words) (f .words-len) δ) (v₂ ∷ []))
-              ⊛ ‵ (Lent u32 κ₂ (ν₂ ∷ []) q₂ 𝓤 H A W (named 2) (named 2) x₂ n₂ (m .words) (f .words-len) δ))))
-              (lends-at u32 κ₂ (ν₂ ∷ []) q₂ 𝓤 H A W (named 2) (named 2) x₂ n₂ (m .words) (f .words-len)) $ await ! tt $ pick ! (λ δ₂. split ! $
-              lft-new ! tt (λ ν₃. move ! (13 ∷ 14 ∷ []) $
-              use2 W (later (some (λ (δ : GName). ‵ (MutSlice (named 3) (ν₃ ∷ []) u8 .own
-              (under u8 κ₃ (ν₃ ∷ []) q₃ 𝓤 H A W (named 3) (named 3) x₃ n₃ (m .out) (f .out-len) δ) (v₃ ∷ []))
-              ⊛ ‵ (Lent u8 κ₃ (ν₃ ∷ []) q₃ 𝓤 H A W (named 3) (named 3) x₃ n₃ (m .out) (f .out-len) δ))))
-              (lends-at u8 κ₃ (ν₃ ∷ []) q₃ 𝓤 H A W (named 3) (named 3) x₃ n₃ (m .out) (f .out-len)) $ await ! tt $ pick ! (λ δ₃. split ! $
+              move ! (6 ∷ 7 ∷ []) $
+              lends ! tt u32 1 κ₁ q₁ x₁ n₁ (m .work) (f .work-len) (λ ν₁ δ₁. move ! (9 ∷ 10 ∷ []) $
+              lends ! tt u32 2 κ₂ q₂ x₂ n₂ (m .words) (f .words-len) (λ ν₂ δ₂. move ! (12 ∷ 13 ∷ []) $
+              lends ! tt u8 3 κ₃ q₃ x₃ n₃ (m .out) (f .out-len) (λ ν₃ δ₃.
               -- A copy of `file` is kept.
-              move ! (11 ∷ []) $
-              use1 W (‵ (ShrSlice (named 4) κ₄ u8 .own x₄ (v₄ ∷ [])) ⊛ ‵ (ShrSlice (named 4) κ₄ u8 .own x₄ (v₄ ∷ [])))
-              (shr-slice-copy 𝓤 H A W (named 4) κ₄ u8 .twice x₄ (v₄ ∷ [])) $ split ! $
-              move ! (8 ∷ 10 ∷ 5 ∷ 7 ∷ 2 ∷ 4 ∷ 0 ∷ 12 ∷ []) $
+              move ! (11 ∷ []) $ twice ! u8 4 κ₄ x₄ (v₄ ∷ []) $ move ! (8 ∷ 9 ∷ 5 ∷ 6 ∷ 2 ∷ 3 ∷ 0 ∷ 12 ∷ []) $
               group ! 8 $ use1 W (raw (StepOf .pre (to-step ν₁ ν₂ ν₃ δ₁ δ₂ δ₃ k)))
               (goes-step ν₁ ν₂ ν₃ δ₁ δ₂ δ₃ k c-is (ready file start m (f .stands) (goes (m .progress .done) go) k ek)) $
               calls-at ! fm StepOf known-step (to-step ν₁ ν₂ ν₃ δ₁ δ₂ δ₃ k) (and-then ! (load ! (from ! (stop !)) (look ! 19 refl))
@@ -439,15 +426,12 @@ module _ {M : Type 1} (𝓤 : URA M) (H : Heap 𝓤) (A : Atoms 𝓤) (W : Given
               (and-then ! (load ! (from ! (stop !)) (look ! 41 refl)) (and-then ! (load ! (from ! (stop !)) (look ! 37 refl))
               (and-then ! (load ! (from ! (stop !)) (look ! 33 refl)) (no-more !)))))))
               (λ w. use1 W (later (some (λ (r : StepAnswer). ((‵ (flft (ν₁ ∷ []) fullShare) ⊛ ‵ (flft (ν₂ ∷ []) fullShare) ⊛ ‵ (flft (ν₃ ∷ []) fullShare)
-              ⊛ ‵ (flft κ₄ q₄) ⊛ ‵ ftrue) ⊛ ‵ (R.the-row .own r (w ∷ []))) ⊛ raw
-              (ensured 𝓤 H A step.ended (step.clauses 𝓤 H A mem run) (ν₁ ∷ [], (ν₂ ∷ [], (ν₃ ∷ [], (κ₄, tt)))) (given-step ν₁ ν₂ ν₃ δ₁ δ₂ δ₃ k) tt r))))
-              (id⊢ 𝓤 _) $
-              await ! tt $ pick ! (λ r. split ! $ move ! (1 ∷ []) $
-              use1 W (some (λ (zs : List ℕ × (List ℕ × (List ℕ × (Unit {0} × (Unit {0} × (Unit {0} × Unit {0})))))). ‵ (lasts step.ended
+              ⊛ ‵ (flft κ₄ q₄) ⊛ ‵ ftrue) ⊛ ‵ (R.the-row .own r (w ∷ [])))
+              ⊛ some (λ (zs : List ℕ × (List ℕ × (List ℕ × (Unit {0} × (Unit {0} × (Unit {0} × Unit {0})))))). ‵ (lasts step.ended
               (ν₁ ∷ [], (ν₂ ∷ [], (ν₃ ∷ [], (κ₄, tt)))) (given-step ν₁ ν₂ ν₃ δ₁ δ₂ δ₃ k) zs) ⊛ raw
-              (fact 𝓤 (Stepped file m k (zs .0) (zs .1 .0) (zs .1 .1 .0) r)))) (id⊢ 𝓤 _) $ pick ! (λ zs. split ! $
-              move ! (1 ∷ []) $
-              heard ! (Stepped file m k (zs .0) (zs .1 .0) (zs .1 .1 .0) r) (λ e.
+              (fact 𝓤 (Stepped file m k (zs .0) (zs .1 .0) (zs .1 .1 .0) r)))))) (id⊢ 𝓤 _) $
+              await ! tt $ pick ! (λ r. split ! $ move ! (1 ∷ []) $ pick ! (λ zs. split ! $ move ! (1 ∷ []) $
+              heard ! _ (λ e.
               -- Each last list, and its length.
               fsplit ! $ fsplit ! $ move ! (1 ∷ []) $ feqL ! (λ e₁. move ! (1 ∷ []) $ fsplit ! $ fsplit ! $ move ! (1 ∷ []) $ feqL ! (λ e₂. move ! (1 ∷ []) $
               fsplit ! $ fsplit ! $ move ! (1 ∷ []) $ feqL ! (λ e₃. move ! (1 ∷ []) $ drop ! $ move ! (3 ∷ []) $ split ! $ move ! (1 ∷ []) $
@@ -456,15 +440,9 @@ module _ {M : Type 1} (𝓤 : URA M) (H : Heap 𝓤) (A : Atoms 𝓤) (W : Given
               rewrite ! 34 (λ (z : Val). ‵ (fat fullShare R′.mir l₁₀ 0 z)) (ap only (LL.tells R.the-type R′.the-laws r _ r-is)) refl $ split ! $ move ! (1 ∷ []) $
               split ! $ move ! (1 ∷ []) $ split ! $ move ! (1 ∷ []) $ split ! $ move ! (1 ∷ []) $ drop ! $
               -- Each lifetime is ended, and its slice comes back.
-              move ! (3 ∷ []) $ lft-end ! tt $ move ! (0 ∷ 10 ∷ 6 ∷ []) $
-              use3 W (later (‵ (MutSlice (named 1) κ₁ u32 .own (at-last x₁ (zs .0)) (v₁ ∷ [])) ⊛ ‵ (flft κ₁ q₁)))
-              (comes-at u32 κ₁ (ν₁ ∷ []) q₁ 𝓤 H A W (named 1) (named 1) x₁ n₁ (m .work) (f .work-len) δ₁ (zs .0) room₁ e₁) $ await ! tt $ split ! $
-              move ! (4 ∷ []) $ lft-end ! tt $ move ! (0 ∷ 9 ∷ 6 ∷ []) $
-              use3 W (later (‵ (MutSlice (named 2) κ₂ u32 .own (at-last x₂ (zs .1 .0)) (v₂ ∷ [])) ⊛ ‵ (flft κ₂ q₂)))
-              (comes-at u32 κ₂ (ν₂ ∷ []) q₂ 𝓤 H A W (named 2) (named 2) x₂ n₂ (m .words) (f .words-len) δ₂ (zs .1 .0) room₂ e₂) $ await ! tt $ split ! $
-              move ! (5 ∷ []) $ lft-end ! tt $ move ! (0 ∷ 8 ∷ 6 ∷ []) $
-              use3 W (later (‵ (MutSlice (named 3) κ₃ u8 .own (at-last x₃ (zs .1 .1 .0)) (v₃ ∷ [])) ⊛ ‵ (flft κ₃ q₃)))
-              (comes-at u8 κ₃ (ν₃ ∷ []) q₃ 𝓤 H A W (named 3) (named 3) x₃ n₃ (m .out) (f .out-len) δ₃ (zs .1 .1 .0) room₃ e₃) $ await ! tt $ split ! $
+              move ! (3 ∷ 10 ∷ 6 ∷ []) $ comes ! tt u32 1 κ₁ q₁ x₁ n₁ (m .work) (f .work-len) ν₁ δ₁ (zs .0) room₁ e₁ $ move ! (4 ∷ 9 ∷ 6 ∷ []) $
+              comes ! tt u32 2 κ₂ q₂ x₂ n₂ (m .words) (f .words-len) ν₂ δ₂ (zs .1 .0) room₂ e₂ $ move ! (5 ∷ 8 ∷ 6 ∷ []) $
+              comes ! tt u8 3 κ₃ q₃ x₃ n₃ (m .out) (f .out-len) ν₃ δ₃ (zs .1 .1 .0) room₃ e₃ $
               -- The record that came back is stored at k.
               assigns ! (bin ! (load ! (from ! (stop !)) (look ! 38 refl)) (lit ! tt) (record { fits = byte-fits room₀ (in-k k go ek) })) (from ! (stop !))
               (store ! 30 refl (tt, record { fits = byte-fits room₀ (in-k k go ek) })) $
@@ -486,8 +464,8 @@ module _ {M : Type 1} (𝓤 : URA M) (H : Heap 𝓤) (A : Atoms 𝓤) (W : Given
                 after-step m k r (zs .0) (zs .1 .0) (zs .1 .1 .0),
                 next i go k r (zs .0) (zs .1 .0) (zs .1 .1 .0) ek e e₁ e₂ e₃
                     (parts r w r-is .0),
-              ) (falls file start m (f .stands) (goes (m .progress .done) go) k ek r (zs .0) (zs .1 .0)
-              (zs .1 .1 .0) e)))))))))))))))))))))))
+              )
+              (falls file start m (f .stands) (goes (m .progress .done) go) k ek r (zs .0) (zs .1 .0) (zs .1 .1 .0) e))))))))))))))))))))
               (λ over. jumps ! $ exec ! (𝓣 .C) (𝓣 .Λ) En body.t-3 (atRet En Post) $
               assigns ! (of-opd ! (load ! (from ! (stop !)) (look ! 40 refl))) (from ! (stop !))
               (init ! 54 refl (LL.lawful S.the-type S′.the-laws 𝓤 H A W .typed (m .progress) _ (f .progress-is) .0)) $
