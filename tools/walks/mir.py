@@ -1,7 +1,6 @@
 # Prints the MIR of the functions named, from what rt mir prints, in a form to read.
 import sys,re
-t=sys.stdin.read()
-toks=re.findall(r'"[^"]*"|[()]|[^\s()]+',t)
+toks=re.findall(r'"[^"]*"|[()]|[^\s()]+',sys.stdin.read())
 pos=0
 def parse():
     global pos
@@ -31,11 +30,6 @@ def pl(x):
         elif p[0]=='deref': s='(*'+s+')'
         else: s+=str(p)
     return s
-def op(x):
-    if isinstance(x,str): return x
-    if x[0] in('copy','move'): return pl(x[1])
-    if x[0]=='int': return x[2]+'u'+x[1]
-    return fl(x)
 def fl(x):
     if isinstance(x,str): return x
     if x[0]=='place': return pl(x)
@@ -44,19 +38,15 @@ def fl(x):
     if x[0] in ('tyStruct','tyNamed','tyRef','tyInt'): return ty(x)
     return '('+' '.join(fl(y) for y in x)+')'
 def body(x,ind):
-    if x[0]=='seq':
-        body(x[1],ind); body(x[2],ind); return
     p='  '*ind
     if isinstance(x,str): print(p+x); return
+    if x[0]=='seq': body(x[1],ind); body(x[2],ind); return
     if x[0]=='assign': print(p+pl(x[1])+' = '+fl(x[2])); return
     if x[0] in('block','loop'):
         print(p+x[0]+' {'); body(x[1],ind+1); print(p+'}'); return
     if x[0]=='cond':
         print(p+'cond '+fl(x[1])+' {'); body(x[2],ind+1); print(p+'} else {'); body(x[3],ind+1); print(p+'}'); return
     print(p+fl(x))
-r=[]
-toks=toks
-pos=0
 prog=[]
 while pos<len(toks): prog.append(parse())
 want=sys.argv[1:]

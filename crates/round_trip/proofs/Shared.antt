@@ -22,11 +22,13 @@ use denote.Slice.{sliceVal, MutSlice, ShrSlice, heres, Room, at-slice, codedHole
 use denote.Lend.{Held, lends-shr-slice}
 use denote.Index.{opens-slice, closes-slice}
 
-module _ (R : RattleType) (κ κ′ : Lft) (q : Share) {M : Type 1} (𝓤 : URA M) (H : Heap 𝓤) (A : Atoms 𝓤) (W : Given 𝓤 H A) (ℓ ℓ′ : Lifetime) (x : RefT (List (R .Denot))) (ys : List (R .Denot)) where
+module _ (R : RattleType) (κ κ′ : Lft) (q : Share) {M : Type 1} (𝓤 : URA M) (H : Heap 𝓤) (A : Atoms 𝓤) (W : Given 𝓤 H A) (ℓ ℓ′ : Lifetime) (x : RefT (List (R .Denot)))
+    (ys : List (R .Denot)) where
   -- What the holder keeps: the lender's part at κ′, and its own borrow at κ, open, with both halves of its ghost variable.
   abbrev pub Kept : Fml
   Kept = fsep (flent κ′ (arr-parts (parts-of R) (length ys) .part fullShare ys (x .ptr .0) (x .ptr .1)))
-      (fsep (fobor κ q (Held R (length ys) (x .ptr .0) (x .ptr .1) (x .name))) (fsep (fobs (x .name) (codedHoleys R .code (heres R ys))) (fauth (x .name) (codedHoleys R .code (heres R ys)))))
+      (fsep (fobor κ q (Held R (length ys) (x .ptr .0) (x .ptr .1) (x .name)))
+      (fsep (fobs (x .name) (codedHoleys R .code (heres R ys))) (fauth (x .name) (codedHoleys R .code (heres R ys)))))
 
   -- The elements under the name of the loan.
   abbrev pub seen : GName → RefT (List (R .Denot))
@@ -42,8 +44,10 @@ module _ (R : RattleType) (κ κ′ : Lft) (q : Share) {M : Type 1} (𝓤 : URA 
   shares : ent 𝓤 (Whole (length ys)) (H .⇛ (ex 𝓤 (Loan (length ys))))
   shares =
       qed W (‵ (MutSlice ℓ κ R .own (at-last x ys) (sliceVal (x .ptr) (length ys) ∷ [])) ∷ ‵ (flft κ q) ∷ []) ∵ updating ! $ fsplit ! $
-      pureL ! (at-slice R (at-last x ys) (sliceVal (x .ptr) (length ys) ∷ [])) (λ p. fsplit ! $ opens-slice ! tt R ys (x .ptr .0) (x .ptr .1) $ feqI ! ℕ (length ys) (length ys) refl $ fjoin ! $
-      use1 W (later (some (λ (δ : GName). ‵ (ShrSlice ℓ′ κ′ R .own (seen δ) (sliceVal (x .ptr) (length ys) ∷ [])) ⊛ ‵ (flent κ′ (arr-parts (parts-of R) (length ys) .part fullShare ys (x .ptr .0) (x .ptr .1))))))
+      pureL ! (at-slice R (at-last x ys) (sliceVal (x .ptr) (length ys) ∷ [])) (λ p. fsplit ! $ opens-slice ! tt R ys (x .ptr .0) (x .ptr .1) $
+      feqI ! ℕ (length ys) (length ys) refl $ fjoin ! $
+      use1 W (later (some (λ (δ : GName). ‵ (ShrSlice ℓ′ κ′ R .own (seen δ) (sliceVal (x .ptr) (length ys) ∷ []))
+      ⊛ ‵ (flent κ′ (arr-parts (parts-of R) (length ys) .part fullShare ys (x .ptr .0) (x .ptr .1))))))
       (lends-shr-slice 𝓤 H A W R ℓ′ κ′ fullShare ys (x .ptr .0) (x .ptr .1) (p .1)) $ await ! tt $ pick ! (λ δ. split ! $
       -- [the `&[T]`; the lender's part; the open borrow; obs; auth]
       at-once ! $ show ! (Loan (length ys)) δ $ frame ! $ move ! (2 ∷ 3 ∷ []) $ fjoin ! $ move ! (2 ∷ 0 ∷ []) $ fjoin ! $ move ! (1 ∷ 0 ∷ []) $ fjoin ! $ done !))

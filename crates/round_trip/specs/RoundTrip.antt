@@ -13,18 +13,38 @@ use Rattle.spec_session.specs.Unfold.{unfolded}
 use Rattle.spec_session.specs.Filling.{plain-filling}
 use Rattle.spec_session.specs.Premises.{Apart}
 use Rattle.spec_session.specs.Demand3.{Finished, ReadAs}
-use Rattle.spec_session.specs.Call.{Slices, Result, session}
+use Rattle.spec_session.specs.Call.{Result, session}
 use Rattle.session_state.specs.declared.checkpoints.Checkpoint.{Checkpoint}
 use Rattle.session_state.specs.Records.{blank}
+use Rattle.read_answer.specs.Answer.{slices as store-slices}
+use Rattle.read_call.specs.Outcome.{read-result-of}
+use Rattle.session_call.specs.Outcome.{slices, result-of}
+use Rattle.round_trip.specs.declared.RoundTrip.{RoundTrip}
+
+-- All lists that are lent: the session's, and three more for the reading, which gets the session's work too.
+pub record Lists : Type 0 where
+  pub work : List ℕ
+  pub words : List ℕ
+  pub checkpoints : List Checkpoint
+  pub output : List ℕ
+  pub pairs : List ℕ
+  pub atoms : List ℕ
+  pub bytes : List ℕ
+
+abbrev pub lists : (work words : List ℕ) (checkpoints : List Checkpoint) (output pairs atoms bytes : List ℕ) → Lists
+lists w ws cs o p a b = record { work = w; words = ws; checkpoints = cs; output = o; pairs = p; atoms = a; bytes = b }
 
 -- The session of a file's bytes, with 01's limits.
-abbrev pub the-session : (input : List ℕ) → Slices Checkpoint → Result Checkpoint
-the-session input lent = session blank version-1 counted input lent
+abbrev pub the-session : (input : List ℕ) → Lists → Result Checkpoint
+the-session input l = session blank version-1 counted input (slices (l .work) (l .words) (l .checkpoints) (l .output))
 
 -- The reading of the first `size` bytes of a session's output, with the work that the session left.
-abbrev pub the-reading : Result Checkpoint → (pairs atoms bytes : List ℕ) → read.Result
-the-reading r p a b =
-    read.reading (take (r .answer .size) (r .slices .output)) (record { work = r .slices .work; pairs = p; atoms = a; bytes = b })
+abbrev pub the-reading : Result Checkpoint → Lists → read.Result
+the-reading r l = read.reading (take (r .answer .size) (r .slices .output)) (store-slices (r .slices .work) (l .pairs) (l .atoms) (l .bytes))
+
+-- What was read, and is in the slices.
+abbrev pub read-of : RoundTrip → Lists → read.Result
+read-of r l = read-result-of (r .read) (l .work) (l .pairs) (l .atoms) (l .bytes)
 
 -- What was read is the plain filling's whole tree of the adds of these handles: the number is 0, and the root names that tree in the slices.
 pub record ReadWhole (f : File) (handles : List ℕ) (r : read.Result) : Type 0 where
@@ -38,3 +58,12 @@ abbrev pub RoundTrips : (input : List ℕ) (lent : read.Slices) (steps : ℕ) (w
 RoundTrips input lent steps words r =
     read.long-enough lent ≡ true → (f : File) (rest : List ℕ) → file version-1 input ≡ got f rest → (handles : List ℕ) → f .steps ≡ map add handles → (k : ℕ)
     → k < steps → Finished words k → Apart (map (unfolded f) (take (suc k) handles)) → ReadWhole f (take (suc k) handles) r
+
+-- What a round trip promises of the lists before and after it.
+pub record Trip (input : List ℕ) (before after : Lists) (r : RoundTrip) : Type 0 where
+  -- The session gave what its definition says. Its work is the definition's: the reading used it since.
+  pub ran : result-of (r .session) (the-session input before .slices .work) (after .words) (after .checkpoints) (after .output) ≡ the-session input before
+  -- The reading of its bytes gave what its definition says.
+  pub was-read : read-of r after ≡ the-reading (the-session input before) before
+  -- What was read is the plain filling's tree.
+  pub returned : RoundTrips input (store-slices (before .work) (before .pairs) (before .atoms) (before .bytes)) (r .session .steps) (after .words) (read-of r after)

@@ -33,7 +33,9 @@ module _ {M : Type 1} (𝓤 : URA M) (H : Heap 𝓤) (A : Atoms 𝓤) (W : Given
   lends-cells : Room R n → (xs : List (R .Denot)) → length xs ≡ n → ent 𝓤 (sem 𝓤 H A (cells (mem R) xs b zero)) (H .⇛ (ex 𝓤 (Lent xs)))
   lends-cells room xs l =
       subst
-      (λ (m : ℕ). ent 𝓤 (sem 𝓤 H A (cells (mem R) xs b zero)) (H .⇛ (ex 𝓤 (λ (γ : GName). sep 𝓤 (sem 𝓤 H A (MutSlice ℓ κ R .own (record { ptr = (b, zero); name = γ; now = xs }) (sliceVal (b, zero) m ∷ []))) (sem 𝓤 H A (flent κ (Held R m b zero γ)))))))
+      (λ (m : ℕ). ent 𝓤 (sem 𝓤 H A (cells (mem R) xs b zero)) (H .⇛ (ex 𝓤
+      (λ (γ : GName). sep 𝓤 (sem 𝓤 H A (MutSlice ℓ κ R .own (record { ptr = (b, zero); name = γ; now = xs }) (sliceVal (b, zero) m ∷ [])))
+      (sem 𝓤 H A (flent κ (Held R m b zero γ)))))))
       l (lends-slice 𝓤 H A W R ℓ κ xs b zero (subst (Room R) (sym l) room))
 
   -- The array, which the local holds as one value, is lent.

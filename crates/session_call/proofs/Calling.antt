@@ -164,8 +164,10 @@ module _ (input w ws : List ℕ) (cs : List Checkpoint) (o : List ℕ) where
               (λ i. record { answer = a i; slices = record { work = work i; words = words i; checkpoints = rows i; output = out i } })
               ∙ ap (λ (x : Got File). after-file blank version-1 counted x s) (sym is)
           go (got f rest) is h =
-              let c : (w₃ ≡ zeroed w₂) × (ws₃ ≡ filled ws₂ (take (p .steps) ws₂)) × (o₃ ≡ filled o₂ (take (p .size) o₂)) = subst (λ (x : Bool). Cleared p w₂ ws₂ o₂ w₃ ws₃ o₃ x) (h .goes) (e .1) in
-              run-result (the-file input) ws₂ o₂ p (ends (h .goes)) r w₃ ws₃ cs₃ o₃ w ws cs o (e .0) (c .0 ∙ ap (λ (n : ℕ). replicate n 0) (lw ∙ same-work)) (c .1) (rows (h .all-records)) (c .2) lws lo
+              let c : (w₃ ≡ zeroed w₂) × (ws₃ ≡ filled ws₂ (take (p .steps) ws₂)) × (o₃ ≡ filled o₂ (take (p .size) o₂)) =
+              subst (λ (x : Bool). Cleared p w₂ ws₂ o₂ w₃ ws₃ o₃ x) (h .goes) (e .1) in
+              run-result (the-file input) ws₂ o₂ p (ends (h .goes)) r w₃ ws₃ cs₃ o₃ w ws cs o (e .0) (c .0 ∙ ap (λ (n : ℕ). replicate n 0) (lw ∙ same-work)) (c .1)
+              (rows (h .all-records)) (c .2) lws lo
               ∙ file-run f rest is
             where
               rows : b .records ≡ length cs → cs₃ ≡ replicate (length cs) blank

@@ -11,7 +11,11 @@ lesser-requires : tie.Need-lesser-requires
 lesser-requires c κs = search needs
 
 slice-aggregate-nikvoldra-read : tie.Need-slice-aggregate-nikvoldra-read
-slice-aggregate-nikvoldra-read c = let a = c .before .before .before .before .before .before .before .args in lesser-many (c .before .lesser .result) (a .session .size) (a .output .now) (c .before .lesser .ensures)
+slice-aggregate-nikvoldra-read c =
+    let cut = c .before in
+    let l = cut .lesser in
+    let a = cut .before .before .before .before .before .before .args in
+    lesser-many (l .result) (a .session .size) (a .output .now) (l .ensures)
 
 nikvoldra-read-requires : tie.Need-nikvoldra-read-requires
 nikvoldra-read-requires c κs = search needs
@@ -29,8 +33,14 @@ same-length-4 : tie.Need-same-length-4
 same-length-4 c = search needs
 
 returns : tie.Need-returns
-returns c = let a = c .before .before .before .before .before .before .before .before .before .before .before .before .before .before .before .before .before .before .before .before .args in let l = c .before .before .before .before .before .before .before .before .before .before .before .before .before .before .lesser in let r = c .before .before .before .before .before .before .before .before .nikvoldra-read in
-    first-read (l .result) (a .session .size) (a .output .now) (l .ensures) (slices (a .work .now) (a .pairs .now) (a .atoms .now) (a .bytes .now)) (read-result-of (r .result) (r .last .1 .0) (r .last .1 .1 .0) (r .last .1 .1 .1 .0) (r .last .1 .1 .1 .1 .0)) (r .ensures)
+returns c =
+    let read = c .before .before .before .before .before .before .before .before in
+    let cut = read .before .before .before .before .before .before in
+    let l = cut .lesser in
+    let r = read .nikvoldra-read in
+    let a = cut .before .before .before .before .before .before .args in
+    first-read (l .result) (a .session .size) (a .output .now) (l .ensures) (slices (a .work .now) (a .pairs .now) (a .atoms .now) (a .bytes .now))
+    (read-result-of (r .result) (r .last .1 .0) (r .last .1 .1 .0) (r .last .1 .1 .1 .0) (r .last .1 .1 .1 .1 .0)) (r .ensures)
 
 pub read-first-spec : {M : Type 1} → statement M
 read-first-spec =
