@@ -15,7 +15,7 @@ use lib.Pow.{shl-shr, shl-lt, shr-lt, split}
 use Rattle.words.specs.Lists.{Bytes, all-append, all-take, all-at}
 use Rattle.path.specs.Bytes.{bit, value, low-bits, all-bits}
 use Rattle.path.specs.BytesLaws.{odd-value, half-value, shifted-split, value-last}
-use Rattle.path_builder.specs.declared.push_bit.Place.{Place}
+use Rattle.path_builder.specs.declared.push_bit.BitPlace.{BitPlace}
 use Rattle.path_builder.specs.Put.{put, Put}
 use Rattle.path_builder.specs.declared.PathBuilder.{PathBuilder}
 use Rattle.path_builder.specs.Builder.{free, built, Sound, Fresh, Room, Pushed}
@@ -163,7 +163,7 @@ module _ (s : List ℕ) (p : PathBuilder) (b : Bool) (sound : Sound s p) (room :
 
   -- ---- either of them
 
-  pub pushed : (v : ℕ) → v ≡ bit b → (s′ : List ℕ) (q : Place) → Put s (p .«in_use») (p .«bit_pos») v s′ q
+  pub pushed : (v : ℕ) → v ≡ bit b → (s′ : List ℕ) (q : BitPlace) → Put s (p .«in_use») (p .«bit_pos») v s′ q
       → Pushed s p b s′ (record { «in_use» = q .«in_use»; «bit_pos» = q .«bit_pos» })
   pushed v ev s′ q h = go (ℕ-discrete (p .«bit_pos») 7)
     where

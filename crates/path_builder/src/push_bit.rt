@@ -6,7 +6,7 @@ ghost use lib.ListN.{length, getD};
 ghost use Rattle.path_builder.specs.Put.{Put};
 
 // Where the next bit goes: the bytes in use, and the place.
-pub struct Place {
+pub struct BitPlace {
     pub in_use: u32,
     pub bit_pos: u8,
 }
@@ -20,7 +20,7 @@ fn next_place(place: u8) -> u8
 }
 
 // One bit more. A new byte is stored, not added to: nothing is assumed of the words after the bytes in use.
-pub fn push_bit(store: &mut [u32], in_use: u32, place: u8, bit: u32) -> Place
+pub fn push_bit(store: &mut [u32], in_use: u32, place: u8, bit: u32) -> BitPlace
     requires { ⌜ (place < 8) × (bit < 2) × ((place + 1) % 8 ≤ 8 * «in_use») × («in_use» + (place + 1) / 8 ≤ length (now store))
         × («in_use» + 1 < 2 ^ 32) × ((place < 7) → getD (now store) («in_use» - 1) 0 < 256) ⌝ }
     ensures { λ r. ⌜ Put (now (store .entry)) «in_use» place bit (now (store .exit)) r ⌝ }
@@ -28,14 +28,14 @@ pub fn push_bit(store: &mut [u32], in_use: u32, place: u8, bit: u32) -> Place
     let n = wide(in_use);
     if place == 7 {
         store[n] = bit << 7;
-        return Place {
+        return BitPlace {
             in_use: in_use + 1,
             bit_pos: 6,
         };
     }
     let x = store[n - 1];
     store[n - 1] = x + (bit << (place as u32));
-    Place {
+    BitPlace {
         in_use: in_use,
         bit_pos: next_place(place),
     }

@@ -17,9 +17,9 @@ use Rattle.spec_reading.specs.Call.{Slices, Result, refusal, zeroed, filled, ro
 use Rattle.read_store.specs.Layout.{VALUES, values-of}
 use Rattle.read_item.specs.Whole.{stored-of, Lent, Ends}
 use Rattle.read_item.specs.declared.settle.Reader.{Reader}
-use Rattle.read_call.specs.declared.read_items.Outcome.{Outcome}
-use Rattle.read_call.specs.declared.read_items.Outcome.the-variants as outcome
-use Rattle.read_call.specs.read_items.Outcome.{start, ReadAll}
+use Rattle.read_call.specs.declared.read_items.AllRead.{AllRead}
+use Rattle.read_call.specs.declared.read_items.AllRead.the-variants as outcome
+use Rattle.read_call.specs.read_items.AllRead.{start, ReadAll}
 use Rattle.read_answer.specs.declared.ReadAnswer.{ReadAnswer}
 use Rattle.read_answer.specs.Answer.{read-answer-of, Counts, read-answer-at, slices}
 use Rattle.read_call.specs.Outcome.{read-result-of, Counted, ended}
@@ -130,7 +130,7 @@ module _ (input w p a b : List ℕ) (r : Reader) (h : Ends input w p a b r) wher
       let na : r .atoms ≡ length (take (2 * r .atoms) a) / 2 = omega (arith, atoms-length) in
       λ i. record { number = 0; root = root i; pairs = np i; atoms = na i; bytes = sym bytes-length i; ghosts = r .ghosts }
 
-pub counted : (input w p a b : List ℕ) (o : Outcome) → ReadAll input w p a b (read-stored input) o → Counted w o
+pub counted : (input w p a b : List ℕ) (o : AllRead) → ReadAll input w p a b (read-stored input) o → Counted w o
 counted input w p a b (outcome.Accepted r) t = counts input w p a b r (t .ends)
 counted input w p a b (outcome.Refused n) t = tt
 
@@ -139,7 +139,7 @@ zeroed-same l l₁ e = ap (λ (n : ℕ). replicate n 0) e
 
 -- What the outcome of all items leaves is what the definition says, where the slices are as long as at the call.
 module _ (input w p a b w₁ p₁ a₁ b₁ : List ℕ) where
-  pub ended-after : (o : Outcome) → ReadAll input w₁ p₁ a₁ b₁ (read-stored input) o
+  pub ended-after : (o : AllRead) → ReadAll input w₁ p₁ a₁ b₁ (read-stored input) o
       → length w₁ ≡ length w → length p₁ ≡ length p → length a₁ ≡ length a → length b₁ ≡ length b
       → (x : Result) → x ≡ ended o (slices w₁ p₁ a₁ b₁) → x ≡ after (read-stored input) (slices w p a b)
   ended-after (outcome.Accepted r) t lw lp la lb x e =

@@ -3,10 +3,10 @@ use read_item::Item;
 use read_item::Reader;
 ghost use Rattle.spec_reading.specs.Store.{read-stored};
 ghost use Rattle.read_item.specs.Whole.{Lent};
-ghost use Rattle.read_call.specs.read_items.Outcome.{start, ReadAll};
+ghost use Rattle.read_call.specs.read_items.AllRead.{start, ReadAll};
 
 // What reading gives.
-pub enum Outcome {
+pub enum AllRead {
     Accepted(Reader),
     Refused(u32),
 }
@@ -18,7 +18,7 @@ pub fn read_all(
     pairs: &mut [u32],
     atoms: &mut [u32],
     bytes: &mut [u8],
-) -> Outcome
+) -> AllRead
     requires { ⌜ Lent (now input) (now work) (now pairs) (now atoms) (now bytes) start ⌝ }
     ensures { λ o. ⌜
         ReadAll (now (input .entry)) (now (work .exit)) (now (pairs .exit)) (now (atoms .exit)) (now (bytes .exit))
@@ -41,13 +41,13 @@ pub fn read_all(
                 r = next;
             }
             Item::Whole(last) => {
-                return Outcome::Accepted(last);
+                return AllRead::Accepted(last);
             }
             Item::Refused(n) => {
-                return Outcome::Refused(n);
+                return AllRead::Refused(n);
             }
         }
         left -= 1;
     }
-    Outcome::Refused(14)
+    AllRead::Refused(14)
 }

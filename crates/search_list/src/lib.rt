@@ -107,7 +107,7 @@ pub fn is_seen(work: &[u32], e: usize) -> bool
 }
 
 // Entry e is seen.
-pub fn mark(work: &mut [u32], e: usize)
+pub fn mark_seen(work: &mut [u32], e: usize)
     requires { ⌜ (WORK ≤ length (now work)) × (e < ENTRIES) ⌝ }
     ensures { λ _. ⌜ Marked (now (work .entry)) (now (work .exit)) e ⌝ }
 {

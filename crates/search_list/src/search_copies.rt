@@ -23,7 +23,7 @@ pub fn add_node(work: &mut [u32], slot: usize, nodes: usize)
     work[work_layout::PREVS + k] = a;
     work[work_layout::NODES + k] = v;
     work[work_layout::LENS + k] = (l + 1) as u32;
-    crate::mark(work, words::wide(v) / 2);
+    crate::mark_seen(work, words::wide(v) / 2);
 }
 
 // A path with the bits of the last node at parent i of entry e, unless that is seen.

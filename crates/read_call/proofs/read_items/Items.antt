@@ -14,8 +14,8 @@ use Rattle.read_item.specs.Step.{Stepped}
 use Rattle.read_item.specs.declared.settle.Reader.{Reader}
 use Rattle.read_item.specs.declared.settle.Item.{Item}
 use Rattle.read_item.specs.declared.settle.Item.the-variants as item
-use Rattle.read_call.specs.declared.read_items.Outcome.the-variants as outcome
-use Rattle.read_call.specs.read_items.Outcome.{start, ReadAll}
+use Rattle.read_call.specs.declared.read_items.AllRead.the-variants as outcome
+use Rattle.read_call.specs.read_items.AllRead.{start, ReadAll}
 
 run-more : (left : ℕ) (a : At Stored) → 0 < left → run store-values left a ≡ then store-values (step store-values a) (λ b. run store-values (left - 1) b)
 unfolding run

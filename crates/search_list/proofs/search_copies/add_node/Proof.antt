@@ -71,14 +71,14 @@ slice-write-work-3 c = simp length-set (omega arith)
 wide-requires-2 : tie.Need-wide-requires-2
 wide-requires-2 c κs = search needs
 
-mark-requires : tie.Need-mark-requires
-mark-requires c κs =
+mark-seen-requires : tie.Need-mark-seen-requires
+mark-seen-requires c κs =
     let s = c .before .before .before .before .before .before .before .before .before .before in
     (simp length-set (s .pre .0 .0), omega (arith, s .pre .1 .1, c .wide2 .ensures, c .before .before .before .before .before .place-of .ensures))
 
 same-length : tie.Need-same-length
 same-length c =
-    c .before .before .mark .kept .0 ∙ simp length-set
+    c .before .before .mark-seen .kept .0 ∙ simp length-set
 
 returns : tie.Need-returns
 returns c =
@@ -86,7 +86,7 @@ returns c =
     let p = l .before .before .before .place-of in
     let n = l .before .before .before .before .before .node-of in
     let s = l .before .before .before .before .before .before .before .before in
-    let k = c .before .before .mark in
+    let k = c .before .before .mark-seen in
     node-added (s .args .work .now) (k .last .0) (s .args .slot) (s .args .nodes) (n .result) (p .result) (l .len-of .result)
     (s .pre .0 .0) (s .pre .0 .1) (s .pre .0 .2) (s .pre .1 .0) (s .pre .1 .1) (n .ensures) (p .ensures)
     (l .len-of .ensures ∙ ap (λ (k : ℕ). at (s .args .work .now) (LENS + k)) (l .before .wide .ensures))
@@ -113,6 +113,6 @@ add-node-spec =
     mul-work-3
     slice-write-work-3
     wide-requires-2
-    mark-requires
+    mark-seen-requires
     same-length
     returns)

@@ -1,11 +1,11 @@
--- `search_list::mark` meets its contract: the words of the bit set come back with one bit set.
+-- `search_list::mark_seen` meets its contract: the words of the bit set come back with one bit set.
 -- Assumes nothing.
 use mathlib.Core.Path.{_∙_}
 use Rattle.words.specs.Words.{part}
 use Rattle.search_list.proofs.Marks.{seen-length, marked}
 use borrow.Author.Needs.{needs}
-use Rattle.search_list.proofs.mark.Statement.{statement}
-use Rattle.search_list.proofs.mark.Tie as tie
+use Rattle.search_list.proofs.mark_seen.Statement.{statement}
+use Rattle.search_list.proofs.mark_seen.Tie as tie
 
 sub-visit : tie.Need-sub-visit
 sub-visit c = search needs
@@ -29,7 +29,7 @@ returns c =
     let r = c .before .before .visit in
     marked (s .args .work .now) (r .last .0) (s .pre .0) (r .kept .0 ∙ seen-length (s .args .work .now) (s .pre .0)) (s .args .e) (s .pre .1) (r .ensures .1)
 
-pub mark-spec : {M : Type 1} → statement M
-mark-spec =
+pub mark-seen-spec : {M : Type 1} → statement M
+mark-seen-spec =
     tie.close
     (tie.spec sub-visit part-visit-start part-visit-end visit-requires same-length returns)
