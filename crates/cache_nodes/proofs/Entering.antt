@@ -17,7 +17,7 @@ use Rattle.spec_session.specs.Unfold.{Unfolded, hole, leaf, node, is-sentinel, 
 use Rattle.spec_session.specs.UnfoldLaws.{unfolded-sentinel, unfolded-listed, unfolded-small, unfolded-pair}
 use Rattle.spec_session.specs.Cache.{Cache, lookup, atom-key, find-or-add, meet-sentinel, join-pair, known-or, enter}
 use Rattle.work_layout.specs.Layout.{PAIRS, ATOM-COUNT, PAIR-COUNT, SENTINEL, MAPS, USED, ENTRIES}
-use Rattle.file_parts.specs.Answers.{sentinel-word}
+use Rattle.spec_session.specs.Sentinel.{sentinel-word}
 use Rattle.cache_nodes.specs.Meaning.{bytes-named, no-pair, Tables, Names, entry-or-none, unmapped, Whole, Holds}
 use Rattle.cache_nodes.specs.Contracts.{Action, sentinel-action, atom-action, join-action, enter-action, Acts, Made, Joined, span, Bounded, Entered, Room}
 use Rattle.cache_nodes.proofs.Atoms.{not-true}

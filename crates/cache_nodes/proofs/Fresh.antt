@@ -16,7 +16,7 @@ use Rattle.spec_session.specs.File.{File, named}
 use Rattle.spec_session.specs.Cache.{fresh}
 use Rattle.work_layout.specs.Layout.{FIRST, PAIR-COUNT, SENTINEL, MAPS, SENTINEL-ENTRY, USED, COUNTS, HEADS, PARENTS, ENTRIES}
 use Rattle.work_layout.specs.Rows.{rows-of, prev, Chained, Sound, all-counts}
-use Rattle.file_parts.specs.Answers.{sentinel-word}
+use Rattle.spec_session.specs.Sentinel.{sentinel-word}
 use Rattle.cache_nodes.specs.Meaning.{first-same, no-pair, Tables, Handles, Names, unmapped, Whole, Holds}
 use Rattle.cache_nodes.proofs.Atoms.{first-found}
 

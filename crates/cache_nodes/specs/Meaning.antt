@@ -13,7 +13,7 @@ use Rattle.atom.specs.Write.{serialized-length}
 use Rattle.allocator.specs.Handle.{Node, pair, listed-atom, small-atom, unknown, node-of}
 use Rattle.allocator.specs.SmallAtom.{small-bytes, fits-in-small-atom}
 use Rattle.spec_session.specs.File.{File, Pair, named}
-use Rattle.file_parts.specs.Answers.{sentinel-word}
+use Rattle.spec_session.specs.Sentinel.{sentinel-word}
 use Rattle.spec_session.specs.Cache.{Key, sentinel-key, atom-key, pair-key, Entry, Cache, lookup}
 use Rattle.work_layout.specs.Layout.{PAIRS, FIRST, ATOM-LENGTHS, ATOM-COUNT, PAIR-COUNT, SENTINEL, MAPS, SENTINEL-ENTRY, USED, LEFT, RIGHT}
 use Rattle.work_layout.specs.Rows.{Row, rows-of, Sound}

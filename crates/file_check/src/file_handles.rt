@@ -9,7 +9,8 @@ ghost use Prim.Native.Nat.{_≤_};
 ghost use lib.ListN.{length, drop};
 ghost use Rattle.allocator.specs.Handle.{node-of};
 ghost use Rattle.spec_session.specs.File as file-format;
-ghost use Rattle.file_parts.specs.Answers.{Answers, itself, pair-word, counted, sentinel-word, operand-word};
+ghost use Rattle.file_parts.specs.Answers.{Answers, itself, pair-word, counted, operand-word};
+ghost use Rattle.spec_session.specs.Sentinel.{sentinel-word};
 
 // The most steps.
 const STEPS: u32 = 1024;

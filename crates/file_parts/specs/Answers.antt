@@ -43,11 +43,6 @@ pair-word q = q .right
 abbrev pub counted : {A : Type 0} → List A → ℕ
 counted xs = length xs
 
--- `ffffffff` for none.
-abbrev pub sentinel-word : Option ℕ → ℕ
-sentinel-word none = 0xffffffff
-sentinel-word (some h) = h
-
 abbrev pub operand-word : Step → ℕ
 operand-word (add h) = h
 operand-word (restore k) = k

@@ -6,7 +6,7 @@ use lib.ListN.{length}
 use Rattle.words.specs.Lists.{All}
 use Rattle.file_parts.specs.declared.session_file.Checked.{Checked}
 use Rattle.spec_session.specs.File.{Got, got, refused, File}
-use Rattle.file_parts.specs.Answers.{sentinel-word}
+use Rattle.spec_session.specs.Sentinel.{sentinel-word}
 use Rattle.spec_session.specs.Places.{AtomsAt, PairsAt, StepsAt, ListedAtom, PairsNamed, SentinelNamed, StepNamed}
 
 -- The contents of a file that passed: the counts are within their limits, the listed atoms are not small, and each handle names a node.

@@ -11,7 +11,7 @@ use lib.ListN.{length}
 use Rattle.allocator.specs.Handle.{node-of}
 use Rattle.file_parts.specs.declared.session_file.Checked.{Checked}
 use Rattle.spec_session.specs.File.{Got, got, refused, File, Pair, named}
-use Rattle.file_parts.specs.Answers.{sentinel-word}
+use Rattle.spec_session.specs.Sentinel.{sentinel-word}
 use Rattle.spec_session.specs.Places.{PairNamed, PairsNamed, SentinelNamed}
 use Rattle.file_parts.specs.Checked.{Passed, Checks}
 use Rattle.file_parts.specs.Loaded.{AtomsThere, PairsThere, pair-of}

@@ -14,7 +14,7 @@ use Rattle.cache_nodes.specs.Meaning.{Tables, entry-of, entry-or-none, unmapped
 use Rattle.cache_nodes.proofs.Entries.{sound-kept, rows-kept, counts-kept}
 use Rattle.cache_nodes.proofs.Frames.{unmapped-same}
 use Rattle.cache_nodes.proofs.Making.{whole-of}
-use Rattle.write_turn.specs.State.{AtomPlaces, AtomsThere}
+use Rattle.write_place.specs.State.{AtomPlaces, AtomsThere}
 
 -- ---- the places of the file's atoms lie below OPEN
 

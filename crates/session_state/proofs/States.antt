@@ -22,7 +22,7 @@ use Rattle.spec_session.specs.Trees.{nth}
 use Rattle.spec_session.specs.Steps.{UndoState, word-of, with-word, run-steps}
 use Rattle.work_layout.specs.Layout.{OPEN, USED, COPIES, COPY}
 use Rattle.cache_undo.specs.undo_state.Contracts.{copied-open, copied-stack, copied-marks}
-use Rattle.write_turn.specs.State.{todo-of}
+use Rattle.write_place.specs.State.{todo-of}
 use Rattle.session_state.specs.declared.progress.Progress.{Progress}
 use Rattle.session_state.specs.Stored.{bit}
 use Rattle.session_state.specs.Moves.{noted-at}

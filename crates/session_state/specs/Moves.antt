@@ -2,9 +2,9 @@
 use Prim.Native.Nat.{ℕ, _+_}
 use mathlib.Core.Bool.{Bool, true, false}
 use Rattle.session_state.specs.declared.checkpoints.Checkpoint.{Checkpoint}
-use Rattle.write_turn.specs.declared.writer_place.Place.{Place}
-use Rattle.write_turn.specs.declared.writer_place.Outcome.{Outcome}
-use Rattle.write_turn.specs.declared.writer_place.Outcome.the-variants as outcome
+use Rattle.write_place.specs.declared.Place.{Place}
+use Rattle.write_place.specs.declared.Outcome.{Outcome}
+use Rattle.write_place.specs.declared.Outcome.the-variants as outcome
 use Rattle.session_state.specs.declared.progress.Progress.{Progress}
 use Rattle.session_state.specs.declared.progress.StepAnswer.{StepAnswer}
 

@@ -1,8 +1,8 @@
 // Where a session stands between two steps, and how an add, a restore and a refusal move it.
 use crate::checkpoints::Checkpoint;
 use words::wide;
-use write_turn::Outcome;
-use write_turn::Place;
+use write_place::Outcome;
+use write_place::Place;
 ghost use mathlib.Core.Path.{_≡_};
 ghost use Prim.Native.Nat.{_<_};
 ghost use Rattle.session_state.specs.Moves.{refused-at, moved-to, after-outcome, undone-at, stopped-at};

@@ -32,11 +32,11 @@ use Rattle.cache_stack.proofs.marks.Bits.{marked-same}
 use Rattle.cache_nodes.proofs.Frames.{tables-kept}
 use Rattle.cache_nodes.specs.Meaning.{Tables, Names, Whole, Holds, entry-or-none, unmapped}
 use Rattle.cache_nodes.specs.Contracts.{Updated}
-use Rattle.write_turn.specs.State.{AtomPlaces, AtomsThere, todo-of, Running, Writes}
+use Rattle.write_place.specs.State.{AtomPlaces, AtomsThere, todo-of, Running, Writes}
 use Rattle.write_turn.specs.Contracts.{place-of, Fine, goes-on, comes-to, Leads, ended}
 use Rattle.write_turn.proofs.Frames.{todo-same, rights-same, pairs-few}
-use Rattle.write_turn.specs.declared.writer_place.Outcome.{Outcome}
-use Rattle.write_turn.specs.declared.writer_place.Outcome.the-variants as outcome
+use Rattle.write_place.specs.declared.Outcome.{Outcome}
+use Rattle.write_place.specs.declared.Outcome.the-variants as outcome
 use Rattle.session_state.specs.declared.progress.Progress.{Progress}
 use Rattle.session_state.specs.Stored.{bit, record-of}
 use Rattle.session_state.specs.Moves.{noted-at, after-outcome}

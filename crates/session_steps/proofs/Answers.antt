@@ -14,10 +14,10 @@ use Rattle.allocator.specs.declared.NodePtr.{NodePtr}
 use Rattle.spec_session.specs.File.{File, Step}
 use Rattle.file_parts.specs.declared.session_file.NextStep.the-variants as next-step
 use Rattle.spec_session.specs.Steps.{run-steps}
-use Rattle.write_turn.specs.State.{todo-of}
+use Rattle.write_place.specs.State.{todo-of}
 use Rattle.write_turn.specs.Contracts.{Fine, ended as ended-at}
-use Rattle.write_turn.specs.declared.writer_place.Outcome.{Outcome}
-use Rattle.write_turn.specs.declared.writer_place.Outcome.the-variants as outcome
+use Rattle.write_place.specs.declared.Outcome.{Outcome}
+use Rattle.write_place.specs.declared.Outcome.the-variants as outcome
 use Rattle.session_state.specs.declared.progress.Progress.{Progress}
 use Rattle.session_state.specs.declared.progress.StepAnswer.{StepAnswer}
 use Rattle.session_state.specs.Stored.{bit, record-of}

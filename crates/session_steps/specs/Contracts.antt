@@ -10,11 +10,11 @@ use Rattle.work_layout.specs.Rows.{all-counts}
 use Rattle.cache_undo.specs.undo_state.Contracts.{Saved}
 use Rattle.cache_nodes.specs.Meaning.{Names, unmapped}
 use Rattle.cache_nodes.specs.Contracts.{Updated}
-use Rattle.write_turn.specs.State.{AtomPlaces, Running}
+use Rattle.write_place.specs.State.{AtomPlaces, Running}
 use Rattle.write_turn.specs.Contracts.{Turns, ended}
 use Rattle.write_turn.specs.declared.Next.the-variants as next
-use Rattle.write_turn.specs.declared.writer_place.Place.{Place}
-use Rattle.write_turn.specs.declared.writer_place.Outcome.{Outcome}
+use Rattle.write_place.specs.declared.Place.{Place}
+use Rattle.write_place.specs.declared.Outcome.{Outcome}
 use Rattle.session_state.specs.declared.progress.Progress.{Progress}
 use Rattle.session_state.specs.Moves.{after-outcome}
 

@@ -9,7 +9,7 @@ use session_state::StepAnswer;
 use session_state::progress;
 use session_state::progress::Progress;
 use session_state::step_records;
-use write_turn::Place;
+use write_place::Place;
 ghost use lib.ListN.{take};
 ghost use Rattle.file_parts.specs.declared.session_file.NextStep.the-variants as next-step;
 ghost use Rattle.session_state.specs.State.{the-file};

@@ -35,3 +35,4 @@ pub mod FileAtoms
 pub mod TheoremFile
 pub mod Demand3
 pub mod session_file
+pub mod Sentinel

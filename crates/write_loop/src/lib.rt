@@ -3,9 +3,9 @@ use allocator::NodePtr;
 use cache_nodes::lookup;
 use search_find::Path;
 use work_layout::EntryIndex;
+use write_place::Outcome;
+use write_place::Place;
 use write_turn::Next;
-use write_turn::Outcome;
-use write_turn::Place;
 use write_turn::close_pairs;
 use write_turn::open_pairs;
 ghost use Rattle.words.specs.Words.{at};
@@ -14,7 +14,7 @@ ghost use Rattle.work_layout.specs.Layout.{PAIR-COUNT};
 ghost use Rattle.search_find.specs.declared.find_path.Path.the-variants.{NoPath};
 ghost use Rattle.cache_nodes.specs.Meaning.{Names};
 ghost use Rattle.write_turn.specs.declared.Next.the-variants.{Parse};
-ghost use Rattle.write_turn.specs.State.{AtomPlaces};
+ghost use Rattle.write_place.specs.State.{AtomPlaces};
 ghost use Rattle.write_turn.specs.Contracts.{Runs, Turns, Falls, Found, ended};
 
 // A node for which no reference is written.

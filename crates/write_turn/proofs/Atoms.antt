@@ -21,7 +21,7 @@ use Rattle.write_item.specs.Answers.{written}
 use Rattle.cache_nodes.specs.Meaning.{bytes-named, Names, Whole}
 use Rattle.cache_nodes.specs.Contracts.{is-listed}
 use Rattle.cache_nodes.proofs.Atoms.{not-true, listed-is, small-is, index-low, listed-low}
-use Rattle.write_turn.specs.State.{AtomPlaces, bytes-at}
+use Rattle.write_place.specs.State.{AtomPlaces, bytes-at}
 use Rattle.write_turn.specs.Contracts.{AtomPut}
 
 -- A node that is named and no pair is an atom.

@@ -21,9 +21,9 @@ use Rattle.cache_stack.specs.Contracts.{PoppedTwo}
 use Rattle.cache_stack.proofs.marks.Bits.{marked-same}
 use Rattle.cache_nodes.specs.Meaning.{Tables, Names, Holds, Whole}
 use Rattle.cache_nodes.proofs.Entering.{names-grow}
-use Rattle.write_turn.specs.declared.writer_place.Place.{Place}
+use Rattle.write_place.specs.declared.Place.{Place}
 use Rattle.write_turn.specs.declared.Next.the-variants.{Parse, Close, Done}
-use Rattle.write_turn.specs.State.{left-to-write, todo-of, rights-left, Standing, Writes, WriterOnly}
+use Rattle.write_place.specs.State.{left-to-write, todo-of, rights-left, Standing, Writes, WriterOnly}
 use Rattle.write_turn.specs.Contracts.{Runs, goes-on, Turns, Falls, Closes}
 use Rattle.write_turn.proofs.Frames.{only-same, whole-stays, holds-stay, tables-stay, pairs-stay, names-stay, rights-few, rights-more}
 use Rattle.write_turn.proofs.Frames.{Beside, beside-only, beside-both, pairs-few, todo-stays, standing-stays}

@@ -15,7 +15,7 @@ use Rattle.cache_nodes.specs.Meaning.{entry-of, entry-or-none, Tables, Names, W
 use Rattle.cache_nodes.proofs.Entries.{used-kept, sound-kept, rows-kept, counts-kept}
 use Rattle.cache_nodes.proofs.Frames.{tables-kept}
 use Rattle.cache_nodes.proofs.Making.{whole-of}
-use Rattle.write_turn.specs.State.{AtomPlaces, AtomsThere, todo-of, rights-left, Standing, WriterOnly}
+use Rattle.write_place.specs.State.{AtomPlaces, AtomsThere, todo-of, rights-left, Standing, WriterOnly}
 
 pub only-both : (u v w : List ℕ) → WriterOnly u v → WriterOnly v w → WriterOnly u w
 only-both u v w a b =

@@ -8,10 +8,10 @@ use Rattle.words.specs.Words.{at}
 use Rattle.allocator.specs.declared.NodePtr.{NodePtr}
 use Rattle.work_layout.specs.Layout.{PAIR-COUNT}
 use Rattle.cache_nodes.specs.Meaning.{Names, Whole}
-use Rattle.write_turn.specs.declared.writer_place.Place.{Place}
+use Rattle.write_place.specs.declared.Place.{Place}
 use Rattle.write_turn.specs.declared.Next.{Next}
 use Rattle.write_turn.specs.declared.Next.the-variants.{Parse}
-use Rattle.write_turn.specs.State.{AtomPlaces}
+use Rattle.write_place.specs.State.{AtomPlaces}
 use Rattle.write_turn.specs.Contracts.{Runs, ahead, Fine, Turns, Falls}
 use Rattle.write_turn.proofs.Frames.{places-stay}
 use Rattle.write_turn.proofs.Turning.{turns-none, turns-then}

@@ -32,10 +32,10 @@ use Rattle.write_item.specs.Answers.{written}
 use Rattle.cache_nodes.specs.Meaning.{Tables, Names}
 use Rattle.cache_nodes.proofs.Atoms.{not-true}
 use Rattle.cache_nodes.proofs.Entering.{names-grow, pair-low, is-node}
-use Rattle.write_turn.specs.declared.writer_place.Place.{Place}
+use Rattle.write_place.specs.declared.Place.{Place}
 use Rattle.write_turn.specs.declared.Next.{Next}
 use Rattle.write_turn.specs.declared.Next.the-variants.{Parse, Refused}
-use Rattle.write_turn.specs.State.{todo-of, Standing, Writes}
+use Rattle.write_place.specs.State.{todo-of, Standing, Writes}
 use Rattle.write_turn.specs.Contracts.{goes-on, Turns, Falls, Found}
 use Rattle.write_turn.proofs.Frames.{only-same, pairs-stay, names-stay, pairs-few}
 use Rattle.write_turn.proofs.Items.{size-more, output-more, PutNext, put-next, put-none, taken-all, taken-before, length-stays, room-there, room-gone}

@@ -18,7 +18,7 @@ use Rattle.cache_stack.specs.Contracts.{Stacked}
 use Rattle.cache_stack.proofs.Stacks.{stacked-same, stack-same}
 use Rattle.cache_stack.proofs.marks.Bits.{marked-same}
 use Rattle.cache_nodes.specs.Meaning.{Tables, Whole}
-use Rattle.write_turn.specs.State.{left-to-write, todo-of, rights-left, Standing, Writes, WriterOnly}
+use Rattle.write_place.specs.State.{left-to-write, todo-of, rights-left, Standing, Writes, WriterOnly}
 use Rattle.write_turn.proofs.Frames.{whole-stays, counts-stay, holds-stay, pairs-stay, todo-same, rights-same, rights-more}
 
 -- ---- what is left to write, by the innermost pair's word

@@ -27,10 +27,10 @@ use Rattle.cache_nodes.specs.Meaning.{Tables, Names, Whole, Holds}
 use Rattle.cache_nodes.proofs.Entering.{sentinel-is}
 use Rattle.cache_nodes.specs.lookup.Contracts.{EntryOf}
 use Rattle.search_find.specs.Contracts.{FindsIn}
-use Rattle.write_turn.specs.declared.writer_place.Place.{Place}
+use Rattle.write_place.specs.declared.Place.{Place}
 use Rattle.write_turn.specs.declared.Next.{Next}
 use Rattle.write_turn.specs.declared.Next.the-variants.{Parse, Stopped}
-use Rattle.write_turn.specs.State.{AtomPlaces, AtomsThere, todo-of, Writes, WriterOnly}
+use Rattle.write_place.specs.State.{AtomPlaces, AtomsThere, todo-of, Writes, WriterOnly}
 use Rattle.write_turn.specs.Contracts.{place-of, Runs, Fine, goes-on, comes-to, Leads, Turns, Found}
 use Rattle.write_turn.proofs.Frames.{only-both, only-same, holds-stay, tables-stay, pairs-stay, names-stay, places-stay, atoms-stay, Beside, beside-only, todo-stays, standing-stays}
 

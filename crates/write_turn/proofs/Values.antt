@@ -38,10 +38,10 @@ use Rattle.write_item.specs.Answers.{written}
 use Rattle.cache_nodes.specs.Meaning.{bytes-named, Tables, Holds}
 use Rattle.cache_nodes.proofs.Entering.{names-pair, is-leaf, is-node}
 use Rattle.search_find.specs.Contracts.{LengthOf, steps-of}
-use Rattle.write_turn.specs.declared.writer_place.Place.{Place}
+use Rattle.write_place.specs.declared.Place.{Place}
 use Rattle.write_turn.specs.declared.Next.{Next}
 use Rattle.write_turn.specs.declared.Next.the-variants.{Parse, Close, Refused}
-use Rattle.write_turn.specs.State.{AtomsThere, todo-of, Writes}
+use Rattle.write_place.specs.State.{AtomsThere, todo-of, Writes}
 use Rattle.write_turn.specs.Contracts.{Runs, goes-on, Turns, Falls, Found, AtomPut, Stacks, Pushes}
 use Rattle.write_turn.proofs.Frames.{only-same, holds-stay, Beside, beside-only, todo-stays, standing-stays}
 use Rattle.write_turn.proofs.Items.{size-more, output-more, PutNext, put-next, put-none, taken-all, taken-before, length-stays, atom-bytes, WholeItem, whole-fits, whole-lacks}

@@ -25,12 +25,12 @@ use Rattle.write_item.specs.Answers.{written}
 use Rattle.cache_nodes.specs.Meaning.{bytes-named, Tables, Names}
 use Rattle.cache_nodes.specs.lookup.Contracts.{PairEntry, EntryOf}
 use Rattle.search_find.specs.Contracts.{LengthOf, FindsIn}
-use Rattle.write_turn.specs.declared.writer_place.Place.{Place}
+use Rattle.write_place.specs.declared.Place.{Place}
 use Rattle.write_turn.specs.declared.Next.{Next}
 use Rattle.write_turn.specs.declared.Next.the-variants.{Parse, Close, Done, Stopped, Refused}
-use Rattle.write_turn.specs.declared.writer_place.Outcome.{Outcome}
-use Rattle.write_turn.specs.declared.writer_place.Outcome.the-variants as outcome
-use Rattle.write_turn.specs.State.{AtomsThere, todo-of, Running, Writes, WriterOnly}
+use Rattle.write_place.specs.declared.Outcome.{Outcome}
+use Rattle.write_place.specs.declared.Outcome.the-variants as outcome
+use Rattle.write_place.specs.State.{AtomsThere, todo-of, Running, Writes, WriterOnly}
 
 -- ---- what comes next
 

@@ -1,9 +1,9 @@
 // incremental.rs: after a value, the right side of the innermost open pair, or that pair closed.
 use crate::Next;
-use crate::writer_place::Place;
 use cache_nodes::lookup;
 use cache_stack::stack_pop;
 use words::wide;
+use write_place::Place;
 ghost use mathlib.Core.Path.{_≡_};
 ghost use mathlib.Core.List.{List};
 ghost use Prim.Native.Nat.{ℕ, _+_, _-_, _≤_, _<_};
@@ -13,7 +13,7 @@ ghost use Rattle.work_layout.specs.Layout.{OPEN, PAIR-COUNT};
 ghost use Rattle.cache_stack.specs.Contracts.{Stacked};
 ghost use Rattle.cache_nodes.specs.Meaning.{Whole};
 ghost use Rattle.write_turn.specs.declared.Next.the-variants.{Parse, Close};
-ghost use Rattle.write_turn.specs.State.{Standing};
+ghost use Rattle.write_place.specs.State.{Standing};
 ghost use Rattle.write_turn.specs.Contracts.{Runs, Turns, Falls, Closes};
 
 // The two values of pair i, on top of `depth` entries, become one.

@@ -1,7 +1,6 @@
 // incremental.rs: what comes next in the loop that writes; a reference or an atom written, and its entry put on the stack.
 pub mod close_pairs;
 pub mod open_pairs;
-mod writer_place;
 
 use allocator::NodePtr;
 use file_tables::listed_atoms;
@@ -9,8 +8,8 @@ use words::wide;
 use work_layout::EntryIndex;
 use write_item::Put;
 use write_item::write_reference;
-pub use writer_place::Outcome;
-pub use writer_place::Place;
+use write_place::Outcome;
+use write_place::Place;
 ghost use mathlib.Core.Path.{_≡_};
 ghost use mathlib.Core.Bool.{true};
 ghost use mathlib.Core.List.{List};
@@ -27,7 +26,7 @@ ghost use Rattle.search_find.specs.declared.find_path.Path.the-variants.{At};
 ghost use Rattle.write_item.specs.Answers.{written};
 ghost use Rattle.cache_nodes.specs.Meaning.{Names, Whole};
 ghost use Rattle.write_turn.specs.declared.Next.the-variants.{Parse};
-ghost use Rattle.write_turn.specs.State.{AtomPlaces, bytes-at};
+ghost use Rattle.write_place.specs.State.{AtomPlaces, bytes-at};
 ghost use Rattle.write_turn.specs.Contracts.{Turns, Falls, Found, AtomPut, Pushes};
 
 // What comes next in the loop.

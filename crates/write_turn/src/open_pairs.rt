@@ -1,10 +1,10 @@
 // incremental.rs: a pair opened; its left side is next.
 use crate::Next;
-use crate::writer_place::Place;
 use allocator::NodePtr;
 use words::wide;
 use work_layout::EntryIndex;
 use write_item::Put;
+use write_place::Place;
 ghost use mathlib.Core.Path.{_≡_};
 ghost use mathlib.Core.Bool.{true};
 ghost use mathlib.Core.List.{List};

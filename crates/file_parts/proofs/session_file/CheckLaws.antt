@@ -14,7 +14,8 @@ use Rattle.words.specs.BigEndian.{length-big-endian}
 use Rattle.file_parts.specs.declared.session_file.Part.{Part}
 use Rattle.file_parts.specs.declared.session_file.Checked.{Checked}
 use Rattle.spec_session.specs.File.{Got, got, refused, and-then, asked, count, version-1, atoms, Pair, pairs, sentinel, Step, steps, File, mark, after-mark, file}
-use Rattle.file_parts.specs.Answers.{Answers, itself, counted, sentinel-word}
+use Rattle.file_parts.specs.Answers.{Answers, itself, counted}
+use Rattle.spec_session.specs.Sentinel.{sentinel-word}
 use Rattle.spec_session.specs.Places.{PairsAt, StepsAt}
 use Rattle.file_parts.specs.Checked.{Passed, turned-down, Checks}
 use Rattle.spec_session.specs.FileLaws.{after-atom-count, after-atoms, after-pair-count, after-pairs, after-sentinel, after-steps}

@@ -23,7 +23,8 @@ use Rattle.allocator.specs.declared.FitsInSmallAtom.the-variants.{Small, Listed
 use Rattle.file_parts.specs.declared.session_file.Part.{Part}
 use Rattle.spec_session.specs.File as format
 use Rattle.spec_session.specs.File.{Got, got, refused, and-then, asked, bytes-of, field, count, version-1, listed, named, handle, one-pair, operand, one-step, add, restore}
-use Rattle.file_parts.specs.Answers.{Answers, itself, sized, pair-word, sentinel-word, operand-word, atom-of}
+use Rattle.file_parts.specs.Answers.{Answers, itself, sized, pair-word, operand-word, atom-of}
+use Rattle.spec_session.specs.Sentinel.{sentinel-word}
 
 -- ---- questions
 

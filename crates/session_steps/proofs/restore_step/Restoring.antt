@@ -23,7 +23,7 @@ use Rattle.cache_stack.proofs.Stacks.{stack-same, stacked-same}
 use Rattle.cache_stack.proofs.marks.Bits.{marked-same}
 use Rattle.cache_nodes.specs.Meaning.{Whole, Holds, entry-or-none}
 use Rattle.cache_nodes.proofs.Frames.{tables-kept}
-use Rattle.write_turn.specs.State.{todo-of, Running, Writes}
+use Rattle.write_place.specs.State.{todo-of, Running, Writes}
 use Rattle.write_turn.proofs.Frames.{todo-same, rights-same, pairs-few}
 use Rattle.session_state.specs.declared.progress.Progress.{Progress}
 use Rattle.session_state.specs.Stored.{bit, with-entry}
