@@ -1,6 +1,6 @@
 // The entry of a node in the tree cache, as tree_cache.rs has it: a pair's is mapped, an atom's is looked up by its bytes.
 use allocator::NodePtr;
-use cache_entries::Found;
+use cache_table::Found;
 use words::wide;
 use work_layout::EntryIndex;
 ghost use mathlib.Core.Path.{_≡_};
@@ -30,7 +30,7 @@ fn atom_entry(work: &[u32], node: NodePtr) -> EntryIndex
     ensures { λ e. ⌜ AtomEntry (now (work .entry)) (node .0) (e .0) ⌝ }
 {
     let key = crate::atom_key(work, node);
-    match cache_entries::find_key(work, crate::ATOM_KEY, key) {
+    match cache_table::find_key(work, crate::ATOM_KEY, key) {
         Found::At(e) => e,
         Found::Nothing => EntryIndex(0),
     }

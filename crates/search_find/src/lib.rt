@@ -31,7 +31,7 @@ pub fn length_at(work: &[u32], e: EntryIndex) -> u64
     if e.0 >= used_of(work) {
         return 0;
     }
-    cache_entries::length_of(work, e)
+    cache_table::length_of(work, e)
 }
 
 // The path that is written for a node of entry e, over a stack of `depth` entries: none for nil, for an entry that is not marked written, and for a short one.

@@ -13,9 +13,9 @@ use Rattle.spec_session.specs.Cache.{Entry, Cache, atom-key, find-key}
 use Rattle.spec_session.specs.Writer.{or-zero, atom-entry}
 use Rattle.work_layout.specs.Layout.{MAPS, USED, PAIR-COUNT}
 use Rattle.work_layout.specs.Rows.{row-of, rows-of}
-use Rattle.cache_entries.specs.declared.Found.{Found}
-use Rattle.cache_entries.specs.Contracts.{find-row, option-of}
-use Rattle.cache_entries.proofs.Rows.{find-low}
+use Rattle.cache_table.specs.declared.Found.{Found}
+use Rattle.cache_table.specs.Contracts.{find-row, option-of}
+use Rattle.cache_table.proofs.Rows.{find-low}
 use Rattle.cache_nodes.specs.Meaning.{ATOM-KEY, bytes-named, entry-or-none, Tables, Whole, Holds}
 use Rattle.cache_nodes.specs.Contracts.{Stands}
 use Rattle.cache_nodes.proofs.Atoms.{not-true}

@@ -7,7 +7,7 @@ ghost use Prim.Native.Nat.{_<_};
 ghost use Rattle.words.specs.Words.{at};
 ghost use Rattle.work_layout.specs.Layout.{USED, ENTRIES};
 ghost use Rattle.work_layout.specs.Rows.{rows-of, Sound};
-ghost use Rattle.cache_entries.specs.Contracts.{find-row, Inserted};
+ghost use Rattle.cache_table.specs.Contracts.{find-row, Inserted};
 
 // A new entry with this key, which none has yet, and no parents.
 pub fn insert(work: &mut [u32], left: u32, right: u32, len: u64) -> EntryIndex
