@@ -1,6 +1,7 @@
 // The parents of the entries of the tree cache, in work: one added.
 pub mod moved_parents;
 
+use cache_entries::cache_table;
 use work_layout::EntryIndex;
 use work_layout::MAX_PARENTS;
 ghost use mathlib.Core.Path.{_≡_};
@@ -9,7 +10,7 @@ ghost use Prim.Native.Nat.{_<_};
 ghost use Rattle.words.specs.Words.{at};
 ghost use Rattle.work_layout.specs.Layout.{USED};
 ghost use Rattle.work_layout.specs.Rows.{Sound};
-ghost use Rattle.cache_table.specs.Contracts.{ParentAdded};
+ghost use Rattle.cache_entries.specs.cache_table.Contracts.{ParentAdded};
 
 // The position below a parent, as a number.
 fn position_of(right: bool) -> u32

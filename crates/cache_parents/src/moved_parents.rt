@@ -1,4 +1,5 @@
 // A sentinel's parents in work, taken and placed at the end of a root's list.
+use cache_entries::cache_table;
 use words::slices;
 use work_layout::EntryIndex;
 use work_layout::MAX_PARENTS;
@@ -7,7 +8,7 @@ ghost use Prim.Native.Nat.{_-_, _≤_, _<_};
 ghost use Rattle.words.specs.Words.{at};
 ghost use Rattle.work_layout.specs.Layout.{USED, MAX-PARENTS};
 ghost use Rattle.work_layout.specs.Rows.{Sound};
-ghost use Rattle.cache_table.specs.Contracts.{Taken, MovedLinks, Placed};
+ghost use Rattle.cache_entries.specs.cache_table.Contracts.{Taken, MovedLinks, Placed};
 
 // The parents of entry e, which has none then, go to MOVED. How many there are.
 pub fn take_parents(work: &mut [u32], e: EntryIndex) -> usize

@@ -1,7 +1,8 @@
 // tree_cache.rs: the entry of an atom or a pair, found or made.
 use allocator::NodePtr;
-use cache_table::Found;
-use cache_table::insert_entry;
+use cache_entries::Found;
+use cache_entries::cache_table;
+use cache_entries::cache_table::insert_entry;
 use work_layout::EntryIndex;
 ghost use mathlib.Core.Path.{_≡_};
 ghost use mathlib.Core.Bool.{true};
@@ -10,9 +11,9 @@ ghost use Rattle.words.specs.Words.{at};
 ghost use Rattle.allocator.specs.Handle.{node-of, is-atom};
 ghost use Rattle.work_layout.specs.Layout.{PAIR-COUNT, USED, ENTRIES};
 ghost use Rattle.work_layout.specs.Rows.{Sound};
-ghost use Rattle.cache_table.specs.Contracts.{Interned};
-ghost use Rattle.cache_nodes.specs.Meaning.{Names, Whole};
-ghost use Rattle.cache_nodes.specs.Contracts.{atom-action, pair-action, Made};
+ghost use Rattle.cache_entries.specs.cache_table.Contracts.{Interned};
+ghost use Rattle.cache_entries.specs.Meaning.{Names, Whole};
+ghost use Rattle.cache_entries.specs.Contracts.{atom-action, pair-action, Made};
 
 // The entry with this key, found or made.
 fn find_or_add(work: &mut [u32], left: u32, right: u32, len: u64) -> EntryIndex
@@ -31,9 +32,9 @@ pub fn enter_atom(work: &mut [u32], h: NodePtr) -> EntryIndex
     requires { ⌜ at (now work) USED < ENTRIES ⌝ }
     ensures { λ x. ⌜ Made (atom-action (h .0)) (now (work .entry)) (now (work .exit)) (x .0) ⌝ }
 {
-    let key = cache_nodes::atom_key(work, h);
-    let len = cache_nodes::atom_length(work, h);
-    find_or_add(work, cache_nodes::ATOM_KEY, key, len)
+    let key = cache_entries::atom_key(work, h);
+    let len = cache_entries::atom_length(work, h);
+    find_or_add(work, cache_entries::ATOM_KEY, key, len)
 }
 
 // The entry of a pair whose sides have the entries l and r, found or made.
@@ -43,6 +44,6 @@ pub fn enter_pair(work: &mut [u32], l: EntryIndex, r: EntryIndex) -> EntryIndex
 {
     let a = cache_table::length_of(work, l);
     let b = cache_table::length_of(work, r);
-    let len = cache_nodes::pair_length(a, b);
+    let len = cache_entries::pair_length(a, b);
     find_or_add(work, l.0, r.0, len)
 }

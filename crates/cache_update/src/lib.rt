@@ -10,8 +10,8 @@ use work_layout::EntryIndex;
 ghost use Prim.Native.Nat.{_+_, _*_, _<_};
 ghost use Rattle.words.specs.Words.{at};
 ghost use Rattle.work_layout.specs.Layout.{PAIR-COUNT, USED, ENTRIES};
-ghost use Rattle.cache_nodes.specs.Meaning.{Names, Whole, unmapped};
-ghost use Rattle.cache_nodes.specs.Contracts.{Cleared, Updated};
+ghost use Rattle.cache_entries.specs.Meaning.{Names, Whole, unmapped};
+ghost use Rattle.cache_entries.specs.Contracts.{Cleared, Updated};
 
 // The parents of the sentinel's present entry go to MOVED. How many there are; none where the sentinel was never met.
 fn take_sentinel(work: &mut [u32]) -> usize

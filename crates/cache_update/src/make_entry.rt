@@ -5,8 +5,8 @@ ghost use mathlib.Core.Path.{_≡_};
 ghost use Prim.Native.Nat.{_+_, _<_};
 ghost use Rattle.words.specs.Words.{at};
 ghost use Rattle.work_layout.specs.Layout.{PAIR-COUNT, MAPS, USED, ENTRIES};
-ghost use Rattle.cache_nodes.specs.Meaning.{Whole};
-ghost use Rattle.cache_nodes.specs.Contracts.{Joined};
+ghost use Rattle.cache_entries.specs.Meaning.{Whole};
+ghost use Rattle.cache_entries.specs.Contracts.{Joined};
 
 // Pair i, which has no entry yet, whose sides have the entries l and r: its entry becomes a parent of both, and is mapped.
 pub fn join(work: &mut [u32], i: usize, l: EntryIndex, r: EntryIndex) -> EntryIndex

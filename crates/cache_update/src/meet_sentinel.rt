@@ -1,11 +1,11 @@
 // tree_cache.rs: the entry of a sentinel, made.
-use cache_table::insert_entry;
+use cache_entries::cache_table::insert_entry;
 use work_layout::EntryIndex;
 ghost use Prim.Native.Nat.{_<_};
 ghost use Rattle.words.specs.Words.{at};
 ghost use Rattle.work_layout.specs.Layout.{USED, ENTRIES};
-ghost use Rattle.cache_nodes.specs.Meaning.{Whole};
-ghost use Rattle.cache_nodes.specs.Contracts.{sentinel-action, Made};
+ghost use Rattle.cache_entries.specs.Meaning.{Whole};
+ghost use Rattle.cache_entries.specs.Contracts.{sentinel-action, Made};
 
 // The first word of a sentinel's key; the second one is its own entry number.
 const SENTINEL_KEY: u32 = 0xffffffff;

@@ -13,7 +13,7 @@ use Rattle.words.specs.Lists.{same, same-refl, same-eq}
 use Rattle.words.specs.Words.{at, tabulate}
 use Rattle.words.proofs.Words.{length-tabulate, getD-tabulate, tabulate-same}
 use Rattle.work_layout.specs.Layout.{FIRST}
-use Rattle.cache_nodes.specs.Meaning.{first-same}
+use Rattle.cache_entries.specs.Meaning.{first-same}
 use Rattle.file_tables.specs.Chains.{first-of}
 
 -- ---- of a list

@@ -9,7 +9,7 @@ use Rattle.words.specs.Words.{at}
 use Rattle.words.proofs.Words.{length-tabulate, getD-tabulate}
 use Rattle.atom.specs.Write.{serialized-length}
 use Rattle.work_layout.specs.Layout.{FIRST, ATOM-LENGTHS}
-use Rattle.cache_nodes.specs.Meaning.{first-same}
+use Rattle.cache_entries.specs.Meaning.{first-same}
 use Rattle.file_tables.specs.Listed.{atom-bytes}
 use Rattle.file_tables.specs.Load.{atoms, Loaded}
 

@@ -9,7 +9,7 @@ use Rattle.words.specs.Words.{at, tabulate, WORK}
 use Rattle.atom.specs.Write.{serialized-length}
 use Rattle.work_layout.specs.Layout.{FIRST, ATOM-LENGTHS, ATOM-HEADS, ATOM-NEXT}
 use Rattle.work_layout.specs.Rows.{prev}
-use Rattle.cache_nodes.specs.Meaning.{first-same}
+use Rattle.cache_entries.specs.Meaning.{first-same}
 use Rattle.file_tables.specs.Listed.{slot-of}
 
 -- The first atom with the bytes of atom k; at the latest k itself.

@@ -6,7 +6,7 @@ use lib.ListN.{length}
 use Rattle.words.specs.Words.{at, tabulate, WORK}
 use Rattle.atom.specs.Write.{serialized-length}
 use Rattle.work_layout.specs.Layout.{FIRST, ATOM-LENGTHS, ATOM-HEADS, ATOM-COUNT}
-use Rattle.cache_nodes.specs.Meaning.{first-same}
+use Rattle.cache_entries.specs.Meaning.{first-same}
 use Rattle.file_tables.specs.Listed.{atom-bytes, Inside}
 
 -- The first n listed atoms.

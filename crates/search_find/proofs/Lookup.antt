@@ -16,8 +16,8 @@ use Rattle.spec_session.specs.FindPath.{parents-in}
 use Rattle.work_layout.specs.Layout.{USED, ENTRIES}
 use Rattle.work_layout.specs.Rows.{rows-of, parents-of, length-of, Sound}
 use Rattle.search_list.specs.State.{parents-of-all}
-use Rattle.cache_nodes.specs.Meaning.{entry-of, Holds}
-use Rattle.cache_nodes.proofs.Lift.{length-map, length-rows, length-of-rows, parents-of-rows}
+use Rattle.cache_entries.specs.Meaning.{entry-of, Holds}
+use Rattle.cache_entries.proofs.Lift.{length-map, length-rows, length-of-rows, parents-of-rows}
 use Rattle.search_find.specs.Contracts.{LengthOf}
 
 -- ---- beyond the last entry

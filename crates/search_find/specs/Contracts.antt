@@ -17,7 +17,7 @@ use Rattle.search_find.specs.declared.find_path.Path.the-variants.{At, N
 use Rattle.search_list.specs.State.{path-at, Readable}
 use Rattle.search_list.specs.Steps.{Kept}
 use Rattle.cache_stack.specs.marks.Contracts.{marked-at}
-use Rattle.cache_nodes.specs.Meaning.{Tables, Holds}
+use Rattle.cache_entries.specs.Meaning.{Tables, Holds}
 
 -- n is the length of entry e.
 pub record LengthOf (w : List ℕ) (e n : ℕ) : Type 0 where

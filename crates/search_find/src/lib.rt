@@ -2,6 +2,7 @@
 mod find_path;
 
 use allocator::NodePtr;
+use cache_entries::cache_table;
 use cache_stack::marks;
 pub use find_path::Path;
 use work_layout::EntryIndex;
@@ -12,7 +13,7 @@ ghost use Rattle.words.specs.Words.{at, WORK};
 ghost use Rattle.work_layout.specs.Layout.{USED, ENTRIES};
 ghost use Rattle.work_layout.specs.Rows.{all-counts};
 ghost use Rattle.cache_stack.specs.Contracts.{Stacked};
-ghost use Rattle.cache_nodes.specs.Meaning.{Whole};
+ghost use Rattle.cache_entries.specs.Meaning.{Whole};
 ghost use Rattle.search_find.specs.Contracts.{LengthOf, FindsIn};
 
 // How many entries there are.

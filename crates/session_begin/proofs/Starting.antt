@@ -21,8 +21,8 @@ use Rattle.work_layout.specs.Layout.{TOPS, WRITTEN, MAPS, PARENTS, ENTRIES}
 use Rattle.work_layout.specs.Rows.{stack-of}
 use Rattle.cache_stack.specs.marks.Contracts.{marked-at}
 use Rattle.cache_stack.proofs.Stacks.{stacked-none}
-use Rattle.cache_nodes.specs.Meaning.{Handles}
-use Rattle.cache_nodes.proofs.Fresh.{Sorted, tables-handles, fresh-whole, fresh-holds, fresh-room, fresh-counts}
+use Rattle.cache_entries.specs.Meaning.{Handles}
+use Rattle.cache_entries.proofs.Fresh.{Sorted, tables-handles, fresh-whole, fresh-holds, fresh-room, fresh-counts}
 use Rattle.write_place.specs.State.{todo-of, rights-left}
 use Rattle.session_state.specs.declared.checkpoints.Checkpoint.{Checkpoint}
 use Rattle.session_state.specs.State.{whole-run, At, Underway}

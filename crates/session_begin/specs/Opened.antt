@@ -8,7 +8,7 @@ use Rattle.words.specs.Words.{at}
 use Rattle.spec_session.specs.File.{File}
 use Rattle.file_parts.specs.Loaded.{AtomPlace, pair-of}
 use Rattle.work_layout.specs.Layout.{ATOMS, PAIRS, FIRST, OPEN, PARENTS}
-use Rattle.cache_nodes.specs.Meaning.{Tables}
+use Rattle.cache_entries.specs.Meaning.{Tables}
 use Rattle.write_place.specs.State.{AtomPlaces, AtomsThere}
 use Rattle.session_state.specs.declared.progress.Progress.{Progress}
 

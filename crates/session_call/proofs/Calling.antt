@@ -20,7 +20,7 @@ use Rattle.session_state.specs.declared.checkpoints.Checkpoint.{Checkpoint}
 use Rattle.session_state.specs.Records.{blank}
 use Rattle.session_state.specs.State.{contents-of, the-file, whole-run, Ended}
 use Rattle.session_state.specs.declared.progress.Progress.{Progress}
-use Rattle.session_run.specs.Driven.{Going, Driven}
+use Rattle.session_steps.specs.Driven.{Going, Driven}
 use Rattle.session_begin.specs.declared.Begun.{Begun}
 use Rattle.session_begin.specs.Lengths.{are-long}
 use Rattle.session_begin.specs.Begins.{asked, refused-with, Begins}

@@ -2,6 +2,7 @@
 use session_answer::SessionAnswer;
 use session_state::Checkpoint;
 use session_state::checkpoints;
+use session_steps::session_run;
 ghost use mathlib.Core.Path.{_≡_};
 ghost use Rattle.path.specs.Measure.{counted};
 ghost use Rattle.spec_session.specs.File.{version-1};

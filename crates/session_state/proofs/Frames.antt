@@ -10,10 +10,10 @@ use Rattle.spec_session.specs.File.{File}
 use Rattle.spec_session.specs.Cache.{Cache}
 use Rattle.work_layout.specs.Layout.{ATOMS, ATOM-COUNT, PAIR-COUNT, OPEN, MAPS, SENTINEL-ENTRY, USED, LEFT, RIGHT, SEEN, ENTRIES}
 use Rattle.work_layout.specs.Rows.{Row, all-counts}
-use Rattle.cache_nodes.specs.Meaning.{Tables, entry-of, entry-or-none, unmapped, Whole, Holds}
-use Rattle.cache_nodes.proofs.Entries.{sound-kept, rows-kept, counts-kept}
-use Rattle.cache_nodes.proofs.Frames.{unmapped-same}
-use Rattle.cache_nodes.proofs.Making.{whole-of}
+use Rattle.cache_entries.specs.Meaning.{Tables, entry-of, entry-or-none, unmapped, Whole, Holds}
+use Rattle.cache_entries.proofs.Entries.{sound-kept, rows-kept, counts-kept}
+use Rattle.cache_entries.proofs.Frames.{unmapped-same}
+use Rattle.cache_entries.proofs.Making.{whole-of}
 use Rattle.write_place.specs.State.{AtomPlaces, AtomsThere}
 
 -- ---- the places of the file's atoms lie below OPEN

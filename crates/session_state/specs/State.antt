@@ -20,7 +20,7 @@ use Rattle.spec_session.specs.Steps.{UndoState, undo-state, Run, run-steps}
 use Rattle.work_layout.specs.Layout.{PAIR-COUNT, OPEN, STACK, WRITTEN, SENTINEL-ENTRY, USED, ENTRIES}
 use Rattle.work_layout.specs.Rows.{all-counts}
 use Rattle.cache_undo.specs.undo_state.Contracts.{copied-open, copied-stack, copied-marks}
-use Rattle.cache_nodes.specs.Meaning.{Tables, unmapped}
+use Rattle.cache_entries.specs.Meaning.{Tables, unmapped}
 use Rattle.write_place.specs.State.{AtomPlaces, AtomsThere, todo-of, Running, Writes}
 use Rattle.session_state.specs.declared.progress.Progress.{Progress}
 use Rattle.session_state.specs.Stored.{bit}

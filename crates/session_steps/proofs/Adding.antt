@@ -29,12 +29,12 @@ use Rattle.work_layout.specs.Rows.{all-counts}
 use Rattle.cache_undo.specs.undo_state.Contracts.{copied-open, copied-stack, copied-marks, Saved}
 use Rattle.cache_stack.proofs.Stacks.{stack-same, stacked-same}
 use Rattle.cache_stack.proofs.marks.Bits.{marked-same}
-use Rattle.cache_nodes.proofs.Frames.{tables-kept}
-use Rattle.cache_nodes.specs.Meaning.{Tables, Names, Whole, Holds, entry-or-none, unmapped}
-use Rattle.cache_nodes.specs.Contracts.{Updated}
+use Rattle.cache_entries.proofs.Frames.{tables-kept}
+use Rattle.cache_entries.specs.Meaning.{Tables, Names, Whole, Holds, entry-or-none, unmapped}
+use Rattle.cache_entries.specs.Contracts.{Updated}
 use Rattle.write_place.specs.State.{AtomPlaces, AtomsThere, todo-of, Running, Writes}
-use Rattle.write_turn.specs.Contracts.{place-of, Fine, goes-on, comes-to, Leads, ended}
-use Rattle.write_turn.proofs.Frames.{todo-same, rights-same, pairs-few}
+use Rattle.write_loop.specs.Contracts.{place-of, Fine, goes-on, comes-to, Leads, ended}
+use Rattle.write_loop.proofs.write_turn.Frames.{todo-same, rights-same, pairs-few}
 use Rattle.write_place.specs.declared.Outcome.{Outcome}
 use Rattle.write_place.specs.declared.Outcome.the-variants as outcome
 use Rattle.session_state.specs.declared.progress.Progress.{Progress}

@@ -15,7 +15,7 @@ use Rattle.spec_session.specs.File.{File, Step}
 use Rattle.file_parts.specs.declared.session_file.NextStep.the-variants as next-step
 use Rattle.spec_session.specs.Steps.{run-steps}
 use Rattle.write_place.specs.State.{todo-of}
-use Rattle.write_turn.specs.Contracts.{Fine, ended as ended-at}
+use Rattle.write_loop.specs.Contracts.{Fine, ended as ended-at}
 use Rattle.write_place.specs.declared.Outcome.{Outcome}
 use Rattle.write_place.specs.declared.Outcome.the-variants as outcome
 use Rattle.session_state.specs.declared.progress.Progress.{Progress}

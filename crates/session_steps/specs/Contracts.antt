@@ -8,11 +8,11 @@ use Rattle.allocator.specs.declared.NodePtr.{NodePtr}
 use Rattle.work_layout.specs.Layout.{PAIR-COUNT, USED, ENTRIES}
 use Rattle.work_layout.specs.Rows.{all-counts}
 use Rattle.cache_undo.specs.undo_state.Contracts.{Saved}
-use Rattle.cache_nodes.specs.Meaning.{Names, unmapped}
-use Rattle.cache_nodes.specs.Contracts.{Updated}
+use Rattle.cache_entries.specs.Meaning.{Names, unmapped}
+use Rattle.cache_entries.specs.Contracts.{Updated}
 use Rattle.write_place.specs.State.{AtomPlaces, Running}
-use Rattle.write_turn.specs.Contracts.{Turns, ended}
-use Rattle.write_turn.specs.declared.Next.the-variants as next
+use Rattle.write_loop.specs.Contracts.{Turns, ended}
+use Rattle.write_loop.specs.declared.write_turn.Next.the-variants as next
 use Rattle.write_place.specs.declared.Place.{Place}
 use Rattle.write_place.specs.declared.Outcome.{Outcome}
 use Rattle.session_state.specs.declared.progress.Progress.{Progress}

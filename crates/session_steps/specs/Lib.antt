@@ -1,2 +1,3 @@
 pub mod Contracts
 pub mod restore_step
+pub mod Driven

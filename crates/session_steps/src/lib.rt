@@ -1,5 +1,6 @@
 // incremental.rs and the session file: the steps of a session.
 mod restore_step;
+pub mod session_run;
 
 use allocator::NodePtr;
 use cache_undo::undo_state;

@@ -1,6 +1,8 @@
 // incremental.rs: what an add writes, up to the next open place. The Rust keeps what is left to write on two stacks; here the open pairs in work say it.
+pub mod write_turn;
+
 use allocator::NodePtr;
-use cache_nodes::lookup;
+use cache_entries::lookup;
 use search_find::Path;
 use work_layout::EntryIndex;
 use write_place::Outcome;
@@ -12,10 +14,10 @@ ghost use Rattle.words.specs.Words.{at};
 ghost use lib.ListN.{length};
 ghost use Rattle.work_layout.specs.Layout.{PAIR-COUNT};
 ghost use Rattle.search_find.specs.declared.find_path.Path.the-variants.{NoPath};
-ghost use Rattle.cache_nodes.specs.Meaning.{Names};
-ghost use Rattle.write_turn.specs.declared.Next.the-variants.{Parse};
+ghost use Rattle.cache_entries.specs.Meaning.{Names};
+ghost use Rattle.write_loop.specs.declared.write_turn.Next.the-variants.{Parse};
 ghost use Rattle.write_place.specs.State.{AtomPlaces};
-ghost use Rattle.write_turn.specs.Contracts.{Runs, Turns, Falls, Found, ended};
+ghost use Rattle.write_loop.specs.Contracts.{Runs, Turns, Falls, Found, ended};
 
 // A node for which no reference is written.
 fn write_full(
@@ -47,7 +49,7 @@ fn parse(work: &mut [u32], file: &[u8], output: &mut [u8], place: Place, node: N
         (Parse place node) r)
         × (Falls (length (now (output .entry))) (Parse place node) r) ⌝ }
 {
-    if cache_nodes::is_sentinel(work, node) {
+    if cache_entries::is_sentinel(work, node) {
         return Next::Stopped(place);
     }
     let e = lookup::entry_of(work, node);

@@ -16,7 +16,7 @@ use Rattle.work_layout.specs.Layout.{ATOMS, PAIRS, ATOM-COUNT, PAIR-COUNT, OPEN
 use Rattle.work_layout.specs.Rows.{stack-of, all-counts}
 use Rattle.cache_stack.specs.marks.Contracts.{marked-at}
 use Rattle.cache_stack.specs.Contracts.{Stacked}
-use Rattle.cache_nodes.specs.Meaning.{Holds, Whole}
+use Rattle.cache_entries.specs.Meaning.{Holds, Whole}
 
 -- ---- the file's atoms lie in the file
 

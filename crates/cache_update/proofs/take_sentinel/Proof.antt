@@ -5,7 +5,7 @@ use mathlib.Core.Path.{refl}
 use borrow.Author.Needs.{needs}
 use Rattle.work_layout.specs.Layout.{SENTINEL-ENTRY}
 use Rattle.words.specs.Words.{at}
-use Rattle.cache_nodes.proofs.Updating.{cleared-none, cleared-some}
+use Rattle.cache_entries.proofs.Updating.{cleared-none, cleared-some}
 use Rattle.cache_update.proofs.take_sentinel.Statement.{statement}
 use Rattle.cache_update.proofs.take_sentinel.Tie as tie
 

@@ -1,7 +1,7 @@
 -- `cache_update::update` meets its contract: the parents taken, the tree entered, the parents placed.
 -- Assumes nothing.
 use borrow.Author.Needs.{needs}
-use Rattle.cache_nodes.proofs.Updating.{enter-asks, place-asks, updated}
+use Rattle.cache_entries.proofs.Updating.{enter-asks, place-asks, updated}
 use Rattle.cache_update.proofs.update.Statement.{statement}
 use Rattle.cache_update.proofs.update.Tie as tie
 

@@ -21,10 +21,10 @@ use Rattle.spec_session.specs.Steps.{UndoState, or-known, restored, Run, with-w
 use Rattle.work_layout.specs.Layout.{PAIR-COUNT, OPEN, STACK, WRITTEN, MAPS, SENTINEL-ENTRY, USED, SEEN}
 use Rattle.cache_stack.proofs.Stacks.{stack-same, stacked-same}
 use Rattle.cache_stack.proofs.marks.Bits.{marked-same}
-use Rattle.cache_nodes.specs.Meaning.{Whole, Holds, entry-or-none}
-use Rattle.cache_nodes.proofs.Frames.{tables-kept}
+use Rattle.cache_entries.specs.Meaning.{Whole, Holds, entry-or-none}
+use Rattle.cache_entries.proofs.Frames.{tables-kept}
 use Rattle.write_place.specs.State.{todo-of, Running, Writes}
-use Rattle.write_turn.proofs.Frames.{todo-same, rights-same, pairs-few}
+use Rattle.write_loop.proofs.write_turn.Frames.{todo-same, rights-same, pairs-few}
 use Rattle.session_state.specs.declared.progress.Progress.{Progress}
 use Rattle.session_state.specs.Stored.{bit, with-entry}
 use Rattle.session_state.specs.Moves.{noted-at, undone-at}

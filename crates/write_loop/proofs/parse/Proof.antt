@@ -6,10 +6,10 @@ use native.Mathlib.Omega.{arith}
 use mathlib.Core.Path.{_≡_, sym, _∙_}
 use mathlib.Core.List.{List}
 use Rattle.search_find.specs.declared.find_path.Path.{Path}
-use Rattle.write_turn.specs.declared.Next.{Next}
-use Rattle.write_turn.specs.declared.Next.the-variants.{Parse}
-use Rattle.write_turn.specs.Contracts.{Turns, Found}
-use Rattle.write_turn.proofs.Turning.{turns-stop, search-places, after-search, found-there}
+use Rattle.write_loop.specs.declared.write_turn.Next.{Next}
+use Rattle.write_loop.specs.declared.write_turn.Next.the-variants.{Parse}
+use Rattle.write_loop.specs.Contracts.{Turns, Found}
+use Rattle.write_loop.proofs.write_turn.Turning.{turns-stop, search-places, after-search, found-there}
 use borrow.Author.Needs.{needs}
 use Rattle.write_loop.proofs.parse.Statement.{statement}
 use Rattle.write_loop.proofs.parse.Tie as tie

@@ -2,8 +2,8 @@
 -- Assumes nothing.
 use mathlib.Core.Path.{refl}
 use lib.ListN.{length}
-use Rattle.write_turn.specs.Contracts.{ahead}
-use Rattle.write_turn.proofs.Looping.{Looping, loop-starts, loop-turns, fine-now, places-now, loop-falls, loop-ends}
+use Rattle.write_loop.specs.Contracts.{ahead}
+use Rattle.write_loop.proofs.write_turn.Looping.{Looping, loop-starts, loop-turns, fine-now, places-now, loop-falls, loop-ends}
 use borrow.Author.Needs.{needs}
 use Rattle.write_loop.proofs.resume.Statement.{statement}
 use Rattle.write_loop.proofs.resume.Tie as tie

@@ -3,8 +3,8 @@
 use mathlib.Core.Path.{_≡_, sym, _∙_}
 use mathlib.Core.Bool.{true}
 use Rattle.allocator.specs.Handle.{node-of, is-atom}
-use Rattle.write_turn.proofs.Atoms.{named-atom}
-use Rattle.write_turn.proofs.Values.{atom-turns}
+use Rattle.write_loop.proofs.write_turn.Atoms.{named-atom}
+use Rattle.write_loop.proofs.write_turn.Values.{atom-turns}
 use borrow.Author.Needs.{needs}
 use Rattle.write_loop.proofs.write_full.Statement.{statement}
 use Rattle.write_loop.proofs.write_full.Tie as tie

@@ -1,7 +1,7 @@
 -- `cache_update::enter_node::enter_atom` meets its contract: the words of the key are found where the key is.
 -- Assumes nothing.
 use borrow.Author.Needs.{needs}
-use Rattle.cache_nodes.proofs.Finding.{atom-made}
+use Rattle.cache_entries.proofs.Finding.{atom-made}
 use Rattle.cache_update.proofs.enter_node.enter_atom.Statement.{statement}
 use Rattle.cache_update.proofs.enter_node.enter_atom.Tie as tie
 

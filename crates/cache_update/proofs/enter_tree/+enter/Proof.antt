@@ -12,19 +12,19 @@ use Rattle.allocator.specs.Handle.{node-of, pair}
 use Rattle.work_layout.specs.Layout.{PAIR-COUNT, SENTINEL, USED, ENTRIES}
 use Rattle.allocator.proofs.NodePtr.index.Reads as index-reads
 use Rattle.allocator.proofs.NodePtr.is_atom.Reads as is-atom-reads
-use Rattle.cache_nodes.specs.Contracts.{span}
-use Rattle.cache_nodes.proofs.Entering.{NewPair, pair-low, sentinel-entered, atom-entered, span-a, span-b, span-h, left-asks, right-asks, join-asks, pair-entered}
-use Rattle.cache_nodes.proofs.Entering.{test-same, test-other, test-pair, known-at, room-one}
+use Rattle.cache_entries.specs.Contracts.{span}
+use Rattle.cache_entries.proofs.Entering.{NewPair, pair-low, sentinel-entered, atom-entered, span-a, span-b, span-h, left-asks, right-asks, join-asks, pair-entered}
+use Rattle.cache_entries.proofs.Entering.{test-same, test-other, test-pair, known-at, room-one}
 use Rattle.cache_update.proofs.enter_tree.enter.Reads as enter
 use Rattle.cache_update.proofs.enter_tree.enter.Kinds as enter-kinds
 use Rattle.cache_update.proofs.enter_tree.+enter.Lts-enter as enter-lts
 use Rattle.cache_update.proofs.enter_node.enter_atom.Reads as enter-atom-reads
-use Rattle.cache_nodes.proofs.is_sentinel.Reads as is-sentinel-reads
+use Rattle.cache_entries.proofs.is_sentinel.Reads as is-sentinel-reads
 use Rattle.cache_update.proofs.make_entry.join.Reads as join-reads
-use Rattle.cache_nodes.proofs.left_of.Reads as left-of-reads
-use Rattle.cache_nodes.proofs.map_of.Reads as map-of-reads
+use Rattle.cache_entries.proofs.left_of.Reads as left-of-reads
+use Rattle.cache_entries.proofs.map_of.Reads as map-of-reads
 use Rattle.cache_update.proofs.meet_sentinel.meet_sentinel.Reads as meet-sentinel-reads
-use Rattle.cache_nodes.proofs.right_of.Reads as right-of-reads
+use Rattle.cache_entries.proofs.right_of.Reads as right-of-reads
 use Rattle.words.proofs.wide.Reads as wide-reads
 use Rattle.cache_update.proofs.enter_tree.+enter.{statement}
 use Rattle.cache_update.proofs.enter_tree.+enter.Tie.{close}

@@ -3,7 +3,7 @@
 use mathlib.Core.Path.{_∙_}
 use lib.ListN.{length-set}
 use borrow.Author.Needs.{needs}
-use Rattle.cache_nodes.proofs.Joining.{joins}
+use Rattle.cache_entries.proofs.Joining.{joins}
 use Rattle.cache_update.proofs.make_entry.join.Statement.{statement}
 use Rattle.cache_update.proofs.make_entry.join.Tie as tie
 

@@ -1,8 +1,8 @@
 -- `cache_update::meet_sentinel::meet_sentinel` meets its contract: no entry has the key with the next number.
 -- Assumes nothing.
 use borrow.Author.Needs.{needs}
-use Rattle.cache_nodes.proofs.Meeting.{sentinel-made}
-use Rattle.cache_nodes.proofs.Keys.{no-sentinel}
+use Rattle.cache_entries.proofs.Meeting.{sentinel-made}
+use Rattle.cache_entries.proofs.Keys.{no-sentinel}
 use Rattle.cache_update.proofs.meet_sentinel.meet_sentinel.Statement.{statement}
 use Rattle.cache_update.proofs.meet_sentinel.meet_sentinel.Tie as tie
 

@@ -1,0 +1,182 @@
+-- An update: the sentinel's parents are taken, the added tree is entered, and they are placed at its root.
+-- Assumes nothing.
+use Prim.Native.Nat.{ℕ, zero, suc, _+_, _-_, _*_, _≤_, _<_}
+use mathlib.Core.Path.{_≡_, refl, sym, ap, _∙_, subst}
+use mathlib.Core.List.{List, [], map}
+use mathlib.Core.Option.{Option, some}
+use native.Mathlib.Omega.{arith}
+use lib.ListN.{length}
+use Rattle.words.specs.Words.{at, part}
+use Rattle.words.proofs.Words.{part-same}
+use Rattle.allocator.specs.Handle.{node-of}
+use Rattle.spec_session.specs.File.{File}
+use Rattle.spec_session.specs.Unfold.{unfolded}
+use Rattle.spec_session.specs.Cache.{Parent, Cache, parents-at, no-parents, move-parents, with-entries, sentinel-parents, clear-sentinel, place-root, enter, update}
+use Rattle.work_layout.specs.Layout.{ATOM-COUNT, PAIR-COUNT, MOVED, MAPS, SENTINEL-ENTRY, USED, ENTRIES}
+use Rattle.work_layout.specs.Rows.{parent-of}
+use Rattle.cache_entries.specs.cache_table.Contracts.{moved-of, Taken, Placed, MovedLinks}
+use Rattle.cache_entries.specs.Meaning.{Tables, Names, entry-or-none, unmapped, Whole, Holds}
+use Rattle.cache_entries.specs.Contracts.{enter-action, Acts, span, Bounded, Entered, Room, Cleared, Updated}
+use Rattle.cache_entries.proofs.Lift.{parents-of-rows}
+use Rattle.cache_entries.proofs.Frames.{tables-kept, unmapped-same, unmapped-grows}
+use Rattle.cache_entries.proofs.Making.{adjusted-whole, adjusted-holds}
+use Rattle.cache_entries.proofs.Entering.{names-span}
+
+-- ---- the sentinel's parents
+
+sentinel-at : (k s : ℕ) → (k ≡ 0 → ⊥) → s ≡ k - 1 → entry-or-none k ≡ some s
+sentinel-at zero s nz e = absurd (nz refl)
+sentinel-at (suc k) s nz e = ap {B = Option ℕ} some (omega arith)
+
+none-moved : (w : List ℕ) → moved-of w 0 ≡ []
+unfolding part
+none-moved w = refl
+
+-- There is no entry of the sentinel.
+pub cleared-none : (w : List ℕ) → Whole w → at w SENTINEL-ENTRY ≡ 0 → Cleared w w 0
+cleared-none w wh z =
+    record {
+      whole = wh;
+      used = refl;
+      few = omega arith;
+      links = λ k h. absurd (omega arith);
+      counts = omega arith;
+      maps = λ k h. refl;
+      below = λ k h. refl;
+      above = λ k h. refl;
+      holds = λ f c t ho.
+          subst (λ (o : Option ℕ). Holds f w (with-entries (clear-sentinel o (c .entries)) c)) (sym (ho .sentinel-entry ∙ ap entry-or-none z)) (again f c ho);
+      moved = λ f c t ho. none-moved w ∙ ap (λ (o : Option ℕ). sentinel-parents o (c .entries)) (sym (ho .sentinel-entry ∙ ap entry-or-none z));
+    }
+  where
+    again : (f : File) (c : Cache) → Holds f w c → Holds f w (with-entries (c .entries) c)
+    again f c ho = record { entries = ho .entries; mapped = ho .mapped; sentinel-entry = ho .sentinel-entry }
+
+module _ (w w′ : List ℕ) (e n : ℕ) (wh : Whole w) (nz : at w SENTINEL-ENTRY ≡ 0 → ⊥) (is : e ≡ at w SENTINEL-ENTRY - 1) where
+  pub sentinel-low : e < at w USED
+  sentinel-low = go (at w SENTINEL-ENTRY) nz is (wh .sentinel-entry)
+    where
+      go : (k : ℕ) → (k ≡ 0 → ⊥) → e ≡ k - 1 → k ≤ at w USED → e < at w USED
+      go zero f q l = absurd (f refl)
+      go (suc k) f q l = omega arith
+
+  module _ (t : Taken w w′ e n) where
+    maps : (k : ℕ) → k < 1024 → at w′ (MAPS + k) ≡ at w (MAPS + k)
+    maps k h = t .maps (MAPS + k) (omega arith) (omega arith)
+
+    sent : at w′ SENTINEL-ENTRY ≡ at w SENTINEL-ENTRY
+    sent = t .maps SENTINEL-ENTRY (omega arith) (omega arith)
+
+    here : (f : File) (c : Cache) → Holds f w c → c .sentinel-entry ≡ some e
+    here f c ho = ho .sentinel-entry ∙ sentinel-at (at w SENTINEL-ENTRY) e nz is
+
+    -- The latest entry of the sentinel loses its parents.
+    pub cleared-some : Cleared w w′ n
+    cleared-some =
+        record {
+          whole = adjusted-whole w w′ wh (t .sound) (λ k l. t .low k (omega arith)) e no-parents (t .used) (t .rows) maps sent;
+          used = t .used;
+          few = t .few;
+          links = t .links;
+          counts = t .counts;
+          maps = maps;
+          below = t .low;
+          above = t .high;
+          holds = λ f c tb ho.
+              subst (λ (o : Option ℕ). Holds f w′ (with-entries (clear-sentinel o (c .entries)) c)) (sym (here f c ho))
+              (adjusted-holds w w′ wh (t .sound) (λ k l. t .low k (omega arith)) e no-parents (t .used) (t .rows) maps sent f c tb ho);
+          moved = λ f c tb ho.
+              t .moved ∙ sym (parents-of-rows f w e sentinel-low) ∙ ap (parents-at e) (sym (ho .entries))
+              ∙ ap (λ (o : Option ℕ). sentinel-parents o (c .entries)) (sym (here f c ho));
+        }
+
+-- ---- the update
+
+module _ {w w₁ : List ℕ} (h : ℕ) {n : ℕ} (wh : Whole w) (names : Names w (at w PAIR-COUNT) h) (room : at w USED + 2 * unmapped w (at w PAIR-COUNT) < ENTRIES)
+    (c₁ : Cleared w w₁ n) where
+  few : at w PAIR-COUNT ≤ 1024
+  few = wh .handles .few-pairs
+
+  same-unmapped : (p : ℕ) → p ≤ 1024 → unmapped w₁ p ≡ unmapped w p
+  same-unmapped p l = unmapped-same w w₁ p l (c₁ .maps)
+
+  names₁ : Names w₁ (at w₁ PAIR-COUNT) h
+  names₁ = rw (c₁ .below ATOM-COUNT (omega arith), c₁ .below PAIR-COUNT (omega arith)) names
+
+  -- What entering the added tree asks for.
+  pub enter-asks : Names w₁ (at w₁ PAIR-COUNT) h × Room w₁ h
+  enter-asks =
+      let s = names-span w (at w PAIR-COUNT) h names in
+      let f = few in
+      let u = c₁ .used in
+      let m = same-unmapped (span (node-of h)) (omega arith) in
+      let g = unmapped-grows w (span (node-of h)) (at w PAIR-COUNT) s in
+      (names₁, omega arith)
+
+  module _ {w₂ : List ℕ} {x : ℕ} (e₂ : Entered w₁ w₂ h x) where
+    -- What placing the parents asks for.
+    pub place-asks : MovedLinks w₂ n
+    place-asks i l =
+        let k = c₁ .links i l in
+        let f = c₁ .few in
+        let b = e₂ .outside .below (MOVED + i) (omega arith) in
+        let u = c₁ .used in
+        omega (arith, e₂ .more)
+
+    module _ (len : length w₂ ≡ length w₁) {w₃ : List ℕ} (p : Placed w₂ w₃ x n) where
+      maps₃ : (k : ℕ) → k < 1024 → at w₃ (MAPS + k) ≡ at w₂ (MAPS + k)
+      maps₃ k l = p .kept .low (MAPS + k) (omega arith)
+
+      sent₃ : at w₃ SENTINEL-ENTRY ≡ at w₂ SENTINEL-ENTRY
+      sent₃ = p .kept .low SENTINEL-ENTRY (omega arith)
+
+      below₃ : (k : ℕ) → k < MOVED → at w₃ k ≡ at w₂ k
+      below₃ k l = p .kept .low k (omega arith)
+
+      still-moved : moved-of w₂ n ≡ moved-of w₁ n
+      still-moved =
+          let f = c₁ .few in
+          ap (map parent-of) (part-same w₁ w₂ MOVED n (omega (arith, c₁ .whole .sound .long)) len (λ i l. e₂ .outside .below (MOVED + i) (omega arith)))
+
+      bounded : Bounded w w₃ (at w PAIR-COUNT)
+      bounded =
+          let s = names-span w (at w PAIR-COUNT) h names in
+          let b = e₂ .bounded (at w PAIR-COUNT) s few in
+          let m = same-unmapped (at w PAIR-COUNT) few in
+          let m₃ = unmapped-same w₂ w₃ (at w PAIR-COUNT) few maps₃ in
+          let u = c₁ .used in
+          let v = p .used in
+          record { room = omega (arith, b .room); counts = omega (arith, b .counts, c₁ .counts, p .counts) }
+
+      holds : (f : File) (c : Cache) → Tables f w → Holds f w c → Holds f w₃ (update (unfolded f h) c)
+      unfolding update
+      holds f c t ho =
+          subst (λ (y : ℕ). Holds f w₃ (place-root (sentinel-parents (c .sentinel-entry) (c .entries)) (d .0, y))) (a .answer)
+          (subst (λ (ps : List Parent). Holds f w₃ (place-root ps (d .0, x))) (still-moved ∙ c₁ .moved f c t ho)
+          (adjusted-holds w₂ w₃ (e₂ .whole) (p .sound) (λ k l. below₃ k (omega arith)) x (move-parents (moved-of w₂ n)) (p .used) (p .rows) maps₃ sent₃ f (d .0) t₂ (a .holds)))
+        where
+          t₁ : Tables f w₁
+          t₁ = tables-kept w w₁ (λ k l. c₁ .below k (omega arith)) f (wh .handles) t
+
+          t₂ : Tables f w₂
+          t₂ = tables-kept w₁ w₂ (λ k l. e₂ .outside .below k (omega arith)) f (c₁ .whole .handles) t₁
+
+          d : Cache × ℕ
+          d = enter (unfolded f h) (with-entries (clear-sentinel (c .sentinel-entry) (c .entries)) c)
+
+          a : Acts (enter-action h) w₂ x f (with-entries (clear-sentinel (c .sentinel-entry) (c .entries)) c)
+          a = e₂ .does f (with-entries (clear-sentinel (c .sentinel-entry) (c .entries)) c) t₁ (c₁ .holds f c t ho)
+
+      -- The added tree is in the cache.
+      pub updated : Updated w w₃ h
+      updated =
+          let u = c₁ .used in
+          let v = p .used in
+          record {
+            whole = adjusted-whole w₂ w₃ (e₂ .whole) (p .sound) (λ k l. below₃ k (omega arith)) x (move-parents (moved-of w₂ n)) v (p .rows) maps₃ sent₃;
+            more = omega (arith, e₂ .more);
+            bounded = bounded;
+            below = λ k l. below₃ k l ∙ e₂ .outside .below k (omega arith) ∙ c₁ .below k l;
+            above = λ k l. p .kept .high k l ∙ e₂ .outside .above k l ∙ c₁ .above k l;
+            holds = holds;
+          }

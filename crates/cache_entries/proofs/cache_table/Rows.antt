@@ -1,0 +1,114 @@
+-- Laws of the entries as rows: one row changed, a row looked up by its key, the parents counted.
+-- Assumes nothing.
+use Prim.Native.Nat.{ℕ, zero, suc, _+_, _*_, _≤_, _<_}
+use mathlib.Core.Path.{_≡_, refl, ap, _∙_}
+use mathlib.Core.Bool.{Bool, true, false, cond, _&&_}
+use mathlib.Core.List.{List, _∷_}
+use mathlib.Core.Option.{Option, none, some}
+use native.Mathlib.Omega.{arith}
+use native.Mathlib.Nat.{not-suc-le-zero}
+use native.Mathlib.Decide.{ℕ-discrete}
+use lib.Dec.{eqb}
+use lib.ListN.{length, getD}
+use borrow.Author.Tests.{eq-eqb, eqb-true}
+use Rattle.words.specs.Words.{at, tabulate}
+use Rattle.words.proofs.Words.{tabulate-same, length-tabulate, getD-tabulate}
+use Rattle.spec_session.specs.Cache.{later}
+use Rattle.work_layout.specs.Layout.{USED, COUNTS, LOW, HIGH}
+use Rattle.work_layout.specs.Rows.{Sound, length-of, Row, row-of, rows-of, with-parents, adjust-row, all-counts}
+use Rattle.cache_entries.specs.cache_table.Contracts.{find-row}
+
+pub length-rows : (w : List ℕ) → length (rows-of w) ≡ at w USED
+unfolding rows-of
+length-rows w = length-tabulate (at w USED) (row-of w)
+
+pub row-at : (w : List ℕ) (e : ℕ) (d : Row) → e < at w USED → getD (rows-of w) e d ≡ row-of w e
+unfolding rows-of
+row-at w e d h = getD-tabulate (at w USED) (row-of w) e d h
+
+-- What the getters give, at the place i of the entry e.
+pub count-is : (w : List ℕ) (e i n : ℕ) → Sound w → e < at w USED → i ≡ e → n ≡ at w (COUNTS + i) → (n ≡ at w (COUNTS + e)) × (n ≤ 100)
+count-is w e i n s h p q =
+    let a : n ≡ at w (COUNTS + e) = q ∙ ap (λ (x : ℕ). at w (COUNTS + x)) p in
+    (a, omega (arith, s .counts e (omega (arith, s .used))))
+
+pub length-is : (w : List ℕ) (e i a b : ℕ) → i ≡ e → a ≡ at w (LOW + i) → b ≡ at w (HIGH + i) → a + b * 4294967296 ≡ length-of w e
+length-is w e i a b p q r =
+    let x : a ≡ at w (LOW + e) = q ∙ ap (λ (y : ℕ). at w (LOW + y)) p in
+    let z : b ≡ at w (HIGH + e) = r ∙ ap (λ (y : ℕ). at w (HIGH + y)) p in
+    omega arith
+
+-- Two tables that differ in the parents of row e alone.
+pub adjust-tabulate : (n e : ℕ) (g h : ℕ → Row) (f : List (ℕ × Bool) → List (ℕ × Bool)) → e < n → ((k : ℕ) → k < n → (k ≡ e → ⊥) → g k ≡ h k)
+    → g e ≡ with-parents (f (h e .parents)) (h e) → tabulate n g ≡ adjust-row e f (tabulate n h)
+unfolding tabulate
+adjust-tabulate zero e g h f l s q = absurd (not-suc-le-zero l)
+adjust-tabulate (suc n) zero g h f l s q =
+    let rest = tabulate-same n (λ k. h (suc k)) (λ k. g (suc k)) (λ k m. s (suc k) (omega arith) (omega arith)) in
+    λ i. q i ∷ rest i
+adjust-tabulate (suc n) (suc e) g h f l s q =
+    let first = s 0 (omega arith) (omega arith) in
+    let rest = adjust-tabulate n e (λ k. g (suc k)) (λ k. h (suc k)) f (omega arith) (λ k m d. s (suc k) (omega arith) (omega arith)) q in
+    λ i. first i ∷ rest i
+
+-- ---- the parents of all entries
+
+pub counts-same : (w w′ : List ℕ) (n : ℕ) → ((k : ℕ) → k < n → at w′ (COUNTS + k) ≡ at w (COUNTS + k)) → all-counts w′ n ≡ all-counts w n
+unfolding all-counts
+counts-same w w′ zero s = refl
+counts-same w w′ (suc n) s = omega (arith, s n (omega arith), counts-same w w′ n (λ k l. s k (omega arith)))
+
+-- Only the count of entry e is another.
+pub counts-but : (w w′ : List ℕ) (n e : ℕ) → e < n → ((k : ℕ) → k < n → (k ≡ e → ⊥) → at w′ (COUNTS + k) ≡ at w (COUNTS + k))
+    → all-counts w′ n + at w (COUNTS + e) ≡ all-counts w n + at w′ (COUNTS + e)
+unfolding all-counts
+counts-but w w′ zero e l s = absurd (not-suc-le-zero l)
+counts-but w w′ (suc n) e l s = go (ℕ-discrete n e) (λ m. counts-but w w′ n e m (λ k j d. s k (omega arith) d))
+  where
+    go : Dec (n ≡ e) → (e < n → all-counts w′ n + at w (COUNTS + e) ≡ all-counts w n + at w′ (COUNTS + e))
+        → at w′ (COUNTS + n) + all-counts w′ n + at w (COUNTS + e) ≡ at w (COUNTS + n) + all-counts w n + at w′ (COUNTS + e)
+    go (yes q) f =
+        let a : at w (COUNTS + n) ≡ at w (COUNTS + e) = ap (λ (x : ℕ). at w (COUNTS + x)) q in
+        let b : at w′ (COUNTS + n) ≡ at w′ (COUNTS + e) = ap (λ (x : ℕ). at w′ (COUNTS + x)) q in
+        omega (arith, counts-same w w′ n (λ k m. s k (omega arith) (omega arith)))
+    go (no q) f = omega (arith, f (omega arith), s n (omega arith) q)
+
+-- ---- a key looked up in a table
+
+-- No row has the key l r.
+abbrev pub Missing : (ℕ → Row) → (l r n : ℕ) → Type 0
+Missing f l r n = (k : ℕ) → k < n → f k .left ≡ l → f k .right ≡ r → ⊥
+
+both : (a b c d : ℕ) → (a ≡ b → c ≡ d → ⊥) → eqb a b && eqb c d ≡ false
+both a b c d h = go (eqb a b) (eqb c d) refl refl
+  where
+    go : (x y : Bool) → eqb a b ≡ x → eqb c d ≡ y → x && y ≡ false
+    go true true p q = absurd (h (eqb-true a b p) (eqb-true c d q))
+    go true false p q = refl
+    go false y p q = refl
+
+pub find-none : (n : ℕ) (f : ℕ → Row) (l r : ℕ) → Missing f l r n → find-row l r (tabulate n f) ≡ none
+unfolding tabulate
+find-none zero f l r m = refl
+find-none (suc n) f l r m =
+    rw (both (f 0 .left) l (f 0 .right) r (m 0 (omega arith)), find-none n (λ k. f (suc k)) l r (λ k h. m (suc k) (omega arith)))
+
+-- The first row with the key.
+pub find-some : (n : ℕ) (f : ℕ → Row) (l r e : ℕ) → e < n → f e .left ≡ l → f e .right ≡ r → Missing f l r e → find-row l r (tabulate n f) ≡ some e
+unfolding tabulate
+find-some zero f l r e h a b m = absurd (not-suc-le-zero h)
+find-some (suc n) f l r zero h a b m = rw (eq-eqb (f 0 .left) l a, eq-eqb (f 0 .right) r b)
+find-some (suc n) f l r (suc e) h a b m =
+    rw (both (f 0 .left) l (f 0 .right) r (m 0 (omega arith)), find-some n (λ k. f (suc k)) l r e (omega arith) a b (λ k q. m (suc k) (omega arith)))
+
+-- What is found is there.
+pub find-low : (n : ℕ) (f : ℕ → Row) (l r e : ℕ) → find-row l r (tabulate n f) ≡ some e → e < n
+unfolding tabulate
+find-low zero f l r e q = absurd (let z : _≡_ {A = ℕ} 0 1 = cc in omega arith)
+find-low (suc n) f l r e q =
+    go (eqb (f 0 .left) l && eqb (f 0 .right) r) (find-row l r (tabulate n (λ j. f (suc j)))) q (λ d. find-low n (λ j. f (suc j)) l r d)
+  where
+    go : (t : Bool) (o : Option ℕ) → cond t (some 0) (later o) ≡ some e → ((d : ℕ) → o ≡ some d → d < n) → e < suc n
+    go true o p f = let y : 0 ≡ e = cc in omega arith
+    go false none p f = absurd (let z : _≡_ {A = ℕ} 0 1 = cc in omega arith)
+    go false (some d) p f = let y : suc d ≡ e = cc in omega (arith, f d refl)

@@ -1,0 +1,99 @@
+-- What is left where the parents of one entry alone change.
+-- Assumes nothing.
+use Prim.Native.Nat.{ℕ, _+_, _*_, _≤_, _<_}
+use mathlib.Core.Path.{_≡_, ap, _∙_}
+use mathlib.Core.Bool.{Bool}
+use mathlib.Core.List.{List, map}
+use native.Mathlib.Omega.{arith}
+use native.Mathlib.Decide.{ℕ-discrete}
+use lib.ListN.{length}
+use Rattle.words.specs.Words.{at, part, tabulate}
+use Rattle.words.proofs.Words.{part-same}
+use Rattle.work_layout.specs.Layout.{USED, COUNTS, LEFT, RIGHT, LOW, HIGH, PARENTS, SEEN, ENTRIES}
+use Rattle.work_layout.specs.Rows.{parent-of, parents-of, row-of, rows-of, with-parents, adjust-row, length-of, Sound, all-counts}
+use Rattle.cache_entries.specs.cache_table.Contracts.{SameKeys}
+use Rattle.cache_entries.proofs.cache_table.Rows.{adjust-tabulate, counts-but}
+use Rattle.cache_entries.proofs.cache_table.Chain.{chained-kept, distinct-kept}
+
+-- From USED on, w′ differs from w in the count and the row of entry e alone.
+pub record RowOnly (w w′ : List ℕ) (e : ℕ) : Type 0 where
+  pub len : length w′ ≡ length w
+  pub same : (k : ℕ) → USED ≤ k → (k ≡ COUNTS + e → ⊥) → ((j : ℕ) → j < 100 → k ≡ PARENTS + e * 100 + j → ⊥) → at w′ k ≡ at w k
+  pub few : at w′ (COUNTS + e) ≤ 100
+  pub links : (i : ℕ) → i < at w′ (COUNTS + e) → at w′ (PARENTS + e * 100 + i) < 2 * at w USED
+
+module _ (w w′ : List ℕ) (e : ℕ) (s : Sound w) (h : e < at w USED) (r : RowOnly w w′ e) where
+  e-low : e < ENTRIES
+  e-low = omega (arith, s .used)
+
+  pub row-used : at w′ USED ≡ at w USED
+  row-used = r .same USED (omega arith) (omega arith) (omega arith)
+
+  count-same : (k : ℕ) → k < ENTRIES → (k ≡ e → ⊥) → at w′ (COUNTS + k) ≡ at w (COUNTS + k)
+  count-same k l d = r .same (COUNTS + k) (omega arith) (omega arith) (omega arith)
+
+  link-same : (k i : ℕ) → i < 100 → (k ≡ e → ⊥) → at w′ (PARENTS + k * 100 + i) ≡ at w (PARENTS + k * 100 + i)
+  link-same k i l d = let z = e-low in r .same (PARENTS + k * 100 + i) (omega arith) (omega arith) (omega arith)
+
+  key-same : (k : ℕ) → LEFT ≤ k → k < PARENTS → at w′ k ≡ at w k
+  key-same k a b = let z = e-low in r .same k (omega arith) (omega arith) (omega arith)
+
+  pub row-high : (k : ℕ) → SEEN ≤ k → at w′ k ≡ at w k
+  row-high k a = let z = e-low in r .same k (omega arith) (omega arith) (omega arith)
+
+  pub row-keys : SameKeys w w′
+  row-keys k l = let u = s .used in (key-same (LEFT + k) (omega arith) (omega arith), key-same (RIGHT + k) (omega arith) (omega arith))
+
+  parents-same : (k : ℕ) → k < ENTRIES → (k ≡ e → ⊥) → parents-of w′ k ≡ parents-of w k
+  unfolding parents-of
+  parents-same k l d =
+      let c = s .counts k l in
+      ap (λ (n : ℕ). map parent-of (part w′ (PARENTS + k * 100) n)) (count-same k l d)
+      ∙ ap (map parent-of) (part-same w w′ (PARENTS + k * 100) (at w (COUNTS + k)) (omega (arith, s .long)) (r .len) (λ i p. link-same k i (omega arith) d))
+
+  row-same : (k : ℕ) → k < at w USED → (k ≡ e → ⊥) → row-of w′ k ≡ row-of w k
+  row-same k l d =
+      let u = s .used in
+      let a = key-same (LEFT + k) (omega arith) (omega arith) in
+      let b = key-same (RIGHT + k) (omega arith) (omega arith) in
+      let p = parents-same k (omega arith) d in
+      let n : length-of w′ k ≡ length-of w k = rw (key-same (LOW + k) (omega arith) (omega arith), key-same (HIGH + k) (omega arith) (omega arith)) in
+      λ i. record { left = a i; right = b i; parents = p i; len = n i }
+
+  pub row-sound : Sound w′
+  row-sound =
+      let u = row-used in
+      record {
+        long = omega (arith, r .len, s .long);
+        used = omega (arith, s .used);
+        counts = λ k l. counts k l (ℕ-discrete k e);
+        unused = λ k a b. count-same k b (omega arith) ∙ s .unused k (omega arith) b;
+        links = λ k i l m. links k i l m (ℕ-discrete k e);
+        chained = chained-kept w w′ key-same u (s .used) (s .chained);
+        distinct = distinct-kept w w′ key-same u (s .used) (s .distinct);
+      }
+    where
+      counts : (k : ℕ) → k < ENTRIES → Dec (k ≡ e) → at w′ (COUNTS + k) ≤ 100
+      counts k l (yes q) = rw q (r .few)
+      counts k l (no q) = rw (count-same k l q) (s .counts k l)
+
+      links : (k i : ℕ) → k < ENTRIES → i < at w′ (COUNTS + k) → Dec (k ≡ e) → at w′ (PARENTS + k * 100 + i) < 2 * at w′ USED
+      links k i l m (yes q) = rw (q, row-used) (r .links i (rw q at m))
+      links k i l m (no q) =
+          let n : i < at w (COUNTS + k) = rw (count-same k l q) at m in
+          let c = s .counts k l in
+          rw (link-same k i (omega arith) q, row-used) (s .links k i l n)
+
+  -- The entries are as they were but for the parents of entry e.
+  pub row-rows : (f : List (ℕ × Bool) → List (ℕ × Bool)) → parents-of w′ e ≡ f (parents-of w e) → rows-of w′ ≡ adjust-row e f (rows-of w)
+  unfolding rows-of
+  row-rows f q =
+      let z = e-low in
+      let a = key-same (LEFT + e) (omega arith) (omega arith) in
+      let b = key-same (RIGHT + e) (omega arith) (omega arith) in
+      let n : length-of w′ e ≡ length-of w e = rw (key-same (LOW + e) (omega arith) (omega arith), key-same (HIGH + e) (omega arith) (omega arith)) in
+      let m : row-of w′ e ≡ with-parents (f (parents-of w e)) (row-of w e) = λ i. record { left = a i; right = b i; parents = q i; len = n i } in
+      ap (λ (x : ℕ). tabulate x (row-of w′)) row-used ∙ adjust-tabulate (at w USED) e (row-of w′) (row-of w) f h row-same m
+
+  pub row-counts : all-counts w′ ENTRIES + at w (COUNTS + e) ≡ all-counts w ENTRIES + at w′ (COUNTS + e)
+  row-counts = counts-but w w′ ENTRIES e e-low count-same

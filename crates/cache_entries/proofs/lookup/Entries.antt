@@ -1,0 +1,74 @@
+-- What the words say of the cache that they hold: the entries of pairs and atoms.
+-- Assumes nothing.
+use Prim.Native.Nat.{ℕ, zero, suc, _+_, _-_, _<_}
+use mathlib.Core.Path.{_≡_, refl, sym, ap, _∙_}
+use mathlib.Core.Bool.{true}
+use mathlib.Core.List.{List}
+use mathlib.Core.Option.{none, some}
+use native.Mathlib.Omega.{arith}
+use Rattle.words.specs.Words.{at}
+use Rattle.allocator.specs.Handle.{pair, node-of, is-atom}
+use Rattle.spec_session.specs.File.{File}
+use Rattle.spec_session.specs.Cache.{Entry, Cache, atom-key, find-key}
+use Rattle.spec_session.specs.Writer.{or-zero, atom-entry}
+use Rattle.work_layout.specs.Layout.{MAPS, USED, PAIR-COUNT}
+use Rattle.work_layout.specs.Rows.{row-of, rows-of}
+use Rattle.cache_entries.specs.declared.cache_table.Found.{Found}
+use Rattle.cache_entries.specs.cache_table.Contracts.{find-row, option-of}
+use Rattle.cache_entries.proofs.cache_table.Rows.{find-low}
+use Rattle.cache_entries.specs.Meaning.{ATOM-KEY, bytes-named, entry-or-none, Tables, Whole, Holds}
+use Rattle.cache_entries.specs.Contracts.{Stands}
+use Rattle.cache_entries.proofs.Atoms.{not-true}
+use Rattle.cache_entries.proofs.Keys.{find-atom}
+use Rattle.cache_entries.specs.lookup.Contracts.{PairEntry, AtomEntry, EntryOf}
+
+-- ---- what the getters give
+
+pub pair-none : (w : List ℕ) (i : ℕ) → i < at w PAIR-COUNT → at w (MAPS + i) ≡ 0 → PairEntry w i 0
+pair-none w i h q =
+    record {
+      low = omega arith;
+      is = λ f c t ho. ap or-zero (ho .mapped i (omega (arith, t .pair-count)) ∙ ap entry-or-none q);
+    }
+
+or-none-some : (k e : ℕ) → (k ≡ 0 → ⊥) → e ≡ k - 1 → or-zero (entry-or-none k) ≡ e
+or-none-some zero e h q = absurd (h refl)
+or-none-some (suc k) e h q = sym (q ∙ omega arith)
+
+pub pair-some : (w : List ℕ) (i k : ℕ) → Whole w → i < at w PAIR-COUNT → k ≡ at w (MAPS + i) → (k ≡ 0 → ⊥) → PairEntry w i (k - 1)
+pair-some w i k wh h q z =
+    record {
+      low = omega (arith, wh .maps i h, wh .sound .used);
+      is = λ f c t ho. ap or-zero (ho .mapped i (omega (arith, t .pair-count)) ∙ ap entry-or-none (sym q)) ∙ or-none-some k (k - 1) z refl;
+    }
+
+-- The entry that a lookup gives, and entry 0 where it gives none.
+module _ {w : List ℕ} {h key : ℕ} (wh : Whole w) (s : Stands w h key) (r : Found) (q : option-of r ≡ find-row ATOM-KEY key (rows-of w)) where
+  looked-up : (f : File) (c : Cache) → Tables f w → Holds f w c → atom-entry c (bytes-named f (node-of h)) ≡ or-zero (option-of r)
+  looked-up f c t ho =
+      ap (λ (b : List ℕ). or-zero (find-key (atom-key b) (c .entries))) (sym (s .bytes f t))
+      ∙ ap (λ (es : List Entry). or-zero (find-key (atom-key (bytes-named f (node-of key))) es)) (ho .entries)
+      ∙ ap or-zero (find-atom f w t wh key (s .first) ∙ sym q)
+
+  pub atom-at : {e : ℕ} → option-of r ≡ some e → AtomEntry w h e
+  unfolding rows-of
+  atom-at {e} p =
+      let l = find-low (at w USED) (row-of w) ATOM-KEY key e (sym q ∙ p) in
+      record { low = omega (arith, wh .sound .used); is = λ f c t ho. looked-up f c t ho ∙ ap or-zero p }
+
+  pub atom-none : option-of r ≡ none → AtomEntry w h 0
+  atom-none p = record { low = omega arith; is = λ f c t ho. looked-up f c t ho ∙ ap or-zero p }
+
+-- ---- a node is an atom or a pair
+
+pub entry-of-atom : {w : List ℕ} {h e : ℕ} → is-atom (node-of h) ≡ true → AtomEntry w h e → EntryOf w h e
+entry-of-atom a x =
+    record { low = x .low; of-pair = λ i q. absurd (not-true (sym (ap is-atom q) ∙ a)); of-atom = λ b. x }
+
+pub entry-of-pair : {w : List ℕ} {h e i : ℕ} → node-of h ≡ pair i → PairEntry w i e → EntryOf w h e
+entry-of-pair {w} {h} {e} {i} n x =
+    record {
+      low = x .low;
+      of-pair = λ j q. let z : i ≡ j = cc in rw (sym z) x;
+      of-atom = λ b. absurd (not-true (sym (ap is-atom n) ∙ b));
+    }

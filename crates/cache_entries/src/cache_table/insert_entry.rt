@@ -1,0 +1,29 @@
+// The entries of the tree cache, in work: one added.
+use words::wide;
+use work_layout::EntryIndex;
+ghost use mathlib.Core.Path.{_≡_};
+ghost use mathlib.Core.Option.{none};
+ghost use Prim.Native.Nat.{_<_};
+ghost use Rattle.words.specs.Words.{at};
+ghost use Rattle.work_layout.specs.Layout.{USED, ENTRIES};
+ghost use Rattle.work_layout.specs.Rows.{rows-of, Sound};
+ghost use Rattle.cache_entries.specs.cache_table.Contracts.{find-row, Inserted};
+
+// A new entry with this key, which none has yet, and no parents.
+pub fn insert(work: &mut [u32], left: u32, right: u32, len: u64) -> EntryIndex
+    requires { ⌜ (Sound (now work)) × (at (now work) USED < ENTRIES) × (find-row left right (rows-of (now work)) ≡ none) ⌝ }
+    ensures { λ x. ⌜ Inserted (now (work .entry)) (now (work .exit)) left right len (x .0) ⌝ }
+{
+    let slot = crate::cache_table::slot_of(left, right);
+    let used = work[work_layout::USED];
+    let e = wide(used);
+    let head = work[work_layout::HEADS + slot];
+    work[work_layout::LEFT + e] = left;
+    work[work_layout::RIGHT + e] = right;
+    work[work_layout::LOW + e] = (len % 4294967296) as u32;
+    work[work_layout::HIGH + e] = (len / 4294967296) as u32;
+    work[work_layout::NEXT + e] = head;
+    work[work_layout::HEADS + slot] = used + 1;
+    work[work_layout::USED] = used + 1;
+    EntryIndex(used)
+}

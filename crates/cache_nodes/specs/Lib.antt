@@ -1,3 +1,0 @@
-pub mod Meaning
-pub mod Contracts
-pub mod lookup
