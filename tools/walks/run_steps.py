@@ -1,4 +1,4 @@
-# Writes the proof of session_steps::session_run::run_steps to the file that it is given.
+# Writes the proof of session_steps::run_steps::run_steps to the file that it is given.
 import sys
 from context import *
 from frame import *
@@ -6,9 +6,9 @@ STEPPED=struct('StepAnswer','R')
 SLOT=Callee('SlotOf','slot-of','Rattle.session_state.proofs.slot_of')
 STEP=Callee('StepOf','step','Rattle.session_steps.proofs.bounded_step')
 def going(x): return 'Going (%s .now) (%s .now) (%s .now) (%s .now) (%s .now) %s (%s .done)'%(x(4),x(1),x(2),x(0),x(3),par(x(5)),x(5))
-f=Frame('run_steps.py','Rattle.session_steps.proofs.session_run.run_steps',[('lent','T.the-row'),('lent','u32'),('lent','u32'),('lent','u8'),('shared','u8')],[SLOT,STEP],
+f=Frame('run_steps.py','Rattle.session_steps.proofs.run_steps.run_steps',[('lent','T.the-row'),('lent','u32'),('lent','u32'),('lent','u8'),('shared','u8')],[SLOT,STEP],
     Plain(PROGRESS,'s','mach s'),('going',going(lambda i: 's' if i==5 else 'x'+sub(i)),going(lambda i: unpar(path('a',i)))))
-HEAD='''-- `session_steps::session_run::run_steps` meets its contract: a walk of its MIR, with a loop. The records' borrow is opened once, before the loop, and closed once, after it.
+HEAD='''-- `session_steps::run_steps::run_steps` meets its contract: a walk of its MIR, with a loop. The records' borrow is opened once, before the loop, and closed once, after it.
 -- In each turn a record is read and one is stored; between the two `work`, `words` and `output` are lent again for the call of `bounded_step`, and come back.
 -- The loop's state is the values of the slices and the progress, with facts: each list is as long as it was, the progress is one, and what `Between` says.
 -- It falls by `ahead`. Assumes nothing.
@@ -23,8 +23,8 @@ use Rattle.session_state.proofs.progress.Progress.Laws as S′
 use Rattle.session_state.proofs.progress.StepAnswer as R
 use Rattle.session_state.proofs.progress.StepAnswer.Laws as R′
 use Rattle.session_steps.specs.Driven.{Going, Driven}
-use Rattle.session_steps.proofs.session_run.Lending.{lends, comes, twice}
-use Rattle.session_steps.proofs.session_run.Between.{Values, ahead, Slot, Stepped, after-step, goes, stops, Between, at-start, in-rows, ready, goes-on, falls, at-end}
+use Rattle.session_steps.proofs.run_steps.Lending.{lends, comes, twice}
+use Rattle.session_steps.proofs.run_steps.Between.{Values, ahead, Slot, Stepped, after-step, goes, stops, Between, at-start, in-rows, ready, goes-on, falls, at-end}
 '''
 MACH='''-- The machine values of the structs.
 abbrev mach : Progress → Val

@@ -4,7 +4,7 @@ from context import *
 from frame import *
 BEGUN=struct('Begun','B')
 BEGIN=Callee('Begin','begin','Rattle.session_begin.proofs.begin')
-DRIVE=Callee('Drive','drive','Rattle.session_steps.proofs.session_run.run_steps')
+DRIVE=Callee('Drive','drive','Rattle.session_steps.proofs.run_steps.run_steps')
 CLEAR=Callee('Clear','clear','Rattle.session_state.proofs.checkpoints.clear_first')
 FINISH=Callee('Finish','finish','Rattle.session_answer.proofs.finish')
 f=Frame('session_call.py','Rattle.session_call.proofs.nikvoldra_session',
@@ -22,7 +22,7 @@ use Rattle.session_state.specs.declared.progress.Progress.{Progress}
 use Rattle.session_state.proofs.progress.Progress as S
 use Rattle.session_state.proofs.progress.Progress.Laws as S′
 use Rattle.session_steps.specs.Driven.{Driven}
-use Rattle.session_steps.proofs.session_run.Lending.{lends, comes, twice}
+use Rattle.session_steps.proofs.run_steps.Lending.{lends, comes, twice}
 use Rattle.session_begin.specs.declared.Begun.{Begun}
 use Rattle.session_begin.specs.Begins.{asked, Begins}
 use Rattle.session_begin.proofs.Begun as B

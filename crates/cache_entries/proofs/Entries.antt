@@ -9,7 +9,7 @@ use Rattle.words.specs.Words.{at}
 use Rattle.words.proofs.Words.{part-same, tabulate-same}
 use Rattle.work_layout.specs.Layout.{USED, COUNTS, LEFT, RIGHT, LOW, HIGH, PARENTS, SEEN, ENTRIES}
 use Rattle.work_layout.specs.Rows.{parents-of, row-of, rows-of, Sound, all-counts}
-use Rattle.cache_entries.proofs.cache_table.Chain.{chained-kept, distinct-kept}
+use Rattle.cache_entries.proofs.table.Chain.{chained-kept, distinct-kept}
 
 module _ (w w′ : List ℕ) (len : length w′ ≡ length w) (same : (k : ℕ) → USED ≤ k → k < SEEN → at w′ k ≡ at w k) (so : Sound w) where
   pub used-kept : at w′ USED ≡ at w USED

@@ -10,7 +10,7 @@ use Rattle.spec_session.specs.File.{File}
 use Rattle.spec_session.specs.Cache.{Cache, atom-key, pair-key, pair-length, length-at, find-or-add}
 use Rattle.work_layout.specs.Layout.{USED}
 use Rattle.work_layout.specs.Rows.{length-of}
-use Rattle.cache_entries.specs.cache_table.Contracts.{Interned}
+use Rattle.cache_entries.specs.table.Contracts.{Interned}
 use Rattle.cache_entries.specs.Meaning.{ATOM-KEY, bytes-named, atom-words, pair-words, Whole, Holds}
 use Rattle.cache_entries.specs.Contracts.{Stands, Measured, atom-action, pair-action, Made}
 use Rattle.cache_entries.proofs.Keys.{key-atom, key-pair, find-atom, find-pair}

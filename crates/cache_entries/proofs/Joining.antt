@@ -17,7 +17,7 @@ use Rattle.spec_session.specs.File.{File}
 use Rattle.spec_session.specs.Cache.{Cache, lookup, adjust, add-parent, with-entries, link-pair}
 use Rattle.work_layout.specs.Layout.{PAIR-COUNT, MAPS, SENTINEL-ENTRY, USED, LEFT, RIGHT, SEEN, ENTRIES}
 use Rattle.work_layout.specs.Rows.{Row}
-use Rattle.cache_entries.specs.cache_table.Contracts.{ParentAdded}
+use Rattle.cache_entries.specs.table.Contracts.{ParentAdded}
 use Rattle.cache_entries.specs.Meaning.{entry-of, Tables, entry-or-none, Whole, Holds}
 use Rattle.cache_entries.specs.Contracts.{pair-action, join-action, Acts, Made, Joined}
 use Rattle.cache_entries.proofs.Frames.{tables-kept}

@@ -19,7 +19,7 @@ use Rattle.spec_session.specs.File.{File}
 use Rattle.spec_session.specs.Cache.{Key, sentinel-key, atom-key, pair-key, same-key, find-key}
 use Rattle.work_layout.specs.Layout.{USED, LEFT, RIGHT, ENTRIES}
 use Rattle.work_layout.specs.Rows.{Row, row-of, rows-of}
-use Rattle.cache_entries.specs.cache_table.Contracts.{find-row}
+use Rattle.cache_entries.specs.table.Contracts.{find-row}
 use Rattle.cache_entries.specs.Meaning.{ATOM-KEY, SENTINEL-KEY, bytes-named, key-of, entry-of, first-same, Tables, FirstOf, KeyOK, sentinel-words, atom-words, pair-words, Whole}
 use Rattle.cache_entries.proofs.Lift.{no-row, length-rows, row-at}
 

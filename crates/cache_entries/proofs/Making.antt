@@ -13,7 +13,7 @@ use Rattle.spec_session.specs.File.{File}
 use Rattle.spec_session.specs.Cache.{Key, Parent, Entry, Cache, lookup, find-key, adjust, new-entry, with-entries, keep-or-add, find-or-add}
 use Rattle.work_layout.specs.Layout.{PAIR-COUNT, OPEN, MAPS, SENTINEL-ENTRY, USED, LEFT, RIGHT}
 use Rattle.work_layout.specs.Rows.{Row, rows-of, new-row, adjust-row, Sound}
-use Rattle.cache_entries.specs.cache_table.Contracts.{find-row, found-or-added, Interned}
+use Rattle.cache_entries.specs.table.Contracts.{find-row, found-or-added, Interned}
 use Rattle.cache_entries.specs.Meaning.{key-of, entry-of, Tables, KeyOK, entry-or-none, Whole, Holds}
 use Rattle.cache_entries.specs.Contracts.{Action, Acts, Made}
 use Rattle.cache_entries.proofs.Lift.{no-row, map-adjust, length-map, left-adjust, right-adjust, length-rows, left-at, right-at, getD-end, getD-before}

@@ -13,7 +13,7 @@ use Rattle.spec_session.specs.File.{File}
 use Rattle.spec_session.specs.Cache.{sentinel-key, Entry, Cache, find-key, find-or-add, keep-or-add}
 use Rattle.work_layout.specs.Layout.{MAPS, SENTINEL-ENTRY, USED, LEFT, RIGHT, SEEN, ENTRIES}
 use Rattle.work_layout.specs.Rows.{Row, rows-of}
-use Rattle.cache_entries.specs.cache_table.Contracts.{Inserted, found-or-added, Interned}
+use Rattle.cache_entries.specs.table.Contracts.{Inserted, found-or-added, Interned}
 use Rattle.cache_entries.specs.Meaning.{SENTINEL-KEY, entry-of, Tables, sentinel-words, entry-or-none, Whole, Holds}
 use Rattle.cache_entries.specs.Contracts.{Action, sentinel-action, Acts, Made}
 use Rattle.cache_entries.proofs.Lift.{length-rows}

@@ -14,7 +14,7 @@ use Rattle.spec_session.specs.Unfold.{unfolded}
 use Rattle.spec_session.specs.Cache.{Parent, Cache, parents-at, no-parents, move-parents, with-entries, sentinel-parents, clear-sentinel, place-root, enter, update}
 use Rattle.work_layout.specs.Layout.{ATOM-COUNT, PAIR-COUNT, MOVED, MAPS, SENTINEL-ENTRY, USED, ENTRIES}
 use Rattle.work_layout.specs.Rows.{parent-of}
-use Rattle.cache_entries.specs.cache_table.Contracts.{moved-of, Taken, Placed, MovedLinks}
+use Rattle.cache_entries.specs.table.Contracts.{moved-of, Taken, Placed, MovedLinks}
 use Rattle.cache_entries.specs.Meaning.{Tables, Names, entry-or-none, unmapped, Whole, Holds}
 use Rattle.cache_entries.specs.Contracts.{enter-action, Acts, span, Bounded, Entered, Room, Cleared, Updated}
 use Rattle.cache_entries.proofs.Lift.{parents-of-rows}

@@ -11,7 +11,7 @@ use Rattle.spec_session.specs.Unfold.{unfolded}
 use Rattle.spec_session.specs.Cache.{Cache, atom-key, pair-key, pair-length, length-at, find-or-add, meet-sentinel, join-pair, enter, update, with-entries, clear-sentinel, sentinel-parents}
 use Rattle.work_layout.specs.Layout.{PAIR-COUNT, MOVED, MAPS, USED, SEEN, ENTRIES, MAX-PARENTS}
 use Rattle.work_layout.specs.Rows.{all-counts}
-use Rattle.cache_entries.specs.cache_table.Contracts.{moved-of}
+use Rattle.cache_entries.specs.table.Contracts.{moved-of}
 use Rattle.cache_entries.specs.Meaning.{bytes-named, Tables, FirstOf, Whole, Holds, unmapped}
 
 -- ---- atoms

@@ -1,4 +1,4 @@
 pub mod Meaning
 pub mod Contracts
 pub mod lookup
-pub mod cache_table
+pub mod table

@@ -1,11 +1,11 @@
 // The words of the tree cache: pairs and their entries, the keys and lengths of atoms, and the length of a pair.
-pub mod cache_table;
 pub mod lookup;
+pub mod table;
 
 use allocator::NodePtr;
 use allocator::ObjectType;
 use allocator::small_atom;
-pub use cache_table::Found;
+pub use table::Found;
 use words::wide;
 ghost use mathlib.Core.Path.{_≡_};
 ghost use mathlib.Core.Bool.{true};

@@ -1,6 +1,6 @@
 // The entry of a node in the tree cache, as tree_cache.rs has it: a pair's is mapped, an atom's is looked up by its bytes.
-use crate::cache_table;
-use crate::cache_table::Found;
+use crate::table;
+use crate::table::Found;
 use allocator::NodePtr;
 use words::wide;
 use work_layout::EntryIndex;
@@ -31,7 +31,7 @@ fn atom_entry(work: &[u32], node: NodePtr) -> EntryIndex
     ensures { λ e. ⌜ AtomEntry (now (work .entry)) (node .0) (e .0) ⌝ }
 {
     let key = crate::atom_key(work, node);
-    match cache_table::find_key(work, crate::ATOM_KEY, key) {
+    match table::find_key(work, crate::ATOM_KEY, key) {
         Found::At(e) => e,
         Found::Nothing => EntryIndex(0),
     }

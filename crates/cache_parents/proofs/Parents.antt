@@ -15,8 +15,8 @@ use Rattle.words.proofs.Words.{part-length, part-same, part-more, part-store, m
 use Rattle.spec_session.specs.Cache.{add-parent}
 use Rattle.work_layout.specs.Layout.{USED, COUNTS, PARENTS, ENTRIES}
 use Rattle.work_layout.specs.Rows.{parent-of, parents-of, Sound}
-use Rattle.cache_entries.specs.cache_table.Contracts.{ParentAdded}
-use Rattle.cache_entries.proofs.cache_table.Single.{RowOnly, row-used, row-sound, row-rows, row-keys, row-counts, row-high}
+use Rattle.cache_entries.specs.table.Contracts.{ParentAdded}
+use Rattle.cache_entries.proofs.table.Single.{RowOnly, row-used, row-sound, row-rows, row-keys, row-counts, row-high}
 
 -- The word of a parent and a position is read as the two.
 pub link-code : (p : ℕ) (t : Bool) → parent-of (p * 2 + cond t 1 0) ≡ (p, t)

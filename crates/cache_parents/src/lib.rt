@@ -1,7 +1,7 @@
 // The parents of the entries of the tree cache, in work: one added.
 pub mod moved_parents;
 
-use cache_entries::cache_table;
+use cache_entries::table;
 use work_layout::EntryIndex;
 use work_layout::MAX_PARENTS;
 ghost use mathlib.Core.Path.{_≡_};
@@ -10,7 +10,7 @@ ghost use Prim.Native.Nat.{_<_};
 ghost use Rattle.words.specs.Words.{at};
 ghost use Rattle.work_layout.specs.Layout.{USED};
 ghost use Rattle.work_layout.specs.Rows.{Sound};
-ghost use Rattle.cache_entries.specs.cache_table.Contracts.{ParentAdded};
+ghost use Rattle.cache_entries.specs.table.Contracts.{ParentAdded};
 
 // The position below a parent, as a number.
 fn position_of(right: bool) -> u32
@@ -24,7 +24,7 @@ pub fn add_parent(work: &mut [u32], e: EntryIndex, parent: EntryIndex, right: bo
     requires { ⌜ (Sound (now work)) × (e .0 < at (now work) USED) × (parent .0 < at (now work) USED) ⌝ }
     ensures { λ _. ⌜ ParentAdded (now (work .entry)) (now (work .exit)) (e .0) (parent .0) right ⌝ }
 {
-    let n = cache_table::count_of(work, e);
+    let n = table::count_of(work, e);
     let i = words::wide(e.0);
     let up = parent.0;
     let position = position_of(right);

@@ -1,5 +1,5 @@
 // A sentinel's parents in work, taken and placed at the end of a root's list.
-use cache_entries::cache_table;
+use cache_entries::table;
 use words::slices;
 use work_layout::EntryIndex;
 use work_layout::MAX_PARENTS;
@@ -8,14 +8,14 @@ ghost use Prim.Native.Nat.{_-_, _≤_, _<_};
 ghost use Rattle.words.specs.Words.{at};
 ghost use Rattle.work_layout.specs.Layout.{USED, MAX-PARENTS};
 ghost use Rattle.work_layout.specs.Rows.{Sound};
-ghost use Rattle.cache_entries.specs.cache_table.Contracts.{Taken, MovedLinks, Placed};
+ghost use Rattle.cache_entries.specs.table.Contracts.{Taken, MovedLinks, Placed};
 
 // The parents of entry e, which has none then, go to MOVED. How many there are.
 pub fn take_parents(work: &mut [u32], e: EntryIndex) -> usize
     requires { ⌜ (Sound (now work)) × (e .0 < at (now work) USED) ⌝ }
     ensures { λ n. ⌜ Taken (now (work .entry)) (now (work .exit)) (e .0) n ⌝ }
 {
-    let n = cache_table::count_of(work, e);
+    let n = table::count_of(work, e);
     let i = words::wide(e.0);
     slices::copy_within(
         work,
@@ -39,7 +39,7 @@ pub fn place_parents(work: &mut [u32], e: EntryIndex, moved: usize)
     requires { ⌜ (Sound (now work)) × (e .0 < at (now work) USED) × (moved ≤ MAX-PARENTS) × (MovedLinks (now work) moved) ⌝ }
     ensures { λ _. ⌜ Placed (now (work .entry)) (now (work .exit)) (e .0) moved ⌝ }
 {
-    let n = cache_table::count_of(work, e);
+    let n = table::count_of(work, e);
     let dropped = over(n + moved);
     let kept = n - dropped;
     let i = words::wide(e.0);

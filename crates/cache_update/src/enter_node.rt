@@ -1,8 +1,8 @@
 // tree_cache.rs: the entry of an atom or a pair, found or made.
 use allocator::NodePtr;
 use cache_entries::Found;
-use cache_entries::cache_table;
-use cache_entries::cache_table::insert_entry;
+use cache_entries::table;
+use cache_entries::table::insert_entry;
 use work_layout::EntryIndex;
 ghost use mathlib.Core.Path.{_≡_};
 ghost use mathlib.Core.Bool.{true};
@@ -11,7 +11,7 @@ ghost use Rattle.words.specs.Words.{at};
 ghost use Rattle.allocator.specs.Handle.{node-of, is-atom};
 ghost use Rattle.work_layout.specs.Layout.{PAIR-COUNT, USED, ENTRIES};
 ghost use Rattle.work_layout.specs.Rows.{Sound};
-ghost use Rattle.cache_entries.specs.cache_table.Contracts.{Interned};
+ghost use Rattle.cache_entries.specs.table.Contracts.{Interned};
 ghost use Rattle.cache_entries.specs.Meaning.{Names, Whole};
 ghost use Rattle.cache_entries.specs.Contracts.{atom-action, pair-action, Made};
 
@@ -20,7 +20,7 @@ fn find_or_add(work: &mut [u32], left: u32, right: u32, len: u64) -> EntryIndex
     requires { ⌜ (Sound (now work)) × (at (now work) USED < ENTRIES) ⌝ }
     ensures { λ x. ⌜ Interned (now (work .entry)) (now (work .exit)) left right len (x .0) ⌝ }
 {
-    match cache_table::find_key(work, left, right) {
+    match table::find_key(work, left, right) {
         Found::At(e) => e,
         Found::Nothing => insert_entry::insert(work, left, right, len),
     }
@@ -42,8 +42,8 @@ pub fn enter_pair(work: &mut [u32], l: EntryIndex, r: EntryIndex) -> EntryIndex
     requires { ⌜ (Whole (now work)) × (l .0 < at (now work) USED) × (r .0 < at (now work) USED) × (at (now work) USED < ENTRIES) ⌝ }
     ensures { λ x. ⌜ Made (pair-action (l .0) (r .0)) (now (work .entry)) (now (work .exit)) (x .0) ⌝ }
 {
-    let a = cache_table::length_of(work, l);
-    let b = cache_table::length_of(work, r);
+    let a = table::length_of(work, l);
+    let b = table::length_of(work, r);
     let len = cache_entries::pair_length(a, b);
     find_or_add(work, l.0, r.0, len)
 }

@@ -1,5 +1,5 @@
 // tree_cache.rs: the entry of a sentinel, made.
-use cache_entries::cache_table::insert_entry;
+use cache_entries::table::insert_entry;
 use work_layout::EntryIndex;
 ghost use Prim.Native.Nat.{_<_};
 ghost use Rattle.words.specs.Words.{at};

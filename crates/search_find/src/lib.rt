@@ -2,7 +2,7 @@
 mod find_path;
 
 use allocator::NodePtr;
-use cache_entries::cache_table;
+use cache_entries::table;
 use cache_stack::marks;
 pub use find_path::Path;
 use work_layout::EntryIndex;
@@ -32,7 +32,7 @@ pub fn length_at(work: &[u32], e: EntryIndex) -> u64
     if e.0 >= used_of(work) {
         return 0;
     }
-    cache_table::length_of(work, e)
+    table::length_of(work, e)
 }
 
 // The path that is written for a node of entry e, over a stack of `depth` entries: none for nil, for an entry that is not marked written, and for a short one.

@@ -2,7 +2,7 @@
 use session_answer::SessionAnswer;
 use session_state::Checkpoint;
 use session_state::checkpoints;
-use session_steps::session_run;
+use session_steps::run_steps;
 ghost use mathlib.Core.Path.{_≡_};
 ghost use Rattle.path.specs.Measure.{counted};
 ghost use Rattle.spec_session.specs.File.{version-1};
@@ -30,7 +30,7 @@ pub extern "C" fn nikvoldra_session(
     let begun = session_begin::begin(file, work, many, records);
     let start = begun.start;
     let used = begun.records;
-    let p = session_run::run_steps(checkpoints, work, words, output, file, start);
+    let p = run_steps::run_steps(checkpoints, work, words, output, file, start);
     checkpoints::clear_first(checkpoints, used);
     session_answer::finish(work, words, output, start.done, p)
 }

@@ -1,6 +1,6 @@
 // incremental.rs and the session file: the steps of a session.
 mod restore_step;
-pub mod session_run;
+pub mod run_steps;
 
 use allocator::NodePtr;
 use cache_undo::undo_state;

@@ -13,9 +13,9 @@ use Rattle.spec_session.specs.Cache.{Entry, Cache, atom-key, find-key}
 use Rattle.spec_session.specs.Writer.{or-zero, atom-entry}
 use Rattle.work_layout.specs.Layout.{MAPS, USED, PAIR-COUNT}
 use Rattle.work_layout.specs.Rows.{row-of, rows-of}
-use Rattle.cache_entries.specs.declared.cache_table.Found.{Found}
-use Rattle.cache_entries.specs.cache_table.Contracts.{find-row, option-of}
-use Rattle.cache_entries.proofs.cache_table.Rows.{find-low}
+use Rattle.cache_entries.specs.declared.table.Found.{Found}
+use Rattle.cache_entries.specs.table.Contracts.{find-row, option-of}
+use Rattle.cache_entries.proofs.table.Rows.{find-low}
 use Rattle.cache_entries.specs.Meaning.{ATOM-KEY, bytes-named, entry-or-none, Tables, Whole, Holds}
 use Rattle.cache_entries.specs.Contracts.{Stands}
 use Rattle.cache_entries.proofs.Atoms.{not-true}

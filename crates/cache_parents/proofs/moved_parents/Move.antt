@@ -13,8 +13,8 @@ use Rattle.words.proofs.Copies.{Copied, copied, copied-away}
 use Rattle.spec_session.specs.Cache.{move-parents, no-parents}
 use Rattle.work_layout.specs.Layout.{MOVED, USED, COUNTS, PARENTS, SEEN, ENTRIES}
 use Rattle.work_layout.specs.Rows.{parent-of, parents-of, Sound}
-use Rattle.cache_entries.specs.cache_table.Contracts.{moved-of, MovedLinks, Taken, Placed}
-use Rattle.cache_entries.proofs.cache_table.Single.{RowOnly, row-used, row-sound, row-rows, row-keys, row-counts, row-high}
+use Rattle.cache_entries.specs.table.Contracts.{moved-of, MovedLinks, Taken, Placed}
+use Rattle.cache_entries.proofs.table.Single.{RowOnly, row-used, row-sound, row-rows, row-keys, row-counts, row-high}
 
 -- Two parts with the same words.
 part-copied : (w w′ : List ℕ) (a b n : ℕ) → a + n ≤ length w′ → b + n ≤ length w → ((i : ℕ) → i < n → at w′ (a + i) ≡ at w (b + i)) → part w′ a n ≡ part w b n

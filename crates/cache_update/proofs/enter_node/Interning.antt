@@ -12,8 +12,8 @@ use Rattle.words.specs.Words.{at, tabulate}
 use Rattle.spec_session.specs.Cache.{later}
 use Rattle.work_layout.specs.Layout.{USED}
 use Rattle.work_layout.specs.Rows.{Row, row-of, rows-of, Sound}
-use Rattle.cache_entries.specs.cache_table.Contracts.{find-row, Inserted, Interned}
-use Rattle.cache_entries.proofs.cache_table.Rows.{length-rows, find-low}
+use Rattle.cache_entries.specs.table.Contracts.{find-row, Inserted, Interned}
+use Rattle.cache_entries.proofs.table.Rows.{length-rows, find-low}
 
 -- What is found has the key.
 find-has : (n : ℕ) (f : ℕ → Row) (l r e : ℕ) → find-row l r (tabulate n f) ≡ some e → (f e .left ≡ l) × (f e .right ≡ r)

@@ -55,7 +55,7 @@ use Rattle.session_state.specs.declared.progress.Progress.{Progress}
 use Rattle.session_state.proofs.progress.Progress as S
 use Rattle.session_state.proofs.progress.Progress.Laws as S′
 use Rattle.session_steps.specs.Driven.{Driven}
-use Rattle.session_steps.proofs.session_run.Lending.{lends, comes, twice}
+use Rattle.session_steps.proofs.run_steps.Lending.{lends, comes, twice}
 use Rattle.session_begin.specs.declared.Begun.{Begun}
 use Rattle.session_begin.specs.Begins.{asked, Begins}
 use Rattle.session_begin.proofs.Begun as B
@@ -70,10 +70,10 @@ use Rattle.session_begin.proofs.begin as begin
 use Rattle.session_begin.proofs.begin.Symbol as begin-def
 use Rattle.session_begin.proofs.begin.Symbol.{name as #begin}
 use Rattle.session_begin.proofs.begin.Met as begin-thm
-use Rattle.session_steps.proofs.session_run.run_steps as drive
-use Rattle.session_steps.proofs.session_run.run_steps.Symbol as drive-def
-use Rattle.session_steps.proofs.session_run.run_steps.Symbol.{name as #drive}
-use Rattle.session_steps.proofs.session_run.run_steps.Met as drive-thm
+use Rattle.session_steps.proofs.run_steps.run_steps as drive
+use Rattle.session_steps.proofs.run_steps.run_steps.Symbol as drive-def
+use Rattle.session_steps.proofs.run_steps.run_steps.Symbol.{name as #drive}
+use Rattle.session_steps.proofs.run_steps.run_steps.Met as drive-thm
 use Rattle.session_state.proofs.checkpoints.clear_first as clear
 use Rattle.session_state.proofs.checkpoints.clear_first.Symbol as clear-def
 use Rattle.session_state.proofs.checkpoints.clear_first.Symbol.{name as #clear}
@@ -637,7 +637,7 @@ nikvoldra-session-spec 𝓤 H 𝓜 𝓖 𝓡 =
     (meets 𝓤 H (𝓖 .A) (givenOf 𝓤 H 𝓜 𝓖) (𝓜 .mem) (𝓡 .run) (tablesOf 𝓤 H 𝓜 (tables 𝓤 H 𝓜 𝓡 code.env))
     (cited 𝓤 H (Begin 𝓤 H (𝓖 .A) (givenOf 𝓤 H 𝓜 𝓖) (𝓜 .mem) (𝓡 .run)) 𝓜 𝓡 code.env #begin begin-def.routine code.calls-session-begin·begin
     (begin-thm.met 𝓤 H 𝓜 𝓖 𝓡))
-    (cited 𝓤 H (Drive 𝓤 H (𝓖 .A) (givenOf 𝓤 H 𝓜 𝓖) (𝓜 .mem) (𝓡 .run)) 𝓜 𝓡 code.env #drive drive-def.routine code.calls-session-steps·session-run·run-steps
+    (cited 𝓤 H (Drive 𝓤 H (𝓖 .A) (givenOf 𝓤 H 𝓜 𝓖) (𝓜 .mem) (𝓡 .run)) 𝓜 𝓡 code.env #drive drive-def.routine code.calls-session-steps·run-steps·run-steps
     (drive-thm.met 𝓤 H 𝓜 𝓖 𝓡))
     (cited 𝓤 H (Clear 𝓤 H (𝓖 .A) (givenOf 𝓤 H 𝓜 𝓖) (𝓜 .mem) (𝓡 .run)) 𝓜 𝓡 code.env #clear clear-def.routine code.calls-session-state·checkpoints·clear-first
     (clear-thm.met 𝓤 H 𝓜 𝓖 𝓡))

@@ -1,7 +1,7 @@
 -- `cache_entries::lookup::atom_entry` meets its contract: the entry with the atom's key, or entry 0.
 -- Assumes nothing.
 use mathlib.Core.Path.{ap}
-use Rattle.cache_entries.specs.cache_table.Contracts.{option-of}
+use Rattle.cache_entries.specs.table.Contracts.{option-of}
 use Rattle.cache_entries.proofs.lookup.Entries.{atom-at, atom-none}
 use borrow.Author.Needs.{needs}
 use Rattle.cache_entries.proofs.lookup.atom_entry.Statement.{statement}

@@ -2,7 +2,7 @@
 -- Assumes nothing.
 use mathlib.Core.Path.{sym, ap, _∙_}
 use borrow.Author.Needs.{needs}
-use Rattle.cache_entries.specs.cache_table.Contracts.{option-of}
+use Rattle.cache_entries.specs.table.Contracts.{option-of}
 use Rattle.cache_update.proofs.enter_node.Interning.{found-interned, new-interned}
 use Rattle.cache_update.proofs.enter_node.find_or_add.Statement.{statement}
 use Rattle.cache_update.proofs.enter_node.find_or_add.Tie as tie

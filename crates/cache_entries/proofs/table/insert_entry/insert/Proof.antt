@@ -1,4 +1,4 @@
--- `cache_entries::cache_table::insert_entry::insert` meets its contract: its seven stores add a row at the end and put it first in its chain.
+-- `cache_entries::table::insert_entry::insert` meets its contract: its seven stores add a row at the end and put it first in its chain.
 -- Assumes nothing.
 use mathlib.Core.Path.{refl}
 use native.Mathlib.Omega.{arith}
@@ -6,9 +6,9 @@ use lib.ListN.{length-set}
 use borrow.Author.Needs.{needs}
 use Rattle.words.specs.Words.{at}
 use Rattle.work_layout.specs.Layout.{USED}
-use Rattle.cache_entries.proofs.cache_table.insert_entry.NewEntry.{inserted}
-use Rattle.cache_entries.proofs.cache_table.insert_entry.insert.Statement.{statement}
-use Rattle.cache_entries.proofs.cache_table.insert_entry.insert.Tie as tie
+use Rattle.cache_entries.proofs.table.insert_entry.NewEntry.{inserted}
+use Rattle.cache_entries.proofs.table.insert_entry.insert.Statement.{statement}
+use Rattle.cache_entries.proofs.table.insert_entry.insert.Tie as tie
 
 slot-of-requires : tie.Need-slot-of-requires
 slot-of-requires c κs = search needs

@@ -11,9 +11,9 @@ use Rattle.words.specs.Words.{at, part, tabulate}
 use Rattle.words.proofs.Words.{part-same}
 use Rattle.work_layout.specs.Layout.{USED, COUNTS, LEFT, RIGHT, LOW, HIGH, PARENTS, SEEN, ENTRIES}
 use Rattle.work_layout.specs.Rows.{parent-of, parents-of, row-of, rows-of, with-parents, adjust-row, length-of, Sound, all-counts}
-use Rattle.cache_entries.specs.cache_table.Contracts.{SameKeys}
-use Rattle.cache_entries.proofs.cache_table.Rows.{adjust-tabulate, counts-but}
-use Rattle.cache_entries.proofs.cache_table.Chain.{chained-kept, distinct-kept}
+use Rattle.cache_entries.specs.table.Contracts.{SameKeys}
+use Rattle.cache_entries.proofs.table.Rows.{adjust-tabulate, counts-but}
+use Rattle.cache_entries.proofs.table.Chain.{chained-kept, distinct-kept}
 
 -- From USED on, w′ differs from w in the count and the row of entry e alone.
 pub record RowOnly (w w′ : List ℕ) (e : ℕ) : Type 0 where

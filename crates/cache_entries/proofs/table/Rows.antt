@@ -16,7 +16,7 @@ use Rattle.words.proofs.Words.{tabulate-same, length-tabulate, getD-tabulate}
 use Rattle.spec_session.specs.Cache.{later}
 use Rattle.work_layout.specs.Layout.{USED, COUNTS, LOW, HIGH}
 use Rattle.work_layout.specs.Rows.{Sound, length-of, Row, row-of, rows-of, with-parents, adjust-row, all-counts}
-use Rattle.cache_entries.specs.cache_table.Contracts.{find-row}
+use Rattle.cache_entries.specs.table.Contracts.{find-row}
 
 pub length-rows : (w : List ℕ) → length (rows-of w) ≡ at w USED
 unfolding rows-of

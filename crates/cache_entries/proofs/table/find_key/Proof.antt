@@ -2,9 +2,9 @@
 -- Assumes nothing.
 use mathlib.Core.Logic.{⊎-elim}
 use borrow.Author.Needs.{needs}
-use Rattle.cache_entries.proofs.cache_table.Chain.{Seek, seek-start, seek-found, seek-less, skip-left, skip-right, seek-none}
-use Rattle.cache_entries.proofs.cache_table.find_key.Statement.{statement}
-use Rattle.cache_entries.proofs.cache_table.find_key.Tie as tie
+use Rattle.cache_entries.proofs.table.Chain.{Seek, seek-start, seek-found, seek-less, skip-left, skip-right, seek-none}
+use Rattle.cache_entries.proofs.table.find_key.Statement.{statement}
+use Rattle.cache_entries.proofs.table.find_key.Tie as tie
 
 abbrev Inv-loop : tie.InvT-loop
 Inv-loop work left right slot head₀ head = Seek work left right slot head

@@ -10,8 +10,8 @@ use Rattle.words.specs.Words.{at, part}
 use Rattle.spec_session.specs.Cache.{later, add-parent, move-parents, no-parents}
 use Rattle.work_layout.specs.Layout.{MOVED, USED, LEFT, RIGHT, SEEN, ENTRIES, MAX-PARENTS}
 use Rattle.work_layout.specs.Rows.{Row, rows-of, new-row, adjust-row, parent-of, parents-of, Sound, all-counts}
-use Rattle.cache_entries.specs.declared.cache_table.Found.{Found}
-use Rattle.cache_entries.specs.declared.cache_table.Found.the-variants.{At, Nothing}
+use Rattle.cache_entries.specs.declared.table.Found.{Found}
+use Rattle.cache_entries.specs.declared.table.Found.the-variants.{At, Nothing}
 
 -- The first entry with this key.
 abbrev pub find-row : (left right : ℕ) → List Row → Option ℕ

@@ -18,8 +18,8 @@ use Rattle.spec_session.specs.Cache.{later}
 use Rattle.work_layout.specs.Layout.{USED, COUNTS, LEFT, RIGHT, LOW, HIGH, NEXT, HEADS, PARENTS, SLOTS, ENTRIES}
 use Rattle.work_layout.specs.Rows.{Row, parents-of, row-of, rows-of, new-row, length-of, slot-of, slot-at, prev, Chained, Distinct, Sound}
 use Rattle.work_layout.specs.Prev.{prev-same}
-use Rattle.cache_entries.specs.cache_table.Contracts.{find-row, Inserted}
-use Rattle.cache_entries.proofs.cache_table.Rows.{counts-same, Missing}
+use Rattle.cache_entries.specs.table.Contracts.{find-row, Inserted}
+use Rattle.cache_entries.proofs.table.Rows.{counts-same, Missing}
 
 later-none : (o : Option ℕ) → later o ≡ none → o ≡ none
 later-none none q = refl

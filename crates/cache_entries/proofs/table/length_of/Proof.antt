@@ -1,9 +1,9 @@
 -- `length_of` meets its contract: the length is in two words.
 -- Assumes nothing.
 use borrow.Author.Needs.{needs}
-use Rattle.cache_entries.proofs.cache_table.Rows.{length-is}
-use Rattle.cache_entries.proofs.cache_table.length_of.Statement.{statement}
-use Rattle.cache_entries.proofs.cache_table.length_of.Tie as tie
+use Rattle.cache_entries.proofs.table.Rows.{length-is}
+use Rattle.cache_entries.proofs.table.length_of.Statement.{statement}
+use Rattle.cache_entries.proofs.table.length_of.Tie as tie
 
 wide-requires : tie.Need-wide-requires
 wide-requires c κs = search needs

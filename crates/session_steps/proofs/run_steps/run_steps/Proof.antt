@@ -1,5 +1,5 @@
 -- Written by tools/walks/run_steps.py.
--- `session_steps::session_run::run_steps` meets its contract: a walk of its MIR, with a loop. The records' borrow is opened once, before the loop, and closed once, after it.
+-- `session_steps::run_steps::run_steps` meets its contract: a walk of its MIR, with a loop. The records' borrow is opened once, before the loop, and closed once, after it.
 -- In each turn a record is read and one is stored; between the two `work`, `words` and `output` are lent again for the call of `bounded_step`, and come back.
 -- The loop's state is the values of the slices and the progress, with facts: each list is as long as it was, the progress is one, and what `Between` says.
 -- It falls by `ahead`. Assumes nothing.
@@ -66,8 +66,8 @@ use Rattle.session_state.proofs.progress.Progress.Laws as S′
 use Rattle.session_state.proofs.progress.StepAnswer as R
 use Rattle.session_state.proofs.progress.StepAnswer.Laws as R′
 use Rattle.session_steps.specs.Driven.{Going, Driven}
-use Rattle.session_steps.proofs.session_run.Lending.{lends, comes, twice}
-use Rattle.session_steps.proofs.session_run.Between.{Values, ahead, Slot, Stepped, after-step, goes, stops, Between, at-start, in-rows, ready, goes-on, falls, at-end}
+use Rattle.session_steps.proofs.run_steps.Lending.{lends, comes, twice}
+use Rattle.session_steps.proofs.run_steps.Between.{Values, ahead, Slot, Stepped, after-step, goes, stops, Between, at-start, in-rows, ready, goes-on, falls, at-end}
 use Rattle.session_state.proofs.slot_of as slot-of
 use Rattle.session_state.proofs.slot_of.Symbol as slot-of-def
 use Rattle.session_state.proofs.slot_of.Symbol.{name as #slot-of}
@@ -76,11 +76,11 @@ use Rattle.session_steps.proofs.bounded_step as step
 use Rattle.session_steps.proofs.bounded_step.Symbol as step-def
 use Rattle.session_steps.proofs.bounded_step.Symbol.{name as #step}
 use Rattle.session_steps.proofs.bounded_step.Met as step-thm
-use Rattle.session_steps.proofs.session_run.run_steps.Key.{name as #this}
-use Rattle.session_steps.proofs.session_run.run_steps as this
-use Rattle.session_steps.proofs.session_run.run_steps.Statement as stated
-use Rattle.session_steps.proofs.session_run.run_steps.Code as code
-use Rattle.session_steps.proofs.session_run.run_steps.Code.Mir as body
+use Rattle.session_steps.proofs.run_steps.run_steps.Key.{name as #this}
+use Rattle.session_steps.proofs.run_steps.run_steps as this
+use Rattle.session_steps.proofs.run_steps.run_steps.Statement as stated
+use Rattle.session_steps.proofs.run_steps.run_steps.Code as code
+use Rattle.session_steps.proofs.run_steps.run_steps.Code.Mir as body
 
 abbrev stayed : Stays (this.ended .signature .params) (this.ended .kept)
 stayed = (

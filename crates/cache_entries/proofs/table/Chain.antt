@@ -10,8 +10,8 @@ use Rattle.words.specs.Words.{at}
 use Rattle.work_layout.specs.Layout.{USED, LEFT, RIGHT, NEXT, HEADS, PARENTS, ENTRIES}
 use Rattle.work_layout.specs.Rows.{row-of, rows-of, slot-of, slot-at, prev, Chained, Distinct, Sound}
 use Rattle.work_layout.specs.Prev.{prev-le, prev-prev, prev-slot, prev-same, prev-above}
-use Rattle.cache_entries.specs.cache_table.Contracts.{find-row}
-use Rattle.cache_entries.proofs.cache_table.Rows.{find-none, find-some}
+use Rattle.cache_entries.specs.table.Contracts.{find-row}
+use Rattle.cache_entries.proofs.table.Rows.{find-none, find-some}
 
 -- The chains, and that keys are distinct, rest on the words from LEFT to PARENTS, and on USED.
 module _ (w w′ : List ℕ) (same : (k : ℕ) → LEFT ≤ k → k < PARENTS → at w′ k ≡ at w k) (u : at w′ USED ≡ at w USED) (few : at w USED ≤ ENTRIES) where

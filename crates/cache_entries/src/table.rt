@@ -8,7 +8,7 @@ ghost use Prim.Native.Nat.{_+_, _^_, _≤_, _<_};
 ghost use Rattle.words.specs.Words.{at};
 ghost use Rattle.work_layout.specs.Layout.{USED, COUNTS, MAX-PARENTS};
 ghost use Rattle.work_layout.specs.Rows.{length-of, rows-of, slot-of, Sound};
-ghost use Rattle.cache_entries.specs.cache_table.Contracts.{find-row, option-of};
+ghost use Rattle.cache_entries.specs.table.Contracts.{find-row, option-of};
 
 // A word as a half of a length.
 fn long(x: u32) -> u64

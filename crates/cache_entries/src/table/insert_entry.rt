@@ -7,14 +7,14 @@ ghost use Prim.Native.Nat.{_<_};
 ghost use Rattle.words.specs.Words.{at};
 ghost use Rattle.work_layout.specs.Layout.{USED, ENTRIES};
 ghost use Rattle.work_layout.specs.Rows.{rows-of, Sound};
-ghost use Rattle.cache_entries.specs.cache_table.Contracts.{find-row, Inserted};
+ghost use Rattle.cache_entries.specs.table.Contracts.{find-row, Inserted};
 
 // A new entry with this key, which none has yet, and no parents.
 pub fn insert(work: &mut [u32], left: u32, right: u32, len: u64) -> EntryIndex
     requires { ⌜ (Sound (now work)) × (at (now work) USED < ENTRIES) × (find-row left right (rows-of (now work)) ≡ none) ⌝ }
     ensures { λ x. ⌜ Inserted (now (work .entry)) (now (work .exit)) left right len (x .0) ⌝ }
 {
-    let slot = crate::cache_table::slot_of(left, right);
+    let slot = crate::table::slot_of(left, right);
     let used = work[work_layout::USED];
     let e = wide(used);
     let head = work[work_layout::HEADS + slot];

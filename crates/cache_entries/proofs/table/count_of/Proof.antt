@@ -1,9 +1,9 @@
 -- `count_of` meets its contract: a sound count is at most 100.
 -- Assumes nothing.
 use borrow.Author.Needs.{needs}
-use Rattle.cache_entries.proofs.cache_table.Rows.{count-is}
-use Rattle.cache_entries.proofs.cache_table.count_of.Statement.{statement}
-use Rattle.cache_entries.proofs.cache_table.count_of.Tie as tie
+use Rattle.cache_entries.proofs.table.Rows.{count-is}
+use Rattle.cache_entries.proofs.table.count_of.Statement.{statement}
+use Rattle.cache_entries.proofs.table.count_of.Tie as tie
 
 wide-requires : tie.Need-wide-requires
 wide-requires c κs = search needs
