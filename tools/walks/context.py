@@ -117,7 +117,7 @@ class Walk:
         assert sorted(ns)==sorted(s.ctx),(sorted(ns),sorted(s.ctx))
         s.move(*ns)
     def fork(s): return Walk(s.f,s.ctx,s.N)
-    def text(s,indent,close=True):   # A new line after a comment, before a statement, and where one is full. At the end what is open is closed.
+    def text(s,indent):   # A new line after a comment, before a statement, and where one is full. At the end what is open is closed.
         lines=[]; cur=''
         for o in s.out:
             new=o.startswith('-- ') or o.split(' ')[0] in ('assigns','calls-at','lft-new','lends','land','returns','heard','by')
@@ -126,4 +126,4 @@ class Walk:
             if o.startswith('-- '): lines.append(cur); cur=''
         if cur: lines.append(cur)
         code='\n'.join(l for l in lines if not l.startswith('-- '))
-        return '\n'.join(' '*indent+l for l in lines)+(')'*(code.count('(')-code.count(')')) if close else '')
+        return '\n'.join(' '*indent+l for l in lines)+')'*(code.count('(')-code.count(')'))

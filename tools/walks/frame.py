@@ -1,6 +1,7 @@
 # What stands around a walk: the imports, the parameters, what each call is handed, and the theorem at the end.
 from copy import copy
 from terms import *
+from context import Walk
 from prune import prune
 # The imports, of which a proof keeps those that it uses.
 KIT='''use mathlib.Core.Path.{_≡_, refl, sym, _∙_, ap, subst}
@@ -199,7 +200,7 @@ class Call:
         s.given,s.to,s.passed,s.goes=[par(' '.join([n+s.name,*args])) for n in ('given-','to-','passed-','goes-')]
         return s
     def applied(s,*args): return copy(s).at(args)
-    def text(s,indent,Walk):
+    def text(s,indent):
         to=s.binders+' → ' if s.binders else ''; vs=' '.join(s.vars)
         def d(what,ty,value): return definition(indent,what+s.name,to+ty,value,vs)
         t=d('given-',times(['RefT (%s)'%list_of(a.elem) if isinstance(a,Slice) else a.row.ty for a in s.args]),nest([unpar(a.x) if isinstance(a,Slice) else a.name for a in s.args]))

@@ -1,6 +1,5 @@
 # Writes the proof of round_trip::round_trip to the file that it is given.
 import sys
-from context import *
 from frame import *
 READ=struct('ReadAnswer','Q'); TRIP=struct('RoundTrip','RT')
 SESSION=Callee('Session','call','Rattle.session_call.proofs.nikvoldra_session')
@@ -87,7 +86,7 @@ session=Call(f,SESSION,[Slice(0),Slice(1,'(again₁ δ₁ (x₁ .now))',True),
 SEEN='‵ (ShrSlice (named 0) (ν ∷ []) u8 .own (again₄ δ %s) (v₄ ∷ []))'
 reads=Call(f,READING,[Slice(4,'(again₄ δ o)',True,SEEN%'o',True),Plain(ANSWER,'s','mach-s s','s-is'),Slice(1,'(at-last x₁ w)'),Slice(5),Slice(6),Slice(7)],
     '(o w : List ℕ) (s : SessionAnswer) (ν : ℕ) (δ : GName)',None,'(s-is : Is R.the-row s (mach-s s ∷ []))','ls')
-OPEN=fill(OPEN,ENDS=items(map(item,ENDS)),EXITS=x.text(8),SESSION=session.text(4,Walk),READING=reads.text(4,Walk))
+OPEN=fill(OPEN,ENDS=items(map(item,ENDS)),EXITS=x.text(8),SESSION=session.text(4),READING=reads.text(4))
 
 # ---- The walk. The session leaves work W, the words and records, and the output O; the reading leaves LS.
 W,O='(zs .1 .0)','(zs .1 .1 .1 .1 .0)'

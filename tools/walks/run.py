@@ -1,6 +1,5 @@
 # Writes the proof of run, of the program session, to the file that it is given.
 import sys
-from context import *
 from frame import *
 CALL=Callee('Call','call','Rattle.session_call.proofs.nikvoldra_session')
 f=Frame('run.py','Rattle.session.proofs.run',[('shared','u8'),('given','u32'),('given','u32'),('given','u8')],[CALL])
@@ -54,7 +53,7 @@ x.ends(['f3','f2','f1','x0'],ANSWER,'r','r-is',says=False)
 # The records are slice 9.
 RECORDS='‵ (MutSlice (named 3) (ν ∷ []) T.the-row .own (records %s γ) (sliceVal (%s, 0) 16 ∷ []))'
 call=Call(f,CALL,[Slice(0),Slice(1),Slice(2),Slice(9,'(records l γ)',True,RECORDS%('l','l'),False,'T.the-row','sliceVal (l, 0) 16'),Slice(3)],'(l ν : ℕ) (γ : GName)')
-OPEN=fill(OPEN,CALL=call.text(4,Walk),ENDS=items(map(item,ENDS)),EXITS=x.text(8))
+OPEN=fill(OPEN,CALL=call.text(4),ENDS=items(map(item,ENDS)),EXITS=x.text(8))
 
 w=Walk(f,['toks','owns'])
 w.enter(15)

@@ -1,6 +1,5 @@
 # Writes the proof of session_steps::run_steps::run_steps to the file that it is given.
 import sys
-from context import *
 from frame import *
 STEPPED=struct('StepAnswer','R')
 SLOT=Callee('SlotOf','slot-of','Rattle.session_state.proofs.slot_of')
@@ -238,7 +237,7 @@ LOOP='''      -- The context of a turn, and its postcondition: it ends nearer to
 
 '''
 LOOP=fill(LOOP,AT=locals.chain(all_locals,{**params,7:'mach (i .0 .progress)'},'[]'),START=locals.chain(all_locals,params,'[]'),
-    **{'IS-AT':is_field('at'),'IS-ADDS':is_field('adds')},SLOT=slot.text(8,Walk),STEP=step.text(8,Walk),
+    **{'IS-AT':is_field('at'),'IS-ADDS':is_field('adds')},SLOT=slot.text(8),STEP=step.text(8),
     TURN='\n'.join((turn,on.text(10),over.text(10))),BEGINS=w.text(10))
 
 w=Walk(f,['toks','owns'])

@@ -1,6 +1,5 @@
 # Writes the proof of session_call::nikvoldra_session to the file that it is given.
 import sys
-from context import *
 from frame import *
 BEGUN=struct('Begun','B')
 BEGIN=Callee('Begin','begin','Rattle.session_begin.proofs.begin')
@@ -225,7 +224,7 @@ PARTS='''      -- What `begin` says.
 w=Walk(f,['toks','owns'])
 w.enter(locals.n); w.leave(*HAS,*locals.names)
 w.e('begins '+locals.ids)
-PARTS=fill(PARTS,RUN=now_run,FINISH=finish.text(10,Walk),CLEAR=clear.text(10,Walk),DRIVE=drive.text(8,Walk),BEGIN=begin.text(6,Walk),
+PARTS=fill(PARTS,RUN=now_run,FINISH=finish.text(10),CLEAR=clear.text(10),DRIVE=drive.text(8),BEGIN=begin.text(6),
     LAST=last,THIRD=third,SECOND=second,BEGINS=begins,SQ4=sq('Left w₂ ws₂ cs₃ o₂ '+between(START),'t-20'),
     SQ3=sq('Has w₂ ws₂ cs₂ o₂ '+between({**START,10:'vint w64 (b .records)'}),'t-17'),
     SQ2=sq('Has w₁ (x₂ .now) (x₃ .now) (x₄ .now) '+between({8:'mach-b b'}),'t-6'),
