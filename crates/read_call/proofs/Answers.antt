@@ -17,9 +17,9 @@ use Rattle.spec_reading.specs.Call.{Slices, Result, refusal, zeroed, filled, ro
 use Rattle.read_store.specs.Layout.{VALUES, values-of}
 use Rattle.read_item.specs.Whole.{stored-of, Lent, Ends}
 use Rattle.read_item.specs.declared.settle.Reader.{Reader}
-use Rattle.read_call.specs.declared.read_items.AllRead.{AllRead}
-use Rattle.read_call.specs.declared.read_items.AllRead.the-variants as outcome
-use Rattle.read_call.specs.read_items.AllRead.{start, ReadAll}
+use Rattle.read_call.specs.declared.read_items.Verdict.{Verdict}
+use Rattle.read_call.specs.declared.read_items.Verdict.the-variants as verdict
+use Rattle.read_call.specs.read_items.Verdict.{start, ReadAll}
 use Rattle.read_answer.specs.declared.ReadAnswer.{ReadAnswer}
 use Rattle.read_answer.specs.Answer.{read-answer-of, Counts, read-answer-at, slices}
 use Rattle.read_call.specs.Outcome.{read-result-of, Counted, ended}
@@ -130,19 +130,19 @@ module _ (input w p a b : List ℕ) (r : Reader) (h : Ends input w p a b r) wher
       let na : r .atoms ≡ length (take (2 * r .atoms) a) / 2 = omega (arith, atoms-length) in
       λ i. record { number = 0; root = root i; pairs = np i; atoms = na i; bytes = sym bytes-length i; ghosts = r .ghosts }
 
-pub counted : (input w p a b : List ℕ) (o : AllRead) → ReadAll input w p a b (read-stored input) o → Counted w o
-counted input w p a b (outcome.Accepted r) t = counts input w p a b r (t .ends)
-counted input w p a b (outcome.Refused n) t = tt
+pub counted : (input w p a b : List ℕ) (o : Verdict) → ReadAll input w p a b (read-stored input) o → Counted w o
+counted input w p a b (verdict.Accepted r) t = counts input w p a b r (t .ends)
+counted input w p a b (verdict.Refused n) t = tt
 
 zeroed-same : (l l₁ : List ℕ) → length l₁ ≡ length l → zeroed l₁ ≡ zeroed l
 zeroed-same l l₁ e = ap (λ (n : ℕ). replicate n 0) e
 
 -- What the outcome of all items leaves is what the definition says, where the slices are as long as at the call.
 module _ (input w p a b w₁ p₁ a₁ b₁ : List ℕ) where
-  pub ended-after : (o : AllRead) → ReadAll input w₁ p₁ a₁ b₁ (read-stored input) o
+  pub ended-after : (o : Verdict) → ReadAll input w₁ p₁ a₁ b₁ (read-stored input) o
       → length w₁ ≡ length w → length p₁ ≡ length p → length a₁ ≡ length a → length b₁ ≡ length b
       → (x : Result) → x ≡ ended o (slices w₁ p₁ a₁ b₁) → x ≡ after (read-stored input) (slices w p a b)
-  ended-after (outcome.Accepted r) t lw lp la lb x e =
+  ended-after (verdict.Accepted r) t lw lp la lb x e =
       let l = t .ends .lent in
       e
       ∙ (λ i.
@@ -157,7 +157,7 @@ module _ (input w p a b w₁ p₁ a₁ b₁ : List ℕ) where
             };
       })
       ∙ ap (λ (d : Read Stored). after d (slices w p a b)) (sym (t .same))
-  ended-after (outcome.Refused n) t lw lp la lb x e =
+  ended-after (verdict.Refused n) t lw lp la lb x e =
       e
       ∙ (λ i.
       record {

@@ -1,1 +1,1 @@
-pub mod AllRead
+pub mod Verdict

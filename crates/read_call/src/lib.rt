@@ -3,7 +3,7 @@ mod read_items;
 
 use read_answer::ReadAnswer;
 use read_answer::clear_slices;
-use read_items::AllRead;
+use read_items::Verdict;
 use words::slices;
 ghost use mathlib.Core.Path.{_≡_};
 ghost use mathlib.Core.Bool.{true};
@@ -20,7 +20,7 @@ fn ended(
     pairs: &mut [u32],
     atoms: &mut [u32],
     bytes: &mut [u8],
-    outcome: AllRead,
+    outcome: Verdict,
 ) -> ReadAnswer
     requires { ⌜ Counted (now work) outcome ⌝ }
     ensures { λ r. ⌜
@@ -28,12 +28,12 @@ fn ended(
         ≡ ended outcome (slices (now (work .entry)) (now (pairs .entry)) (now (atoms .entry)) (now (bytes .entry))) ⌝ }
 {
     match outcome {
-        AllRead::Accepted(r) => {
+        Verdict::Accepted(r) => {
             let a = read_answer::answer(work, r);
             slices::clear(work);
             a
         }
-        AllRead::Refused(n) => {
+        Verdict::Refused(n) => {
             clear_slices::clear_all(work, pairs, atoms, bytes);
             read_answer::refusal(n)
         }

@@ -3,10 +3,10 @@ use read_item::Item;
 use read_item::Reader;
 ghost use Rattle.spec_reading.specs.Store.{read-stored};
 ghost use Rattle.read_item.specs.Whole.{Lent};
-ghost use Rattle.read_call.specs.read_items.AllRead.{start, ReadAll};
+ghost use Rattle.read_call.specs.read_items.Verdict.{start, ReadAll};
 
 // What reading gives.
-pub enum AllRead {
+pub enum Verdict {
     Accepted(Reader),
     Refused(u32),
 }
@@ -18,7 +18,7 @@ pub fn read_all(
     pairs: &mut [u32],
     atoms: &mut [u32],
     bytes: &mut [u8],
-) -> AllRead
+) -> Verdict
     requires { ⌜ Lent (now input) (now work) (now pairs) (now atoms) (now bytes) start ⌝ }
     ensures { λ o. ⌜
         ReadAll (now (input .entry)) (now (work .exit)) (now (pairs .exit)) (now (atoms .exit)) (now (bytes .exit))
@@ -41,13 +41,13 @@ pub fn read_all(
                 r = next;
             }
             Item::Whole(last) => {
-                return AllRead::Accepted(last);
+                return Verdict::Accepted(last);
             }
             Item::Refused(n) => {
-                return AllRead::Refused(n);
+                return Verdict::Refused(n);
             }
         }
         left -= 1;
     }
-    AllRead::Refused(14)
+    Verdict::Refused(14)
 }

@@ -6,14 +6,14 @@ use mathlib.Core.List.{List}
 use borrow.Author.Needs.{needs}
 use Rattle.spec_reading.specs.Call.{Result}
 use Rattle.read_answer.specs.Answer.{slices}
-use Rattle.read_call.specs.declared.read_items.AllRead.{AllRead}
+use Rattle.read_call.specs.declared.read_items.Verdict.{Verdict}
 use Rattle.read_call.specs.Outcome.{Counted, ended}
 use Rattle.read_call.proofs.ended.Statement.{statement}
 use Rattle.read_call.proofs.ended.Tie as tie
 
 -- What a known outcome leaves is what the outcome leaves.
-told : (w p a b : List ℕ) (o o′ : AllRead) (x : Result) → o ≡ o′ → x ≡ ended o′ (slices w p a b) → x ≡ ended o (slices w p a b)
-told w p a b o o′ x e h = h ∙ ap (λ (y : AllRead). ended y (slices w p a b)) (sym e)
+told : (w p a b : List ℕ) (o o′ : Verdict) (x : Result) → o ≡ o′ → x ≡ ended o′ (slices w p a b) → x ≡ ended o (slices w p a b)
+told w p a b o o′ x e h = h ∙ ap (λ (y : Verdict). ended y (slices w p a b)) (sym e)
 
 enum-known-outcome : tie.Need-enum-known-outcome
 enum-known-outcome c = search needs
@@ -21,7 +21,7 @@ enum-known-outcome c = search needs
 answer-requires : tie.Need-answer-requires
 answer-requires c κs =
     let start = c .before .before .before .before .before .before .before .before in
-    subst (λ (o : AllRead). Counted (start .args .work .now) o) (c .before .before .outcome .given .1) (start .pre)
+    subst (λ (o : Verdict). Counted (start .args .work .now) o) (c .before .before .outcome .given .1) (start .pre)
 
 clear-requires : tie.Need-clear-requires
 clear-requires c κs = search needs

@@ -14,8 +14,8 @@ use Rattle.read_item.specs.Step.{Stepped}
 use Rattle.read_item.specs.declared.settle.Reader.{Reader}
 use Rattle.read_item.specs.declared.settle.Item.{Item}
 use Rattle.read_item.specs.declared.settle.Item.the-variants as item
-use Rattle.read_call.specs.declared.read_items.AllRead.the-variants as outcome
-use Rattle.read_call.specs.read_items.AllRead.{start, ReadAll}
+use Rattle.read_call.specs.declared.read_items.Verdict.the-variants as verdict
+use Rattle.read_call.specs.read_items.Verdict.{start, ReadAll}
 
 run-more : (left : ℕ) (a : At Stored) → 0 < left → run store-values left a ≡ then store-values (step store-values a) (λ b. run store-values (left - 1) b)
 unfolding run
@@ -35,7 +35,7 @@ reads-start input w p a b l = record { stands = record { lent = l; sound = sound
 
 module _ (input w p a b : List ℕ) (r : Reader) (left : ℕ) (h : Reads input w p a b r left) where
   -- No item is left.
-  pub reads-none : left ≡ 0 → ReadAll input w p a b (read-stored input) (outcome.Refused 14)
+  pub reads-none : left ≡ 0 → ReadAll input w p a b (read-stored input) (verdict.Refused 14)
   unfolding run
   reads-none e = record { same = h .same ∙ ap (λ (m : ℕ). run store-values m (reader-at input w p a b r)) e; ends = tt }
 
@@ -51,12 +51,12 @@ module _ (input w p a b : List ℕ) (r : Reader) (left : ℕ) (h : Reads input w
         let t = subst (λ (j : Item). Stepped input w p a b r w′ p′ a′ b′ j) e s in
         record { stands = t .stands; same = stepped (item.Go r′) t }
 
-    pub reads-whole : (i : Item) (r′ : Reader) → i ≡ item.Whole r′ → Stepped input w p a b r w′ p′ a′ b′ i → ReadAll input w′ p′ a′ b′ (read-stored input) (outcome.Accepted r′)
+    pub reads-whole : (i : Item) (r′ : Reader) → i ≡ item.Whole r′ → Stepped input w p a b r w′ p′ a′ b′ i → ReadAll input w′ p′ a′ b′ (read-stored input) (verdict.Accepted r′)
     reads-whole i r′ e s =
         let t = subst (λ (j : Item). Stepped input w p a b r w′ p′ a′ b′ j) e s in
         record { same = stepped (item.Whole r′) t; ends = t .stands }
 
-    pub reads-refused : (i : Item) (n : ℕ) → i ≡ item.Refused n → Stepped input w p a b r w′ p′ a′ b′ i → ReadAll input w′ p′ a′ b′ (read-stored input) (outcome.Refused n)
+    pub reads-refused : (i : Item) (n : ℕ) → i ≡ item.Refused n → Stepped input w p a b r w′ p′ a′ b′ i → ReadAll input w′ p′ a′ b′ (read-stored input) (verdict.Refused n)
     reads-refused i n e s =
         let t = subst (λ (j : Item). Stepped input w p a b r w′ p′ a′ b′ j) e s in
         record { same = stepped (item.Refused n) t; ends = tt }
