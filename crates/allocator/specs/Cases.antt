@@ -31,6 +31,7 @@ fit = refl
 
 -- A zero alone, a zero too many, a negative number, a number of 27 bits, and `foobar`.
 fit-not :
-    map fits-in-small-atom ((0x00 ∷ []) ∷ (0x00 ∷ 0x7f ∷ []) ∷ (0x80 ∷ []) ∷ (0x04 ∷ 0x00 ∷ 0x00 ∷ 0x00 ∷ []) ∷ (0x66 ∷ 0x6f ∷ 0x6f ∷ 0x62 ∷ 0x61 ∷ 0x72 ∷ []) ∷ []) ≡ none ∷ none ∷ none ∷ none ∷ none ∷ []
+    map fits-in-small-atom ((0x00 ∷ []) ∷ (0x00 ∷ 0x7f ∷ []) ∷ (0x80 ∷ []) ∷ (0x04 ∷ 0x00 ∷ 0x00 ∷ 0x00 ∷ []) ∷ (0x66 ∷ 0x6f ∷ 0x6f ∷ 0x62 ∷ 0x61 ∷ 0x72 ∷ []) ∷ [])
+    ≡ none ∷ none ∷ none ∷ none ∷ none ∷ []
 unfolding fits-in-small-atom is-small-atom small-bytes len-for-value further-bytes big-endian number-after
 fit-not = refl

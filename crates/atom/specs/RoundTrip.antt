@@ -63,7 +63,9 @@ ones-split (suc k) b zero h e l =
 
     c : suc k - 1 - 0 ≡ k
     c = omega arith
-ones-split (suc k) b (suc w) h e l = by-lt b (2 ^ k) (λ q. absurd (omega (arith, no-one k b q))) (λ q. step q (ones-split k (b - 2 ^ k) w (omega (arith, power-next k)) (omega (arith, one-more k b q)) (omega arith)))
+ones-split (suc k) b (suc w) h e l =
+    by-lt b (2 ^ k) (λ q. absurd (omega (arith, no-one k b q)))
+    (λ q. step q (ones-split k (b - 2 ^ k) w (omega (arith, power-next k)) (omega (arith, one-more k b q)) (omega arith)))
   where
     a : suc k - suc w ≡ k - w
     a = omega arith
@@ -90,7 +92,9 @@ first-byte (suc k) n =
 
 -- The bits for the size: those left in the first byte and all of the others. One computed test over the widths.
 bits-are : (w : ℕ) → 1 ≤ w → w ≤ 5 → 2 ^ size-bits w ≡ 2 ^ (7 - w) * 256 ^ (w - 1)
-bits-are w h l = sym (table-at (λ n. 2 ^ size-bits n) 5 (tabulate 5 (λ k. 2 ^ size-bits (suc k))) refl w h l) ∙ table-at (λ n. 2 ^ (7 - n) * 256 ^ (n - 1)) 5 (tabulate 5 (λ k. 2 ^ size-bits (suc k))) same w h l
+bits-are w h l =
+    sym (table-at (λ n. 2 ^ size-bits n) 5 (tabulate 5 (λ k. 2 ^ size-bits (suc k))) refl w h l)
+    ∙ table-at (λ n. 2 ^ (7 - n) * 256 ^ (n - 1)) 5 (tabulate 5 (λ k. 2 ^ size-bits (suc k))) same w h l
   where
     same : tabulate 5 (λ k. 2 ^ (7 - suc k) * 256 ^ (suc k - 1)) ≡ tabulate 5 (λ k. 2 ^ size-bits (suc k))
     same = unfold tabulate in refl
@@ -380,7 +384,9 @@ module _ (b : ℕ) (bs : List ℕ) (byte : b < 256) (bytes : Bytes bs) (big : 0x
       ∙ big-endian-number (take w all) (all-take (λ (x : ℕ). x < 256) w all (byte, bytes))
 
   encoded : encode (take n (drop w all)) ≡ some (take (w + n) all)
-  encoded = unfold atom in encode-some atom w shortest ∙ ap (λ (k : ℕ). some (prefix w k ++ atom)) atom-length ∙ ap (λ (l : List ℕ). some (l ++ atom)) same-prefix ∙ ap {B = Option (List ℕ)} some (sym (take-add w n all))
+  encoded = unfold atom in
+      encode-some atom w shortest ∙ ap (λ (k : ℕ). some (prefix w k ++ atom)) atom-length
+      ∙ ap (λ (l : List ℕ). some (l ++ atom)) same-prefix ∙ ap {B = Option (List ℕ)} some (sym (take-add w n all))
 
 parsed-encoded : (b : ℕ) (bs : List ℕ) (a e : ℕ) → b < 256 → Bytes bs → 0x80 ≤ b → (z : Size) → decode-size (b ∷ bs) ≡ z → whole z (length (b ∷ bs)) ≡ blob a e
     → encode (blob-of (b ∷ bs) (blob a e)) ≡ some (take e (b ∷ bs))

@@ -16,7 +16,9 @@ use Rattle.allocator.specs.SmallAtomLaws.{fits-some}
 use Rattle.spec_reading.specs.Tree.{Tree, atom, cons, follow, as-list}
 use Rattle.spec_reading.specs.Format.{ParseOp, SExp, Cons, Read, accepted, turned-down}
 use Rattle.spec_reading.specs.Plain.{Plain, no-trees, found, join-trees, plain-values, read-plain}
-use Rattle.spec_reading.specs.Store.{Store, Value, Stored, Led, Listed, pair-count, atom-count, nothing-stored, new-pair, new-listed, small-or-listed, push-made, add-ghost, remove-ghost, join-values, walk, node-handle, add-to-list, list-of, lead, push-led, store-values, read-stored}
+use Rattle.spec_reading.specs.Store.{Store, Value, Stored, Led, Listed, pair-count, atom-count, nothing-stored, new-pair, new-listed}
+use Rattle.spec_reading.specs.Store.{small-or-listed, push-made, add-ghost, remove-ghost, join-values, walk, node-handle, add-to-list, list-of}
+use Rattle.spec_reading.specs.Store.{lead, push-led, store-values, read-stored}
 use Rattle.spec_reading.specs.Sound.{Holds, Sound, Relist, SoundOption, sound-start, sound-pair, sound-atom, sound-path, sound-join, relist, lead-known, below-holds, two-more}
 use Rattle.spec_reading.specs.Names.{Names, small, listed, paired, NamesHandle, start-of, end-of, right-of, names-nil, Extends, extends-refl, extends-trans, names-more}
 use Rattle.spec_reading.specs.Same.{BothOrNone, Alike, SameRead, read-same}

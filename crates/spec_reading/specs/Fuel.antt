@@ -48,7 +48,9 @@ module _ {S : Type 0} (keep : Values S) where
   next-shorter (b ∷ rest) ops s = choose (eqb b 0xff) (eqb b 0xfe)
     where
       choose : (f g : Bool)
-          → Shorter (suc (length rest)) (cond f (go (record { rest = rest; ops = SExp ∷ Cons ∷ ops; values = s })) (cond g (path-item keep (parse rest) rest ops s) (atom-item keep (parse (b ∷ rest)) (b ∷ rest) ops s)))
+          → Shorter (suc (length rest))
+          (cond f (go (record { rest = rest; ops = SExp ∷ Cons ∷ ops; values = s }))
+          (cond g (path-item keep (parse rest) rest ops s) (atom-item keep (parse (b ∷ rest)) (b ∷ rest) ops s)))
       choose true g = omega arith
       choose false true = path-shorter rest ops s (parse rest)
       choose false false = atom-shorter (b ∷ rest) ops s (parse (b ∷ rest)) refl

@@ -10,7 +10,8 @@ use lib.ListN.{length, drop, length-drop}
 use Rattle.words.specs.Lists.{Bytes, all-drop}
 use Rattle.atom.specs.Parse.{Parse, blob, refused, parse, blob-of}
 use Rattle.path.specs.Bytes.{read-path}
-use Rattle.spec_reading.specs.Format.{Values, ParseOp, SExp, Cons, At, Step, go, whole, stop, Read, accepted, turned-down, at-end, settle, pushed, atom-item, path-item, item, next-item, step, then, run, read}
+use Rattle.spec_reading.specs.Format.{Values, ParseOp, SExp, Cons, At, Step, go, whole, stop, Read, accepted, turned-down, at-end, settle}
+use Rattle.spec_reading.specs.Format.{pushed, atom-item, path-item, item, next-item, step, then, run, read}
 use Rattle.spec_reading.specs.Blobs.{blob-within, length-blob, bytes-blob}
 
 -- Both are there and related, or neither is.

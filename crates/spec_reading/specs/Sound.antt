@@ -14,7 +14,9 @@ use Rattle.allocator.specs.HandleLaws.{node-of-pair, node-of-listed-atom, node-
 use Rattle.allocator.specs.SmallAtom.{fits-in-small-atom}
 use Rattle.allocator.specs.SmallAtomLaws.{fits-some}
 use Rattle.spec_reading.specs.Format.{ParseOp, SExp, Cons}
-use Rattle.spec_reading.specs.Store.{Store, Made, Value, Stored, Led, Listed, pair-count, atom-count, nothing-stored, new-pair, new-listed, small-or-listed, push-made, remove-ghost, join-values, pick-word, walk, node-handle, add-to-list, list-of, lead, push-led, store-values}
+use Rattle.spec_reading.specs.Store.{Store, Made, Value, Stored, Led, Listed, pair-count, atom-count, nothing-stored, new-pair, new-listed}
+use Rattle.spec_reading.specs.Store.{small-or-listed, push-made, remove-ghost, join-values, pick-word, walk, node-handle, add-to-list, list-of}
+use Rattle.spec_reading.specs.Store.{lead, push-led, store-values}
 
 -- ---- what is left to do
 

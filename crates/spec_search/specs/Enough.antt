@@ -8,7 +8,8 @@ use mathlib.Core.Option.{Option, none}
 use native.Mathlib.Omega.{arith}
 use lib.ListN.{length}
 use lib.Seq.{append-snoc}
-use Rattle.spec_search.specs.Search.{Trail, at-entry, at-stack, Parents, Stepped, result, stays, dropped, capped, most-visits, Passed, found, gone, left, step, last-first, goes-on, walk, then, passes, search}
+use Rattle.spec_search.specs.Search.{Trail, at-entry, at-stack, Parents, Stepped, result, stays, dropped, capped, most-visits, Passed, found}
+use Rattle.spec_search.specs.Search.{gone, left, step, last-first, goes-on, walk, then, passes, search}
 use Rattle.words.specs.Choice.{by-lt}
 use Rattle.words.specs.Lists.{All, all-append, all-map}
 use Rattle.spec_search.specs.Lists.{all-last-first, size, AtLeast, Longer, shorts, shorts-short, shorts-long, shorts-append, shorts-last-first, shorts-all-long, shorts-le-length}

@@ -10,10 +10,13 @@ use native.Mathlib.Omega.{arith}
 use lib.ListN.{length}
 use lib.Dec.{ltb}
 use borrow.Author.Tests.{lt-ltb, le-ltb}
-use Rattle.spec_search.specs.Search.{Trail, at-entry, at-stack, Parents, Stepped, result, stays, dropped, capped, member, distance, most-visits, upward, sideward, moves, visit, Passed, found, gone, left, step, last-first, goes-on, walk, then, passes, search}
+use Rattle.spec_search.specs.Search.{Trail, at-entry, at-stack, Parents, Stepped, result, stays, dropped, capped, member, distance, most-visits}
+use Rattle.spec_search.specs.Search.{upward, sideward, moves, visit, Passed, found, gone, left, step, last-first, goes-on, walk, then, passes}
+use Rattle.spec_search.specs.Search.{search}
 use Rattle.words.specs.Choice.{by-cond, by-lt}
 use Rattle.words.specs.Lists.{All, all-append, all-map}
-use Rattle.spec_search.specs.Lists.{all-last-first, size, AtLeast, Longer, shorts, shorts-short, shorts-long, shorts-append, shorts-last-first, shorts-all-long, shorts-le-length, long-of-no-shorts}
+use Rattle.spec_search.specs.Lists.{all-last-first, size, AtLeast, Longer, shorts, shorts-short, shorts-long, shorts-append, shorts-last-first}
+use Rattle.spec_search.specs.Lists.{shorts-all-long, shorts-le-length, long-of-no-shorts}
 
 -- ---- the walk's equations
 

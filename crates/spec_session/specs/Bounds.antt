@@ -15,7 +15,9 @@ use Rattle.path.specs.Bytes.{bit}
 use Rattle.allocator.specs.Handle.{Node, pair, listed-atom, small-atom, unknown, node-of, handle-of}
 use Rattle.spec_session.specs.File.{File, Pair, Step, add, restore}
 use Rattle.spec_session.specs.Unfold.{Unfolded, hole, leaf, node, is-sentinel, named-by, unfold-with, unfold-pairs, unfolded}
-use Rattle.spec_session.specs.Cache.{Key, Parent, Entry, Cache, same-key, later, find-key, lookup, adjust, parents-at, add-parent, move-parents, no-parents, new-entry, with-entries, keep-or-add, find-or-add, link-pair, join-pair, known-or, fresh, enter, sentinel-parents, clear-sentinel, place-root, update}
+use Rattle.spec_session.specs.Cache.{Key, Parent, Entry, Cache, same-key, later, find-key, lookup, adjust, parents-at, add-parent, move-parents}
+use Rattle.spec_session.specs.Cache.{no-parents, new-entry, with-entries, keep-or-add, find-or-add, link-pair, join-pair, known-or, fresh}
+use Rattle.spec_session.specs.Cache.{enter, sentinel-parents, clear-sentinel, place-root, update}
 use Rattle.spec_session.specs.Items.{Item}
 use Rattle.spec_session.specs.Writer.{Todo, parse, Outcome, done, stopped, refused, resume, Session, start, Added, added, turned-down, settle, add-at, add-tree}
 use Rattle.spec_session.specs.Trees.{nth}

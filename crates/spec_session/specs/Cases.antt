@@ -54,7 +54,8 @@ unfolding run-steps unfolded enter update write resume find-in walk passes searc
 whole-short = refl
 
 -- The call: number 0, two steps, ten bytes; whatever the slices held, they hold the words and the bytes, and zero past them. (Question 1 is left out.)
-whole-call : after-file {C = ℕ} 0 version-1 counted (file version-1 whole-case) (record { work = 7 ∷ 8 ∷ []; words = 1 ∷ 2 ∷ 3 ∷ []; checkpoints = 4 ∷ []; output = 5 ∷ 5 ∷ 5 ∷ 5 ∷ 5 ∷ 5 ∷ 5 ∷ 5 ∷ 5 ∷ 5 ∷ 5 ∷ 5 ∷ [] })
+whole-call : after-file {C = ℕ} 0 version-1 counted (file version-1 whole-case)
+    (record { work = 7 ∷ 8 ∷ []; words = 1 ∷ 2 ∷ 3 ∷ []; checkpoints = 4 ∷ []; output = 5 ∷ 5 ∷ 5 ∷ 5 ∷ 5 ∷ 5 ∷ 5 ∷ 5 ∷ 5 ∷ 5 ∷ 5 ∷ 5 ∷ [] })
     ≡ record {
       answer = record { number = 0; steps = 2; size = 10 };
       slices =
@@ -65,7 +66,8 @@ whole-call : after-file {C = ℕ} 0 version-1 counted (file version-1 whole-case
             output = 0xff ∷ 0x86 ∷ 0x66 ∷ 0x6f ∷ 0x6f ∷ 0x62 ∷ 0x61 ∷ 0x72 ∷ 0xfe ∷ 0x02 ∷ 0 ∷ 0 ∷ [];
           };
     }
-unfolding file atoms pairs steps number-after fits-in-small-atom is-small-atom further-bytes run-steps unfolded enter update write resume find-in walk passes search node-of handle-of serialized-length encode prefix-width first-width path-bytes octets big-endian
+unfolding file atoms pairs steps number-after fits-in-small-atom is-small-atom further-bytes run-steps unfolded enter update write resume find-in walk passes search node-of handle-of
+    serialized-length encode prefix-width first-width path-bytes octets big-endian
 whole-call = refl
 
 -- ---- (abc . abc) is `ff 83 61 62 63 fe 02`; (ab . ab) is `ff 82 61 62 82 61 62`: abc and ab are small atoms
@@ -74,11 +76,13 @@ abbrev twice : ℕ → File
 twice value = record { atoms = []; pairs = record { left = 0x8000000 + value; right = 0x8000000 + value } ∷ []; sentinel = none; steps = add 0 ∷ [] }
 
 abc-bytes : output (run (twice 0x616263) .last .written .items) ≡ 0xff ∷ 0x83 ∷ 0x61 ∷ 0x62 ∷ 0x63 ∷ 0xfe ∷ 0x02 ∷ []
-unfolding run-steps unfolded enter update write resume find-in walk passes search node-of handle-of serialized-length encode prefix-width first-width path-bytes octets big-endian small-bytes len-for-value further-bytes
+unfolding run-steps unfolded enter update write resume find-in walk passes search node-of handle-of
+    serialized-length encode prefix-width first-width path-bytes octets big-endian small-bytes len-for-value further-bytes
 abc-bytes = refl
 
 ab-bytes : output (run (twice 0x6162) .last .written .items) ≡ 0xff ∷ 0x82 ∷ 0x61 ∷ 0x62 ∷ 0x82 ∷ 0x61 ∷ 0x62 ∷ []
-unfolding run-steps unfolded enter update write resume find-in walk passes search node-of handle-of serialized-length encode prefix-width first-width path-bytes octets big-endian small-bytes len-for-value further-bytes
+unfolding run-steps unfolded enter update write resume find-in walk passes search node-of handle-of
+    serialized-length encode prefix-width first-width path-bytes octets big-endian small-bytes len-for-value further-bytes
 ab-bytes = refl
 
 -- ---- ((foobar . foobar) . (foobar . foobar)): the second half is a reference
@@ -112,18 +116,21 @@ undone =
     }
 
 undone-words : run undone .words ≡ 4 ∷ 25 ∷ 4 ∷ 29 ∷ []
-unfolding undone run-steps unfolded enter update write resume find-in walk passes search node-of handle-of serialized-length encode prefix-width first-width path-bytes octets big-endian small-bytes len-for-value further-bytes
+unfolding undone run-steps unfolded enter update write resume find-in walk passes search node-of handle-of
+    serialized-length encode prefix-width first-width path-bytes octets big-endian small-bytes len-for-value further-bytes
 undone-words = refl
 
 undone-bytes : output (run undone .last .written .items)
     ≡ 0xff ∷ 0xff ∷ 0xff ∷ 0x86 ∷ 0x66 ∷ 0x6f ∷ 0x6f ∷ 0x62 ∷ 0x61 ∷ 0x72 ∷ 0x80 ∷ 0x80 ∷ 0xfe ∷ 0x04 ∷ []
-unfolding undone run-steps unfolded enter update write resume find-in walk passes search node-of handle-of serialized-length encode prefix-width first-width path-bytes octets big-endian small-bytes len-for-value further-bytes
+unfolding undone run-steps unfolded enter update write resume find-in walk passes search node-of handle-of
+    serialized-length encode prefix-width first-width path-bytes octets big-endian small-bytes len-for-value further-bytes
 undone-bytes = refl
 
 -- ((C . nil) . C), where the plain filling of A and C is ((C . nil) . B).
 undone-read : read-items (run undone .last .written .items)
     ≡ some (cons (cons (cons (atom foobar) (atom [])) (atom [])) (cons (atom foobar) (atom [])))
-unfolding undone bind run-steps unfolded enter update write resume find-in walk passes search node-of handle-of serialized-length encode prefix-width first-width path-bytes octets big-endian small-bytes len-for-value further-bytes
+unfolding undone bind run-steps unfolded enter update write resume find-in walk passes search node-of handle-of
+    serialized-length encode prefix-width first-width path-bytes octets big-endian small-bytes len-for-value further-bytes
 undone-read = refl
 
 -- ---- why no pair above the sentinel may occur in a later tree: P = (S . nil) is added, then (foobar . (1 . (2 . (P . foobar)))), then 3
@@ -144,11 +151,13 @@ again =
     }
 
 again-words : run again .words ≡ 2 ∷ 30 ∷ 41 ∷ []
-unfolding again run-steps unfolded enter update write resume find-in walk passes search node-of handle-of serialized-length encode prefix-width first-width path-bytes octets big-endian small-bytes len-for-value further-bytes
+unfolding again run-steps unfolded enter update write resume find-in walk passes search node-of handle-of
+    serialized-length encode prefix-width first-width path-bytes octets big-endian small-bytes len-for-value further-bytes
 again-words = refl
 
 again-read : read-items (run again .last .written .items) ≡ none
-unfolding again bind run-steps unfolded enter update write resume find-in walk passes search node-of handle-of serialized-length encode prefix-width first-width path-bytes octets big-endian small-bytes len-for-value further-bytes
+unfolding again bind run-steps unfolded enter update write resume find-in walk passes search node-of handle-of
+    serialized-length encode prefix-width first-width path-bytes octets big-endian small-bytes len-for-value further-bytes
 again-read = refl
 
 -- ---- why a tree may have no second open place: X = (S . S), and (X . foobar), (foobar . nil), (1 . 2) are added; 1 is read for foobar
@@ -174,5 +183,6 @@ two-filled = refl
 
 two-read : read-items (run two .last .written .items)
     ≡ some (cons (cons (cons (atom foobar) (atom [])) (cons (atom (1 ∷ [])) (atom (2 ∷ [])))) (atom (1 ∷ [])))
-unfolding two bind run-steps unfolded enter update write resume find-in walk passes search node-of handle-of serialized-length encode prefix-width first-width path-bytes octets big-endian small-bytes len-for-value further-bytes
+unfolding two bind run-steps unfolded enter update write resume find-in walk passes search node-of handle-of
+    serialized-length encode prefix-width first-width path-bytes octets big-endian small-bytes len-for-value further-bytes
 two-read = refl

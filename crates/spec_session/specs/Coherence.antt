@@ -94,8 +94,13 @@ module _ (f : File) (table : List Unfolded) where
 
       case : (i : ℕ) (u : Unfolded) → (nth rows i ≡ some u) ⊎ ((i ≡ length rows) × (u ≡ new)) → RowOK i u
       case i u (inl h) = ok i u h
-      case i u (inr h) =
-          (unfold-with f rows (p .left), unfold-with f rows (p .right), rw (h .0) (h .1 ∙ ap (λ n. node n (unfold-with f rows (p .left)) (unfold-with f rows (p .right))) (pair-handle (length rows))), named-ok rows within ok (p .left), named-ok rows within ok (p .right))
+      case i u (inr h) = (
+        unfold-with f rows (p .left),
+        unfold-with f rows (p .right),
+        rw (h .0) (h .1 ∙ ap (λ n. node n (unfold-with f rows (p .left)) (unfold-with f rows (p .right))) (pair-handle (length rows))),
+        named-ok rows within ok (p .left),
+        named-ok rows within ok (p .right),
+      )
 
       more : RowsOK (rows ++ new ∷ [])
       more i u h = case i u (nth-snoc rows new i u h)

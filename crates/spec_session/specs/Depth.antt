@@ -15,7 +15,9 @@ use Rattle.spec_session.specs.File.{File, Step}
 use Rattle.spec_session.specs.Unfold.{Unfolded, hole, leaf, node, unfolded}
 use Rattle.spec_session.specs.Cache.{Cache, update}
 use Rattle.spec_session.specs.Items.{Item, cons-item, atom-item, reference-item, size-of}
-use Rattle.spec_session.specs.Writer.{Todo, parse, close, Written, Outcome, done, stopped, refused, and-then, atom-entry, pair-entry, push, pop2, close-up, choose, put-if, put, put-whole, write, resume, Session, start, Added, added, turned-down, settle, add-at, add-tree}
+use Rattle.spec_session.specs.Writer.{Todo, parse, close, Written, Outcome, done, stopped, refused, and-then, atom-entry, pair-entry, push}
+use Rattle.spec_session.specs.Writer.{pop2, close-up, choose, put-if, put, put-whole, write, resume, Session, start, Added, added, turned-down}
+use Rattle.spec_session.specs.Writer.{settle, add-at, add-tree}
 use Rattle.spec_session.specs.Trees.{nth}
 use Rattle.spec_session.specs.FindPath.{find-in}
 use Rattle.spec_session.specs.Steps.{open-pairs, room-in, UndoState, undo-state, restored, run-steps}

@@ -10,11 +10,15 @@ use lib.ListN.{length}
 use Rattle.spec_reading.specs.Tree.{Tree, place, atom, cons}
 use Rattle.spec_session.specs.Unfold.{Unfolded, hole, leaf, node, tree-of}
 use Rattle.spec_session.specs.Premises.{opens}
-use Rattle.spec_session.specs.Cache.{sentinel-key, atom-key, pair-key, Key, Parent, Cache, same-key, find-key, lookup, adjust, length-at, pair-length, add-parent, move-parents, no-parents, new-entry, with-entries, keep-or-add, find-or-add, meet-sentinel, link-pair, join-pair, known-or, enter, sentinel-parents, clear-sentinel, place-root, update}
+use Rattle.spec_session.specs.Cache.{sentinel-key, atom-key, pair-key, Key, Parent, Cache, same-key, find-key, lookup, adjust, length-at}
+use Rattle.spec_session.specs.Cache.{pair-length, add-parent, move-parents, no-parents, new-entry, with-entries, keep-or-add, find-or-add}
+use Rattle.spec_session.specs.Cache.{meet-sentinel, link-pair, join-pair, known-or, enter, sentinel-parents, clear-sentinel, place-root, update}
 use Rattle.words.specs.Lists.{same-refl}
 use Rattle.atom.specs.Write.{serialized-length}
 use Rattle.spec_session.specs.Trees.{nth, nth-append, nth-end, nth-map, plug, plug-closed}
-use Rattle.spec_session.specs.Cached.{LinksOK, KeyOK, Good, Sub, find-append, find-end, find-adjust, lookup-append, lookup-end, lookup-new, good-len, good-mono, good-length, good-new, good-adjust, good-parents, good-find, good-plug, links-mono, links-add, links-move}
+use Rattle.spec_session.specs.Cached.{LinksOK, KeyOK, Good, Sub, find-append, find-end, find-adjust, lookup-append, lookup-end, lookup-new}
+use Rattle.spec_session.specs.Cached.{good-len, good-mono, good-length, good-new, good-adjust, good-parents, good-find, good-plug, links-mono}
+use Rattle.spec_session.specs.Cached.{links-add, links-move}
 use Rattle.spec_session.specs.Items.{full-size}
 
 -- The handle h has an entry that stands for v.

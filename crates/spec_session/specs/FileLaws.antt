@@ -14,7 +14,8 @@ use Rattle.words.specs.Words.{part}
 use Rattle.words.specs.BigEndian.{number}
 use Rattle.allocator.specs.Handle.{node-of}
 use Rattle.allocator.specs.SmallAtom.{fits-in-small-atom}
-use Rattle.spec_session.specs.File.{Got, got, refused, and-then, asked, bytes-of, field, count, version-1, listed, atom, atoms, named, handle, Pair, one-pair, pairs, sentinel, Step, add, restore, operand, one-step, steps, File}
+use Rattle.spec_session.specs.File.{Got, got, refused, and-then, asked, bytes-of, field, count, version-1, listed, atom, atoms, named, handle}
+use Rattle.spec_session.specs.File.{Pair, one-pair, pairs, sentinel, Step, add, restore, operand, one-step, steps, File}
 use Rattle.spec_session.specs.Places.{SentinelNamed, StepIs, StepNamed, step-size}
 
 not-refused : {A : Type 0} (n : ℕ) (a : A) (r : List ℕ) → _≡_ {A = Got A} (refused n) (got a r) → ⊥

@@ -11,7 +11,9 @@ use Rattle.words.specs.Lists.{All, all-append, all-map}
 use Rattle.spec_session.specs.Unfold.{Unfolded, hole, leaf, node}
 use Rattle.spec_session.specs.Cache.{Cache, update}
 use Rattle.spec_session.specs.Items.{Item, cons-item, atom-item, reference-item}
-use Rattle.spec_session.specs.Writer.{Todo, parse, close, Written, Outcome, done, stopped, refused, and-then, atom-entry, pair-entry, push, pop2, close-up, choose, put-if, put, put-whole, write, resume, Session, start, Added, added, turned-down, settle, add-at, add-tree, onward, add-all}
+use Rattle.spec_session.specs.Writer.{Todo, parse, close, Written, Outcome, done, stopped, refused, and-then, atom-entry, pair-entry, push}
+use Rattle.spec_session.specs.Writer.{pop2, close-up, choose, put-if, put, put-whole, write, resume, Session, start, Added, added, turned-down}
+use Rattle.spec_session.specs.Writer.{settle, add-at, add-tree, onward, add-all}
 
 -- A path that is found has at most 1,025 bits more than the stack has values.
 abbrev pub Near : (Cache → List ℕ → List ℕ → ℕ → ℕ → Option (List Bool)) → Type 0

@@ -9,7 +9,8 @@ use Rattle.spec_reading.specs.Tree.{Tree, place, atom, cons, pick, follow, as-l
 use Rattle.spec_session.specs.Unfold.{Unfolded, hole, leaf, node, tree-of}
 use Rattle.spec_session.specs.Cache.{Parent, Entry, Cache, parents-at, length-at}
 use Rattle.spec_session.specs.Items.{cons-item, atom-item, reference-item, Item, Op, want, make, Reading, collapse, step-read, feed, item-size, ItemNoLonger, NoLongerFrom, NoLonger}
-use Rattle.spec_session.specs.Writer.{Todo, parse, close, Written, Outcome, done, stopped, refused, and-then, atom-entry, pair-entry, push, pop2, close-up, choose, put-if, put, put-whole, write, resume}
+use Rattle.spec_session.specs.Writer.{Todo, parse, close, Written, Outcome, done, stopped, refused, and-then, atom-entry, pair-entry, push}
+use Rattle.spec_session.specs.Writer.{pop2, close-up, choose, put-if, put, put-whole, write, resume}
 use Rattle.spec_session.specs.Trees.{nth}
 use Rattle.spec_session.specs.Cached.{LinkOK, LinksOK, Good, good-len}
 use Rattle.spec_session.specs.Enter.{PairAt, Agree}

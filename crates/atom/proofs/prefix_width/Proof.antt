@@ -19,7 +19,9 @@ shortest-width-requires : tie.Need-shortest-width-requires
 shortest-width-requires c κs = search needs
 
 returns-3 : tie.Need-returns-3
-returns-3 c = sym (width-of-sized (c .before .before .before .before .before .args .atom .now) (sym (c .before .before .before .is-single .ensures) ∙ c .before .before .if1 .left) (c .shortest-width .result) (c .shortest-width .ensures))
+returns-3 c =
+    sym (width-of-sized (c .before .before .before .before .before .args .atom .now) (sym (c .before .before .before .is-single .ensures) ∙ c .before .before .if1 .left)
+    (c .shortest-width .result) (c .shortest-width .ensures))
 
 pub prefix-width-spec : {M : Type 1} → statement M
 prefix-width-spec =

@@ -24,7 +24,10 @@ least-size-requires : tie.Need-least-size-requires Inv-loop μ-loop
 least-size-requires c κs = omega arith
 
 returns : tie.Need-returns Inv-loop μ-loop
-returns c = c .before .before .before .loop .inv .2 ∙ width-here (c .before .before .before .loop .w) (c .before .before .before .before .args .size) (omega arith) (omega (arith, least-next (c .before .before .before .loop .w) (omega arith), c .before .least-size .ensures))
+returns c =
+    c .before .before .before .loop .inv .2
+    ∙ width-here (c .before .before .before .loop .w) (c .before .before .before .before .args .size) (omega arith)
+    (omega (arith, least-next (c .before .before .before .loop .w) (omega arith), c .before .least-size .ensures))
 
 add-w : tie.Need-add-w Inv-loop μ-loop
 add-w c = omega arith
@@ -33,7 +36,12 @@ loop-less : tie.Need-loop-less Inv-loop μ-loop
 loop-less c = omega arith
 
 loop-again : tie.Need-loop-again Inv-loop μ-loop
-loop-again c = (omega arith, omega arith, c .before .before .before .loop .inv .2 ∙ width-on (c .before .before .before .loop .w) (c .before .before .before .before .args .size) (omega arith) (omega (arith, least-next (c .before .before .before .loop .w) (omega arith), c .before .least-size .ensures)))
+loop-again c = (
+  omega arith,
+  omega arith,
+  c .before .before .before .loop .inv .2 ∙ width-on (c .before .before .before .loop .w)
+      (c .before .before .before .before .args .size) (omega arith) (omega (arith, least-next (c .before .before .before .loop .w) (omega arith), c .before .least-size .ensures)),
+)
 
 returns-2 : tie.Need-returns-2 Inv-loop μ-loop
 returns-2 c =

@@ -46,7 +46,9 @@ loop-again c =
     (omega arith, c .before .before .before .before .loop .inv .1 ∙ copies.same-more (a .a .now) (a .b .now) i (omega arith) (omega arith) (c .if2 .left))
 
 returns-3 : tie.Need-returns-3 Inv-loop μ-loop
-returns-3 c = sym (c .before .loop .inv .1 ∙ copies.same-end (c .before .before .before .args .a .now) (c .before .before .before .args .b .now) (c .before .loop .passed) (omega arith) (omega arith) (omega arith))
+returns-3 c =
+    sym (c .before .loop .inv .1 ∙ copies.same-end (c .before .before .before .args .a .now) (c .before .before .before .args .b .now)
+    (c .before .loop .passed) (omega arith) (omega arith) (omega arith))
 
 pub same-bytes-spec : {M : Type 1} → statement M
 same-bytes-spec =

@@ -61,7 +61,9 @@ same-length c = c .before .loop .inv .1
 returns : tie.Need-returns Inv-loop μ-loop
 returns c =
     let done : c .before .loop .moved ≡ c .before .before .args .count = omega arith in
-    c .before .loop .inv .2 ∙ ap (λ (n : ℕ). paste (c .before .before .args .words .now) (c .before .before .args .to) (drop (c .before .before .args .from) (c .before .before .args .words .now)) n) done
+    c .before .loop .inv .2
+    ∙ ap (λ (n : ℕ). paste (c .before .before .args .words .now) (c .before .before .args .to)
+    (drop (c .before .before .args .from) (c .before .before .args .words .now)) n) done
 
 pub copy-within-spec : {M : Type 1} → statement M
 copy-within-spec =
