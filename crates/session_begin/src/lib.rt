@@ -59,29 +59,11 @@ fn open(file: &[u8], work: &mut [u32], checked: Checked)
     work[work_layout::SENTINEL] = checked.sentinel;
 }
 
-// The call ends with this number.
-fn refused(number: u32) -> Begun
-    ensures { λ r. ⌜ r ≡ record { start = refused-with number; records = 0 } ⌝ }
+// The start of the steps, which stand from this place of the file on.
+fn start_at(at: usize) -> Progress
+    ensures { λ r. ⌜ r ≡ start-at at ⌝ }
 {
-    let start = Progress {
-        at: 0,
-        steps: 0,
-        adds: 0,
-        opens: 0,
-        depth: 0,
-        size: 0,
-        finished: false,
-        number,
-        done: true,
-    };
-    Begun { start, records: 0 }
-}
-
-// The steps come next, from this place of the file on.
-fn started(at: usize, records: usize) -> Begun
-    ensures { λ r. ⌜ r ≡ record { start = start-at at; records = records } ⌝ }
-{
-    let start = Progress {
+    Progress {
         at,
         steps: 0,
         adds: 0,
@@ -91,7 +73,24 @@ fn started(at: usize, records: usize) -> Begun
         finished: false,
         number: 0,
         done: false,
-    };
+    }
+}
+
+// The call ends with this number.
+fn refused(number: u32) -> Begun
+    ensures { λ r. ⌜ r ≡ record { start = refused-with number; records = 0 } ⌝ }
+{
+    let mut start = start_at(0);
+    start.number = number;
+    start.done = true;
+    Begun { start, records: 0 }
+}
+
+// The steps come next, from this place of the file on.
+fn started(at: usize, records: usize) -> Begun
+    ensures { λ r. ⌜ r ≡ record { start = start-at at; records = records } ⌝ }
+{
+    let start = start_at(at);
     Begun { start, records }
 }
 
