@@ -1,7 +1,7 @@
 -- What a round trip promises, from the contracts of the two calls.
 -- Assumes nothing.
 use Prim.Native.Nat.{ℕ}
-use mathlib.Core.Path.{_≡_, refl, sym, ap, subst, _∙_}
+use mathlib.Core.Path.{_≡_, sym, ap, subst, _∙_}
 use mathlib.Core.Bool.{true, _&&_}
 use mathlib.Core.List.{List}
 use lib.Dec.{leb}
@@ -16,7 +16,7 @@ use Rattle.session_answer.specs.declared.SessionAnswer.{SessionAnswer}
 use Rattle.read_answer.specs.declared.ReadAnswer.{ReadAnswer}
 use Rattle.session_call.specs.Outcome.{result-of, ReadsBack}
 use Rattle.round_trip.specs.declared.RoundTrip.{RoundTrip}
-use Rattle.round_trip.specs.RoundTrip.{Lists, the-session, the-reading, read-of, RoundTrips, Trip}
+use Rattle.round_trip.specs.RoundTrip.{Lists, the-session, the-reading, read-of, RoundTrips, session-of, Trip}
 
 -- Question 1 asks only for lengths.
 same-enough : (w w′ p a b : List ℕ) → length w′ ≡ length w → read.long-enough (store-slices w p a b) ≡ true → read.long-enough (store-slices w′ p a b) ≡ true
@@ -32,21 +32,26 @@ module _ (input : List ℕ) (before after : Lists) (work : List ℕ) (s : Sessio
   both = record { session = s; read = r }
 
   module _ (ran : t ≡ the-session input before) (was-read : read-of both after ≡ the-reading t before) (back : ReadsBack input t) (same : length work ≡ length (before .work)) where
-    whole-read : RoundTrips input (store-slices (before .work) (before .pairs) (before .atoms) (before .bytes)) (s .steps) (after .words) (read-of both after)
+    whole-read : RoundTrips input (store-slices (before .work) (before .pairs) (before .atoms) (before .bytes)) t (read-of both after)
     whole-read long f rest file-is handles steps-are k h finished apart =
         let m = back f rest file-is handles steps-are k h finished apart in
         record {
-          tree = m .tree;
-          filling = m .filling;
+          back = m;
           reads =
               subst (λ (x : read.Result). ReadAs x (m .tree)) (sym was-read)
               (m .reads (store-slices work (before .pairs) (before .atoms) (before .bytes))
               (same-enough (before .work) work (before .pairs) (before .atoms) (before .bytes) same long));
         }
 
+    -- The work that the session left is the definition's.
+    same-work : t ≡ session-of input before after both
+    same-work = ap (λ (x : Result Checkpoint). result-of s (x .slices .work) (after .words) (after .checkpoints) (after .output)) ran
+
     pub trip : Trip input before after both
     trip = record {
-      ran = subst (λ (x : Result Checkpoint). result-of s (x .slices .work) (after .words) (after .checkpoints) (after .output) ≡ x) ran refl;
+      ran = sym same-work ∙ ran;
       was-read = was-read ∙ ap (λ (x : Result Checkpoint). the-reading x before) ran;
-      returned = whole-read;
+      returned =
+          subst (λ (x : Result Checkpoint). RoundTrips input (store-slices (before .work) (before .pairs) (before .atoms) (before .bytes)) x (read-of both after))
+          same-work whole-read;
     }

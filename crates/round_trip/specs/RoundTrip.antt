@@ -3,16 +3,13 @@ use Prim.Native.Nat.{ℕ, suc, _<_}
 use mathlib.Core.Path.{_≡_}
 use mathlib.Core.Bool.{true}
 use mathlib.Core.List.{List, map}
-use mathlib.Core.Option.{some}
 use lib.ListN.{take}
-use Rattle.spec_reading.specs.Tree.{Tree}
 use Rattle.path.specs.Measure.{counted}
 use Rattle.spec_reading.specs.Call as read
 use Rattle.spec_session.specs.File.{File, add, version-1, got, file}
 use Rattle.spec_session.specs.Unfold.{unfolded}
-use Rattle.spec_session.specs.Filling.{plain-filling}
 use Rattle.spec_session.specs.Premises.{Apart}
-use Rattle.spec_session.specs.Demand3.{Finished, ReadAs}
+use Rattle.spec_session.specs.Demand3.{Finished, ReadAs, ReadBack}
 use Rattle.spec_session.specs.Call.{Result, session}
 use Rattle.session_state.specs.declared.checkpoints.Checkpoint.{Checkpoint}
 use Rattle.session_state.specs.Records.{blank}
@@ -46,24 +43,27 @@ the-reading r l = read.reading (take (r .answer .size) (r .slices .output)) (sto
 abbrev pub read-of : RoundTrip → Lists → read.Result
 read-of r l = read-result-of (r .read) (l .work) (l .pairs) (l .atoms) (l .bytes)
 
--- What was read is the plain filling's whole tree of the adds of these handles: the number is 0, and the root names that tree in the slices.
-pub record ReadWhole (f : File) (handles : List ℕ) (r : read.Result) : Type 0 where
-  pub tree : Tree
-  pub filling : plain-filling f handles ≡ some tree
-  pub reads : ReadAs r tree
+-- What demand 3 says of the session's result s, and that what was read is its tree: the number is 0, and the root names it in the slices.
+pub record ReadWhole (f : File) (handles : List ℕ) (k : ℕ) (s : Result Checkpoint) (r : read.Result) : Type 0 where
+  pub back : ReadBack counted version-1 f handles k s
+  pub reads : ReadAs r (back .tree)
 
--- THE PROMISE, of what was read. The reading's slices pass question 1. The file has add steps only, its adds keep 01's premises up to add k, and the word of
--- add k says finished. Then the plain filling's whole tree was read.
-abbrev pub RoundTrips : (input : List ℕ) (lent : read.Slices) (steps : ℕ) (words : List ℕ) → read.Result → Type 0
-RoundTrips input lent steps words r =
+-- THE PROMISE, of a session's result s and of what was read. The reading's slices pass question 1. The file has add steps only, its adds keep 01's premises up
+-- to add k, and the word of add k says finished. Then the plain filling's whole tree was read, and references stand exactly where the search rules put them.
+abbrev pub RoundTrips : (input : List ℕ) (lent : read.Slices) → Result Checkpoint → read.Result → Type 0
+RoundTrips input lent s r =
     read.long-enough lent ≡ true → (f : File) (rest : List ℕ) → file version-1 input ≡ got f rest → (handles : List ℕ) → f .steps ≡ map add handles → (k : ℕ)
-    → k < steps → Finished words k → Apart (map (unfolded f) (take (suc k) handles)) → ReadWhole f (take (suc k) handles) r
+    → k < s .answer .steps → Finished (s .slices .words) k → Apart (map (unfolded f) (take (suc k) handles)) → ReadWhole f handles k s r
+
+-- The session's answer and slices. Its work is the definition's: the reading used it since.
+abbrev pub session-of : (input : List ℕ) (before after : Lists) → RoundTrip → Result Checkpoint
+session-of input before after r = result-of (r .session) (the-session input before .slices .work) (after .words) (after .checkpoints) (after .output)
 
 -- What a round trip promises of the lists before and after it.
 pub record Trip (input : List ℕ) (before after : Lists) (r : RoundTrip) : Type 0 where
-  -- The session gave what its definition says. Its work is the definition's: the reading used it since.
-  pub ran : result-of (r .session) (the-session input before .slices .work) (after .words) (after .checkpoints) (after .output) ≡ the-session input before
+  -- The session gave what its definition says.
+  pub ran : session-of input before after r ≡ the-session input before
   -- The reading of its bytes gave what its definition says.
   pub was-read : read-of r after ≡ the-reading (the-session input before) before
   -- What was read is the plain filling's tree.
-  pub returned : RoundTrips input (store-slices (before .work) (before .pairs) (before .atoms) (before .bytes)) (r .session .steps) (after .words) (read-of r after)
+  pub returned : RoundTrips input (store-slices (before .work) (before .pairs) (before .atoms) (before .bytes)) (session-of input before after r) (read-of r after)

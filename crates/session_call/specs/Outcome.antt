@@ -3,6 +3,7 @@ use Prim.Native.Nat.{ℕ, suc, _<_}
 use mathlib.Core.Path.{_≡_}
 use mathlib.Core.List.{List, map}
 use lib.ListN.{take}
+use Rattle.path.specs.Measure.{counted}
 use Rattle.spec_session.specs.File.{File, add, version-1, got, file}
 use Rattle.spec_session.specs.Unfold.{unfolded}
 use Rattle.spec_session.specs.Premises.{Apart}
@@ -19,8 +20,9 @@ abbrev pub result-of : SessionAnswer → (work words : List ℕ) (checkpoints : 
 result-of r w ws cs o = record { answer = answer-of r; slices = slices w ws cs o }
 
 -- DEMAND 3, of the result r of a call with these bytes. The file has add steps only, its adds keep 01's premises up to add k, and the word of add k says
--- finished. Then reading the finished bytes gives the plain filling's whole tree, and all else that `ReadBack` says.
+-- finished. Then reading the finished bytes gives the plain filling's whole tree, references stand exactly where the search rules put them, and all else that
+-- `ReadBack` says.
 abbrev pub ReadsBack : (input : List ℕ) → Result Checkpoint → Type 0
 ReadsBack input r =
     (f : File) (rest : List ℕ) → file version-1 input ≡ got f rest → (handles : List ℕ) → f .steps ≡ map add handles → (k : ℕ) → k < r .answer .steps
-    → Finished (r .slices .words) k → Apart (map (unfolded f) (take (suc k) handles)) → ReadBack f handles k r
+    → Finished (r .slices .words) k → Apart (map (unfolded f) (take (suc k) handles)) → ReadBack counted version-1 f handles k r

@@ -35,6 +35,10 @@ untouched n s = record { answer = record { number = n; steps = 0; size = 0 }; sl
 abbrev pub long-enough : {C : Type 0} → Limits → Slices C → Bool
 long-enough l s = leb (l .work-words) (length (s .work)) && (leb (l .steps) (length (s .words)) && leb 16 (length (s .checkpoints)))
 
+-- The output, "of which at most 65,535 bytes are used".
+abbrev pub usable : {C : Type 0} → Limits → Slices C → ℕ
+usable l s = min (length (s .output)) (l .output-bytes)
+
 -- `blank` is the checkpoint record whose words are zero.
 module _ {C : Type 0} (blank : C) where
   -- "9 to 13 keep finished steps' words and whole items written; the rest of output and words is zero, as past the size after any run." "From question 9 on
@@ -52,10 +56,10 @@ module _ {C : Type 0} (blank : C) where
             };
       }
 
-  -- The steps run from a fresh session. Question 13 is of the output "of which at most 65,535 bytes are used".
+  -- The steps run from a fresh session.
   abbrev pub after-file : Limits → (measure : List Bool → ℕ) → Got File → Slices C → Result C
   after-file l measure (refused n) s = untouched n s
-  after-file l measure (got f rest) s = after-run (run-steps measure (min (length (s .output)) (l .output-bytes)) f (f .steps) [] start) s
+  after-file l measure (got f rest) s = after-run (run-steps measure (usable l s) f (f .steps) [] start) s
 
   -- Over any limits and any measure of a found path. 01's are `version-1` and `counted`.
   unfoldable pub session : Limits → (measure : List Bool → ℕ) → (input : List ℕ) → Slices C → Result C

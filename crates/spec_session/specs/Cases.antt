@@ -39,7 +39,7 @@ whole-items : run whole-file .last .written .items ≡ cons-item ∷ atom-item f
 unfolding run-steps unfolded enter update write resume find-in walk passes search node-of handle-of serialized-length encode prefix-width first-width path-bytes octets big-endian
 whole-items = refl
 
-whole-apart : Apart (map (unfolded whole-file) (1 ∷ 0x4000000 ∷ []))
+pub whole-apart : Apart (map (unfolded whole-file) (1 ∷ 0x4000000 ∷ []))
 unfolding unfolded node-of handle-of
 whole-apart = (omega arith, ((λ h a i. i), tt), (omega arith, tt, tt))
 
@@ -177,8 +177,8 @@ two =
     }
 
 two-filled : plain-filling two (1 ∷ 2 ∷ 3 ∷ [])
-    ≡ some (cons (cons (cons (atom foobar) (atom [])) (cons (atom (1 ∷ [])) (atom (2 ∷ [])))) (atom foobar))
-unfolding two plain-filling unfolded bind node-of handle-of small-bytes len-for-value further-bytes big-endian
+    ≡ cons (cons (cons (atom foobar) (atom [])) (cons (atom (1 ∷ [])) (atom (2 ∷ [])))) (atom foobar)
+unfolding two plain-filling unfolded node-of handle-of small-bytes len-for-value further-bytes big-endian
 two-filled = refl
 
 two-read : read-items (run two .last .written .items)

@@ -53,7 +53,7 @@ file-short l input f r e =
 module _ (l : Limits) (carried : l .file-bytes < 2 ^ 34) (measure : List Bool → ℕ) (covers : Covers measure) (space : ℕ) (most : space ≤ 65535) where
   pub read-back-file : (input : List ℕ) → Bytes input → (f : File) (r : List ℕ) → file l input ≡ got f r
       → (hs : List ℕ) (q : Session) → Apart (map (unfolded f) hs) → add-all (find-in measure) (room-in space) (map (unfolded f) hs) start ≡ added q
-      → q .waiting ≡ none → BytesReadBack f hs (q .written .items)
+      → q .waiting ≡ none → BytesReadBack space f hs (q .written .items)
   read-back-file input bytes f r file-is hs q apart e fin =
       let short : length input < 2 ^ 34 = omega (arith, file-short l input f r file-is) in
       let kept =
@@ -63,4 +63,4 @@ module _ (l : Limits) (carried : l .file-bytes < 2 ^ 34) (measure : List Bool �
       read-back-bytes measure covers (room-in space) f hs q apart e fin
       (items-formed (length (q .written .items)) few (q .written .items) (kept .fine))
       (items-bytes (length (q .written .items)) few (q .written .items) (kept .fine))
-      (omega (arith, kept .held))
+      space most (kept .held)

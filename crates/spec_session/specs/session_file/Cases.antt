@@ -2,7 +2,7 @@
 use Prim.Native.Nat.{ℕ}
 use mathlib.Core.Path.{_≡_, refl}
 use mathlib.Core.List.{List, [], _∷_}
-use mathlib.Core.Option.{none, some, bind}
+use mathlib.Core.Option.{some}
 use Rattle.spec_reading.specs.Tree.{place, atom, cons}
 use Rattle.words.specs.BigEndian.{big-endian, number-after}
 use Rattle.allocator.specs.Handle.{node-of}
@@ -33,21 +33,21 @@ pub whole-case-is : file version-1 whole-case ≡ got whole-file []
 unfolding file atoms pairs steps number-after big-endian node-of further-bytes fits-in-small-atom is-small-atom
 whole-case-is = refl
 
--- The states of the plain filling: open; (foobar . open); (foobar . foobar). A third add finds no place open.
-pub state-0 : plain-filling whole-file [] ≡ some place
+-- The states of the plain filling: open; (foobar . open); (foobar . foobar). A third add finds no place open and leaves the tree as it is.
+pub state-0 : plain-filling whole-file [] ≡ place
 unfolding plain-filling
 state-0 = refl
 
-pub state-1 : plain-filling whole-file (1 ∷ []) ≡ some (cons (atom foobar) place)
-unfolding plain-filling unfolded node-of bind
+pub state-1 : plain-filling whole-file (1 ∷ []) ≡ cons (atom foobar) place
+unfolding plain-filling unfolded node-of
 state-1 = refl
 
-pub state-2 : plain-filling whole-file (1 ∷ 0x4000000 ∷ []) ≡ some (cons (atom foobar) (atom foobar))
-unfolding plain-filling unfolded node-of bind
+pub state-2 : plain-filling whole-file (1 ∷ 0x4000000 ∷ []) ≡ cons (atom foobar) (atom foobar)
+unfolding plain-filling unfolded node-of
 state-2 = refl
 
-pub state-3 : plain-filling whole-file (1 ∷ 0x4000000 ∷ 0x4000000 ∷ []) ≡ none
-unfolding plain-filling unfolded node-of bind
+pub state-3 : plain-filling whole-file (1 ∷ 0x4000000 ∷ 0x4000000 ∷ []) ≡ cons (atom foobar) (atom foobar)
+unfolding plain-filling unfolded node-of
 state-3 = refl
 
 -- Of two open places the left one is filled.
