@@ -47,9 +47,9 @@ abbrev pub byte-at : List ℕ → ℕ → First
 byte-at input p = first-of (drop p input)
 
 -- How many bytes stand before the atom or path.
-abbrev pub prefix-of : First → ℕ
-prefix-of (first.Byte b) = cond (eqb b 0xfe) 1 0
-prefix-of first.End = 0
+abbrev pub mark-width : First → ℕ
+mark-width (first.Byte b) = cond (eqb b 0xfe) 1 0
+mark-width first.End = 0
 
 -- What begins with this byte, where its atom or path stands at q.
 abbrev pub parsed : First → List ℕ → ℕ → There

@@ -4,7 +4,7 @@ use atom::CONS_BOX_MARKER;
 use atom_decode::ParseAtom;
 ghost use mathlib.Core.Path.{_≡_};
 ghost use Prim.Native.Nat.{_+_, _<_, _^_};
-ghost use Rattle.read_cursor.specs.Heads.{«byte-at», «prefix-of», parsed, «head-at», there-of};
+ghost use Rattle.read_cursor.specs.Heads.{«byte-at», «mark-width», parsed, «head-at», there-of};
 
 // A place of the input. A struct that holds a reference is proved by hand, so what is over it is thin and goes straight on.
 pub struct Cursor<'a> {
@@ -35,9 +35,9 @@ fn byte_at(input: &[u8], position: usize) -> First
     First::End
 }
 
-// How many bytes stand before the atom or path: the mark of a reference.
-fn prefix_of(first: First) -> usize
-    ensures { λ n. ⌜ n ≡ «prefix-of» first ⌝ }
+// The bytes of the mark before the atom or path: one before the path of a reference.
+fn mark_width(first: First) -> usize
+    ensures { λ n. ⌜ n ≡ «mark-width» first ⌝ }
 {
     match first {
         First::Byte(b) => {
@@ -100,7 +100,7 @@ pub fn head_at(input: &[u8], position: usize) -> Head
 {
     let c = Cursor { input, position };
     let first = read_byte(c);
-    let n = prefix_of(first);
+    let n = mark_width(first);
     let past = advance(c, n);
     parse(past, first)
 }

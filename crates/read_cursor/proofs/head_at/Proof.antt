@@ -1,5 +1,5 @@
 -- `read_cursor::head_at` meets its contract: a walk of its MIR, by hand. A cursor is made in a local and copied for each call:
--- its byte is read, the prefix of that byte is counted, the cursor is advanced by it, and the atom or path is parsed there. All
+-- its byte is read, the mark that it is is counted, the cursor is advanced by it, and the atom or path is parsed there. All
 -- that the proof knows of the four functions is that each meets its contract.
 -- In a local of a body MIR erases the lifetime of the struct's type, so a cursor is shown to have the type at `erased`. What the input owns is kept for the exit; a cursor's is made of a copy of it.
 -- Assumes nothing.
@@ -43,7 +43,7 @@ use denote.Triple.Table.{entered, cited}
 use denote.Triple.Walked.{says, Stays, stay-none, stay-none-slice, walkOf, goes-none, goes-none-slice, Walks, ends-at, walked, walk-meets}
 use denote.Exit.{yes}
 use denote.Triple.Clauses.{ensured, lasts}
-use Rattle.read_cursor.specs.Heads.{There, byte-at, prefix-of, parsed, head-at, there-of}
+use Rattle.read_cursor.specs.Heads.{There, byte-at, mark-width, parsed, head-at, there-of}
 use Rattle.read_cursor.specs.declared.Cursor.{Cursor}
 use Rattle.read_cursor.specs.declared.First.{First}
 use Rattle.read_cursor.specs.declared.Head.{Head}
@@ -58,10 +58,10 @@ use Rattle.read_cursor.proofs.read_byte as read
 use Rattle.read_cursor.proofs.read_byte.Symbol as read-def
 use Rattle.read_cursor.proofs.read_byte.Symbol.{name as #read-cursor·read-byte}
 use Rattle.read_cursor.proofs.read_byte.Met as read-thm
-use Rattle.read_cursor.proofs.prefix_of as prefix
-use Rattle.read_cursor.proofs.prefix_of.Symbol as prefix-def
-use Rattle.read_cursor.proofs.prefix_of.Symbol.{name as #read-cursor·prefix-of}
-use Rattle.read_cursor.proofs.prefix_of.Met as prefix-thm
+use Rattle.read_cursor.proofs.mark_width as mark
+use Rattle.read_cursor.proofs.mark_width.Symbol as mark-def
+use Rattle.read_cursor.proofs.mark_width.Symbol.{name as #read-cursor·mark-width}
+use Rattle.read_cursor.proofs.mark_width.Met as mark-thm
 use Rattle.read_cursor.proofs.advance as advance
 use Rattle.read_cursor.proofs.advance.Symbol as advance-def
 use Rattle.read_cursor.proofs.advance.Symbol.{name as #read-cursor·advance}
@@ -87,8 +87,8 @@ module _ {M : Type 1} (𝓤 : URA M) (H : Heap 𝓤) (A : Atoms 𝓤) (mem : Mem
   abbrev ReadByte : Contract 𝓤
   ReadByte = tripleOf 𝓤 H A read.signature (read.spec 𝓤 H A mem run)
 
-  abbrev PrefixOf : Contract 𝓤
-  PrefixOf = tripleOf 𝓤 H A prefix.signature (prefix.spec 𝓤 H A mem run)
+  abbrev MarkWidth : Contract 𝓤
+  MarkWidth = tripleOf 𝓤 H A mark.signature (mark.spec 𝓤 H A mem run)
 
   abbrev Advance : Contract 𝓤
   Advance = tripleOf 𝓤 H A advance.signature (advance.spec 𝓤 H A mem run)
@@ -150,15 +150,15 @@ module _ {M : Type 1} (𝓤 : URA M) (H : Heap 𝓤) (A : Atoms 𝓤) (W : Given
   read-said : (f : First) → ent 𝓤 (ensured 𝓤 H A read.ended (read.clauses 𝓤 H A mem run) (κ, tt) (d, tt) tt f) (fact 𝓤 (f ≡ here))
   read-said f = exE 𝓤 _ (λ ws. snd∗ 𝓤 (sem 𝓤 H A (lasts read.ended (κ, tt) (d, tt) ws)) (fact 𝓤 (f ≡ here)))
 
-  -- the call of `prefix_of`, at the byte f with the machine value u
-  abbrev to-prefix : First → Val → PrefixOf 𝓤 H A mem run .Ghost
-  to-prefix f u = ((tt, tt, tt, (f, tt), (u ∷ [], tt)), tt)
+  -- the call of `mark_width`, at the byte f with the machine value u
+  abbrev to-mark : First → Val → MarkWidth 𝓤 H A mem run .Ghost
+  to-mark f u = ((tt, tt, tt, (f, tt), (u ∷ [], tt)), tt)
 
-  goes-prefix : (f : First) (u : Val) → Is F.the-row f (u ∷ []) → ent 𝓤 (emp 𝓤) (PrefixOf 𝓤 H A mem run .pre (to-prefix f u))
-  goes-prefix f u is = qed W [] ∵ owned ! F.the-row (Is F.the-row) (EL.makes F.the-type F′.the-plain 𝓤 H A) f _ is $ nothing ! $ move ! (1 ∷ 0 ∷ []) $ join ! $ nothing ! $ join ! $ frame ! $ done !
+  goes-mark : (f : First) (u : Val) → Is F.the-row f (u ∷ []) → ent 𝓤 (emp 𝓤) (MarkWidth 𝓤 H A mem run .pre (to-mark f u))
+  goes-mark f u is = qed W [] ∵ owned ! F.the-row (Is F.the-row) (EL.makes F.the-type F′.the-plain 𝓤 H A) f _ is $ nothing ! $ move ! (1 ∷ 0 ∷ []) $ join ! $ nothing ! $ join ! $ frame ! $ done !
 
-  prefix-said : (f : First) (n : ℕ) → ent 𝓤 (ensured 𝓤 H A prefix.ended (prefix.clauses 𝓤 H A mem run) tt (f, tt) tt n) (fact 𝓤 (n ≡ prefix-of f))
-  prefix-said f n = exE 𝓤 _ (λ ws. snd∗ 𝓤 (sem 𝓤 H A (lasts prefix.ended tt (f, tt) ws)) (fact 𝓤 (n ≡ prefix-of f)))
+  mark-said : (f : First) (n : ℕ) → ent 𝓤 (ensured 𝓤 H A mark.ended (mark.clauses 𝓤 H A mem run) tt (f, tt) tt n) (fact 𝓤 (n ≡ mark-width f))
+  mark-said f n = exE 𝓤 _ (λ ws. snd∗ 𝓤 (sem 𝓤 H A (lasts mark.ended tt (f, tt) ws)) (fact 𝓤 (n ≡ mark-width f)))
 
   -- the call of `advance`, by n with the machine value u
   abbrev to-advance : ℕ → Val → Advance 𝓤 H A mem run .Ghost
@@ -191,14 +191,14 @@ module _ {M : Type 1} (𝓤 : URA M) (H : Heap 𝓤) (A : Atoms 𝓤) (W : Given
   parse-said r f h = exE 𝓤 _ (λ ws. snd∗ 𝓤 (sem 𝓤 H A (lasts parse′.ended (κ, tt) (r, (f, tt)) ws)) (fact 𝓤 (there-of h ≡ parsed f (now (r .input)) (r .position))))
 
   -- the four answers together
-  together : (f : First) (n : ℕ) (r : Cursor) (h : Head) → f ≡ here → n ≡ prefix-of f → (r .input ≡ s) × (r .position ≡ p + n)
+  together : (f : First) (n : ℕ) (r : Cursor) (h : Head) → f ≡ here → n ≡ mark-width f → (r .input ≡ s) × (r .position ≡ p + n)
       → there-of h ≡ parsed f (now (r .input)) (r .position) → there-of h ≡ found
   together f n r h ef en er eh =
       eh ∙ ap (λ (x : RefT (List ℕ)). parsed f (now x) (r .position)) (er .0) ∙ ap (parsed f (now s)) (er .1) ∙ ap (λ (m : ℕ). parsed f (now s) (p + m)) en
-      ∙ ap (λ (x : First). parsed x (now s) (p + prefix-of x)) ef ∙ head-is (now s) p
+      ∙ ap (λ (x : First). parsed x (now s) (p + mark-width x)) ef ∙ head-is (now s) p
 
-  may-advance : (f : First) (n : ℕ) → length (now s) < 2 ^ 64 → f ≡ here → n ≡ prefix-of f → p + n < 2 ^ 64
-  may-advance f n long ef en = subst (λ (m : ℕ). p + m < 2 ^ 64) (sym (en ∙ ap prefix-of ef)) (advance-fits (now s) p long ok)
+  may-advance : (f : First) (n : ℕ) → length (now s) < 2 ^ 64 → f ≡ here → n ≡ mark-width f → p + n < 2 ^ 64
+  may-advance f n long ef en = subst (λ (m : ℕ). p + m < 2 ^ 64) (sym (en ∙ ap mark-width ef)) (advance-fits (now s) p long ok)
 
   exits : (h : Head) (u : Val) → there-of h ≡ found → ent 𝓤 (⋆ 𝓤 H A (‵ (S.the-row .own h (u ∷ [])) ∷ (‵ (flft κ q) ⊛ ‵ ftrue) ∷ ‵ Own ∷ [])) (Post u)
   exits h u e =
@@ -207,7 +207,7 @@ module _ {M : Type 1} (𝓤 : URA M) (H : Heap 𝓤) (A : Atoms 𝓤) (W : Given
       move ! (1 ∷ []) $ frame ! $ nothing ! $ owned ! usize (Is usize) (uint-makes 𝓤 H A W w64) p _ (refl, ok) $ fjoin ! $ move ! (2 ∷ 0 ∷ []) $ fjoin ! $ frame ! $ done !
 
   module _ (C : Calls 𝓤 H) (Λ : Loops 𝓤 H) (fm : FmC 𝓤 H (W .laws) C) (known-read : Triple 𝓤 (C #read-cursor·read-byte) (ReadByte 𝓤 H A mem run))
-      (known-prefix : Triple 𝓤 (C #read-cursor·prefix-of) (PrefixOf 𝓤 H A mem run)) (known-advance : Triple 𝓤 (C #read-cursor·advance) (Advance 𝓤 H A mem run))
+      (known-mark : Triple 𝓤 (C #read-cursor·mark-width) (MarkWidth 𝓤 H A mem run)) (known-advance : Triple 𝓤 (C #read-cursor·advance) (Advance 𝓤 H A mem run))
       (known-parse : Triple 𝓤 (C #read-cursor·parse) (Parse 𝓤 H A mem run)) where
     walk : Is (ShrSlice (named 0) κ u8) s (v ∷ []) → ent 𝓤 (onEntry 𝓤 H A head.signature (κ, tt) (q, tt) (s, (p, tt)) at) (WpFn 𝓤 H C Λ code.function (v ∷ vint w64 p ∷ []) Post)
     walk is =
@@ -226,12 +226,12 @@ module _ {M : Type 1} (𝓤 : URA M) (H : Heap 𝓤) (A : Atoms 𝓤) (W : Given
         -- [what the byte owns; the token; what the input owns; _9; …]
         peeks ! F.the-row (Is F.the-row) (shows 𝓤 H A F.the-row) f (u₁ ∷ []) (λ f-is.
         land ! (from ! (stop !)) (init ! 13 refl (EL.lawful F.the-type F′.the-laws 𝓤 H A W tt .typed f _ f-is .0)) $ drop ! $
-        -- its prefix
-        use0 W (raw (PrefixOf 𝓤 H A mem run .pre (to-prefix f u₁))) (goes-prefix f u₁ f-is) $
-        calls-at ! fm (PrefixOf 𝓤 H A mem run) known-prefix (to-prefix f u₁) (and-then ! (load ! (from ! (stop !)) (look ! 13 refl)) (no-more !)) (λ u₂.
-        use1 W (later (some (λ (n : ℕ). (‵ ftrue ⊛ ‵ (usize .own n (u₂ ∷ []))) ⊛ raw (ensured 𝓤 H A prefix.ended (prefix.clauses 𝓤 H A mem run) tt (f, tt) tt n)))) (id⊢ 𝓤 _) $
+        -- its mark
+        use0 W (raw (MarkWidth 𝓤 H A mem run .pre (to-mark f u₁))) (goes-mark f u₁ f-is) $
+        calls-at ! fm (MarkWidth 𝓤 H A mem run) known-mark (to-mark f u₁) (and-then ! (load ! (from ! (stop !)) (look ! 13 refl)) (no-more !)) (λ u₂.
+        use1 W (later (some (λ (n : ℕ). (‵ ftrue ⊛ ‵ (usize .own n (u₂ ∷ []))) ⊛ raw (ensured 𝓤 H A mark.ended (mark.clauses 𝓤 H A mem run) tt (f, tt) tt n)))) (id⊢ 𝓤 _) $
         await ! tt $ pick ! (λ n.
-        split ! $ move ! (1 ∷ []) $ use1 W (raw (fact 𝓤 (n ≡ prefix-of f))) (prefix-said f n) $ heard ! (n ≡ prefix-of f) (λ en. split ! $ drop ! $
+        split ! $ move ! (1 ∷ []) $ use1 W (raw (fact 𝓤 (n ≡ mark-width f))) (mark-said f n) $ heard ! (n ≡ mark-width f) (λ en. split ! $ drop ! $
         peeks ! usize (Is usize) (shows 𝓤 H A usize) n (u₂ ∷ []) (λ n-is.
         land ! (from ! (stop !)) (init ! 11 refl (uint-lawful 𝓤 H A W w64 .typed n _ n-is .0)) $ drop ! $
         -- the cursor, advanced
@@ -272,21 +272,21 @@ module _ {M : Type 1} (𝓤 : URA M) (H : Heap 𝓤) (A : Atoms 𝓤) (W : Given
 
 module _ {M : Type 1} (𝓤 : URA M) (H : Heap 𝓤) (A : Atoms 𝓤) (W : Given 𝓤 H A) (mem : Memory → SProp 𝓤) (run : Routine → Fun 𝓤) where
   head-at-walks : (C : Calls 𝓤 H) (Λ : Loops 𝓤 H) → FmC 𝓤 H (W .laws) C → Triple 𝓤 (C #read-cursor·read-byte) (ReadByte 𝓤 H A mem run)
-      → Triple 𝓤 (C #read-cursor·prefix-of) (PrefixOf 𝓤 H A mem run) → Triple 𝓤 (C #read-cursor·advance) (Advance 𝓤 H A mem run) → Triple 𝓤 (C #read-cursor·parse) (Parse 𝓤 H A mem run)
+      → Triple 𝓤 (C #read-cursor·mark-width) (MarkWidth 𝓤 H A mem run) → Triple 𝓤 (C #read-cursor·advance) (Advance 𝓤 H A mem run) → Triple 𝓤 (C #read-cursor·parse) (Parse 𝓤 H A mem run)
       → Walks 𝓤 H A head.ended stayed (WpFn 𝓤 H C Λ code.function) (head.clauses 𝓤 H A mem run)
-  head-at-walks C Λ fm known-read known-prefix known-advance known-parse =
+  head-at-walks C Λ fm known-read known-mark known-advance known-parse =
       walked 𝓤 H A head.ended stayed (head.clauses 𝓤 H A mem run) (WpFn 𝓤 H C Λ code.function) (λ κs. (slice-vals, (uint-vals w64, tt)))
       (λ κs. (shr-slice-tells (named 0) (κs .0) u8, (uint-tells w64, tt)))
-      (λ κs qs bounds a g are. via 𝓤 _ (fst∗ 𝓤 _ (emp 𝓤)) (walk 𝓤 H A W mem run (κs .0) (qs .0) (a .0) (a .1 .0) (are .1 .0 .1) C Λ fm known-read known-prefix known-advance known-parse (are .0)))
+      (λ κs qs bounds a g are. via 𝓤 _ (fst∗ 𝓤 _ (emp 𝓤)) (walk 𝓤 H A W mem run (κs .0) (qs .0) (a .0) (a .1 .0) (are .1 .0 .1) C Λ fm known-read known-mark known-advance known-parse (are .0)))
 
 head-at-meets : {M : Type 1} (𝓤 : URA M) (H : Heap 𝓤) (A : Atoms 𝓤) (W : Given 𝓤 H A) (mem : Memory → SProp 𝓤) (run : Routine → Fun 𝓤) (𝓣 : Tables 𝓤 H)
-    → Triple 𝓤 (𝓣 .C #read-cursor·read-byte) (ReadByte 𝓤 H A mem run) → Triple 𝓤 (𝓣 .C #read-cursor·prefix-of) (PrefixOf 𝓤 H A mem run)
+    → Triple 𝓤 (𝓣 .C #read-cursor·read-byte) (ReadByte 𝓤 H A mem run) → Triple 𝓤 (𝓣 .C #read-cursor·mark-width) (MarkWidth 𝓤 H A mem run)
     → Triple 𝓤 (𝓣 .C #read-cursor·advance) (Advance 𝓤 H A mem run) → Triple 𝓤 (𝓣 .C #read-cursor·parse) (Parse 𝓤 H A mem run)
     → Meets 𝓤 H A head.signature (WpFn 𝓤 H (𝓣 .C) (𝓣 .Λ) code.function) (head.spec 𝓤 H A mem run)
-head-at-meets 𝓤 H A W mem run 𝓣 known-read known-prefix known-advance known-parse =
+head-at-meets 𝓤 H A W mem run 𝓣 known-read known-mark known-advance known-parse =
     walk-meets 𝓤 H A head.ended stayed W (goes-none-slice 𝓤 H A W 1 (0 ∷ []) tt (plain (λ _. u8)) yes, (goes-none 𝓤 H A W 1 (λ _. usize) yes (λ κs x f. refl), tt))
     (head.clauses 𝓤 H A mem run) (WpFn 𝓤 H (𝓣 .C) (𝓣 .Λ) code.function) (WpFn-mono 𝓤 H (W .laws) 𝓣 code.function)
-    (head-at-walks 𝓤 H A W mem run (𝓣 .C) (𝓣 .Λ) (fmOf 𝓤 H (W .laws) 𝓣) known-read known-prefix known-advance known-parse)
+    (head-at-walks 𝓤 H A W mem run (𝓣 .C) (𝓣 .Λ) (fmOf 𝓤 H (W .laws) 𝓣) known-read known-mark known-advance known-parse)
 
 pub head-at-spec : {M : Type 1} → stated.statement M
 unfolding code.routine tablesOf
@@ -295,6 +295,6 @@ head-at-spec 𝓤 H 𝓜 𝓖 𝓡 =
     (tables 𝓤 H 𝓜 𝓡 code.env .C) (tables 𝓤 H 𝓜 𝓡 code.env .Λ) #read-cursor·head-at code.function (code.unfolded 𝓤 H 𝓜 𝓡)
     (head-at-meets 𝓤 H (𝓖 .A) (givenOf 𝓤 H 𝓜 𝓖) (𝓜 .mem) (𝓡 .run) (tablesOf 𝓤 H 𝓜 (tables 𝓤 H 𝓜 𝓡 code.env))
     (cited 𝓤 H (ReadByte 𝓤 H (𝓖 .A) (𝓜 .mem) (𝓡 .run)) 𝓜 𝓡 code.env #read-cursor·read-byte read-def.routine code.calls-read-cursor·read-byte (read-thm.met 𝓤 H 𝓜 𝓖 𝓡))
-    (cited 𝓤 H (PrefixOf 𝓤 H (𝓖 .A) (𝓜 .mem) (𝓡 .run)) 𝓜 𝓡 code.env #read-cursor·prefix-of prefix-def.routine code.calls-read-cursor·prefix-of (prefix-thm.met 𝓤 H 𝓜 𝓖 𝓡))
+    (cited 𝓤 H (MarkWidth 𝓤 H (𝓖 .A) (𝓜 .mem) (𝓡 .run)) 𝓜 𝓡 code.env #read-cursor·mark-width mark-def.routine code.calls-read-cursor·mark-width (mark-thm.met 𝓤 H 𝓜 𝓖 𝓡))
     (cited 𝓤 H (Advance 𝓤 H (𝓖 .A) (𝓜 .mem) (𝓡 .run)) 𝓜 𝓡 code.env #read-cursor·advance advance-def.routine code.calls-read-cursor·advance (advance-thm.met 𝓤 H 𝓜 𝓖 𝓡))
     (cited 𝓤 H (Parse 𝓤 H (𝓖 .A) (𝓜 .mem) (𝓡 .run)) 𝓜 𝓡 code.env #read-cursor·parse parse-def.routine code.calls-read-cursor·parse (parse-thm.met 𝓤 H 𝓜 𝓖 𝓡)))
