@@ -12,5 +12,6 @@ pub mod Refusals
 pub mod Same
 pub mod Call
 pub mod Agree
+pub mod Promise
 pub mod Bounds
 pub mod Cases
