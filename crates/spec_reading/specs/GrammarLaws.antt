@@ -1,6 +1,6 @@
 -- The plain reader accepts exactly the bytes that stand for a tree by the grammar, and gives that tree.
 -- Assumes nothing.
-use Prim.Native.Nat.{ℕ, zero, suc, _+_, _≤_}
+use Prim.Native.Nat.{ℕ, zero, suc, _+_, _≤_, _<_}
 use mathlib.Core.Path.{_≡_, refl, sym, ap, ap₂, _∙_, subst}
 use mathlib.Core.Bool.{Bool, true, false, cond}
 use mathlib.Core.List.{List, [], _∷_, _++_, append-assoc, append-nil}
@@ -10,7 +10,7 @@ use lib.Dec.{eqb}
 use lib.ListN.{length, drop, take, length-append, take-append-drop}
 use lib.Seq.{drop-at}
 use borrow.Author.Tests.{eqb-true}
-use Rattle.words.specs.Lists.{Bytes}
+use Rattle.words.specs.Lists.{Bytes, all-drop}
 use Rattle.atom.specs.Prefix.{encode}
 use Rattle.atom.specs.Parse.{Parse, blob, refused, ones, size-of, parse, blob-of}
 use Rattle.atom.specs.ParseLaws.{parse-nil}
@@ -21,6 +21,7 @@ use Rattle.spec_reading.specs.Format.{Values, ParseOp, SExp, Cons, At, S
 use Rattle.spec_reading.specs.Format.{at-end, settle, pushed, atom-item, path-item, next-item, step, then, run, read}
 use Rattle.spec_reading.specs.Plain.{Plain, found, push-path-plain, plain-values, read-plain}
 use Rattle.spec_reading.specs.Grammar.{StandsFor, an-atom, a-pair, a-reference}
+use Rattle.spec_reading.specs.Blobs.{refused-not-blob}
 use Rattle.spec_reading.specs.Fuel.{onward, onward-step}
 
 -- ---- an atom's first byte is no mark
@@ -33,18 +34,15 @@ parse-fe : (s : List ℕ) → parse (0xfe ∷ s) ≡ refused 14
 unfolding parse size-of ones
 parse-fe s = refl
 
-pub not-both : (n start end : ℕ) (p : Parse) → p ≡ refused n → p ≡ blob start end → ⊥
-not-both n start end p e f = let z : _≡_ {A = ℕ} 0 1 = cc in omega arith
-
 -- Bytes that begin with an atom are read as an atom.
 pub next-atom : {S : Type 0} (keep : Values S) (s : List ℕ) (start end : ℕ) → parse s ≡ blob start end → (ops : List ParseOp) (v : S)
     → next-item keep s ops v ≡ atom-item keep (blob start end) s ops v
-next-atom keep [] start end e ops v = absurd (not-both 14 start end (parse []) parse-nil e)
+next-atom keep [] start end e ops v = refused-not-blob 14 start end (sym parse-nil ∙ e)
 next-atom keep (b ∷ s) start end e ops v = choose (eqb b 0xff) (eqb b 0xfe) refl refl
   where
     choose : (f g : Bool) → eqb b 0xff ≡ f → eqb b 0xfe ≡ g → next-item keep (b ∷ s) ops v ≡ atom-item keep (blob start end) (b ∷ s) ops v
-    choose true g h k = absurd (not-both 14 start end (parse (b ∷ s)) (ap (λ (x : ℕ). parse (x ∷ s)) (eqb-true b 0xff h) ∙ parse-ff s) e)
-    choose false true h k = absurd (not-both 14 start end (parse (b ∷ s)) (ap (λ (x : ℕ). parse (x ∷ s)) (eqb-true b 0xfe k) ∙ parse-fe s) e)
+    choose true g h k = refused-not-blob 14 start end (sym (ap (λ (x : ℕ). parse (x ∷ s)) (eqb-true b 0xff h) ∙ parse-ff s) ∙ e)
+    choose false true h k = refused-not-blob 14 start end (sym (ap (λ (x : ℕ). parse (x ∷ s)) (eqb-true b 0xfe k) ∙ parse-fe s) ∙ e)
     choose false false h k = rw (h, k, e)
 
 -- ---- from the grammar to the reader
@@ -114,8 +112,7 @@ not-accepted : {X : Type 0} (n : ℕ) (p : Plain) → turned-down n ≡ accepted
 not-accepted n p e = absurd (let z : _≡_ {A = ℕ} 0 1 = cc in omega arith)
 
 bytes-after : (xs ys : List ℕ) → Bytes (xs ++ ys) → Bytes ys
-bytes-after [] ys h = h
-bytes-after (x ∷ xs) ys h = bytes-after xs ys (h .1)
+bytes-after xs ys h = subst Bytes (drop-at xs ys (length xs) refl) (all-drop (λ (n : ℕ). n < 256) (length xs) (xs ++ ys) h)
 
 module _ (ops : List ParseOp) (ts : List Tree) (m : ℕ) (p : Plain) where
   first-atom : (s : List ℕ) → Bytes s → (x : Parse) → parse s ≡ x → on (atom-item plain-values x s ops (kept ts m)) ≡ accepted p → First s ops ts p

@@ -1,4 +1,4 @@
--- What the reading call promises of its result: the tree that the input stands for, or why there is none. It holds of the call's definition, for every input
+-- What the reading call promises of its result: the tree that the input stands for, or why there is none. The call's definition keeps it, for every input
 -- and all slices.
 -- Assumes nothing.
 use Prim.Native.Nat.{ℕ, _+_, _-_, _≤_, _<_}
@@ -35,7 +35,7 @@ pub record ReadAs (r : Result) (tree : Tree) : Type 0 where
 
 -- What the result of a reading call with this input says, by its number.
 pub data ReadsPlainly (input : List ℕ) (r : Result) : Type 0 where
-  -- 0: the input stands for a tree, the root is that tree, and pairs and ghost pairs are as many as the plain reader makes.
+  -- 0: the input stands for a tree, the root in the slices is that tree, and pairs and ghost pairs together are as many as the plain reader makes.
   a-tree : (tree : Tree) → StandsFor [] input tree → ReadAs r tree
       → read-plain input ≡ accepted (record { trees = tree ∷ []; made = r .answer .pairs + r .answer .ghosts }) → ReadsPlainly input r
   -- 14, 15 or 16: the input stands for no tree, and the plain reader turns it down with this number.
