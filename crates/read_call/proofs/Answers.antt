@@ -1,7 +1,7 @@
 -- Laws of the reading call: cleared slices are a fresh store, and what was read gives the answer and the slices that the definition says.
 -- Assumes nothing.
 use Prim.Native.Nat.{ℕ, zero, suc, _-_, _*_, _/_, _≤_, _<_}
-use mathlib.Core.Path.{_≡_, refl, sym, ap, _∙_}
+use mathlib.Core.Path.{_≡_, refl, sym, ap, subst, _∙_}
 use mathlib.Core.Bool.{Bool, true, false, cond, _&&_}
 use mathlib.Core.List.{List, _++_}
 use native.Mathlib.Omega.{arith}
@@ -10,10 +10,12 @@ use lib.Dec.{leb}
 use lib.ListN.{length, take, drop, replicate, length-replicate, take-append-drop}
 use lib.Seq.{length-take-le}
 use Rattle.words.specs.Words.{at, WORK}
+use Rattle.words.specs.Lists.{Bytes}
 use Rattle.spec_reading.specs.Format.{Read}
 use Rattle.spec_reading.specs.Store.{Stored, read-stored}
 use Rattle.spec_reading.specs.Bounds.{Bounds, sound-bounds}
 use Rattle.spec_reading.specs.Call.{Slices, Result, refusal, zeroed, filled, root-of, answer-of, after, long-enough, reading}
+use Rattle.spec_reading.specs.Promise.{ReadsPlainly, reads-plainly}
 use Rattle.read_store.specs.Layout.{VALUES, values-of}
 use Rattle.read_item.specs.Whole.{stored-of, Lent, Ends}
 use Rattle.read_item.specs.declared.settle.Reader.{Reader}
@@ -188,3 +190,9 @@ module _ (input w p a b : List ℕ) (t : Bool) (test : t ≡ long-enough (slices
 
   pub within : t ≡ true → length input ≤ 65535 → (x : Result) → x ≡ after (read-stored input) (slices w p a b) → x ≡ reading input (slices w p a b)
   within e l x h = h ∙ reading-cases true true e (le-leb _ _ l)
+
+-- ---- the promise
+
+-- What is the definition's result reads plainly.
+pub promised : (input : List ℕ) → Bytes input → (l : Slices) (x : Result) → x ≡ reading input l → (x ≡ reading input l) × ReadsPlainly input x
+promised input bytes l x e = (e, subst (ReadsPlainly input) (sym e) (reads-plainly input bytes l))

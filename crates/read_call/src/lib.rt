@@ -11,6 +11,7 @@ ghost use Prim.Native.Nat.{_≤_};
 ghost use lib.ListN.{length};
 ghost use Rattle.spec_reading.specs.Store.{read-stored};
 ghost use Rattle.spec_reading.specs.Call.{long-enough, after, reading};
+ghost use Rattle.spec_reading.specs.Promise.{ReadsPlainly};
 ghost use Rattle.read_answer.specs.Answer.{slices};
 ghost use Rattle.read_call.specs.Outcome.{read-result-of, Counted, ended};
 
@@ -72,6 +73,9 @@ pub extern "C" fn nikvoldra_read(
         read-result-of r (now (work .exit)) (now (pairs .exit)) (now (atoms .exit)) (now (bytes .exit))
         ≡ reading (now (input .entry))
         (slices (now (work .entry)) (now (pairs .entry)) (now (atoms .entry)) (now (bytes .entry))) ⌝ }
+    ensures { λ r. ⌜
+        ReadsPlainly (now (input .entry))
+        (read-result-of r (now (work .exit)) (now (pairs .exit)) (now (atoms .exit)) (now (bytes .exit))) ⌝ }
 {
     if !read_answer::long_enough(work, pairs, atoms, bytes) {
         return read_answer::refusal(1);

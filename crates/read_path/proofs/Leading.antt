@@ -203,7 +203,7 @@ module _ (path w p : List ℕ) (values listed used ghosts : ℕ) (a : HaveLists 
             ghosts-are = l .ghosts-are s e f;
             pairs-rest = l .pairs-rest;
             low = l .low;
-            lists = l .lists values (a .few) (omega arith);
+            lists = record { all = l .lists; few = omega (arith, l .listed-is, a .few) };
           }
 
 -- ---- what the walk and the list ask for

@@ -1,5 +1,5 @@
 -- The list of the stack's values in work: the room that it takes, and what is left.
-use Prim.Native.Nat.{ℕ, _+_, _*_, _≤_, _<_}
+use Prim.Native.Nat.{ℕ, _+_, _*_, _≤_, _<_, max}
 use mathlib.Core.Path.{_≡_}
 use mathlib.Core.List.{List, _∷_}
 use mathlib.Core.Option.{Option}
@@ -53,7 +53,7 @@ pub record Adds (w p : List ℕ) (i : ℕ) (below : Built) (w′ p′ : List ℕ
   pub listed-is : b .listed ≡ i + 1
 
 -- The list of the lowest `count` values is made as `list-of` says, in any store whose pairs and ghosts are those in use; the rest
--- is as it was. All these have a list then, and no more are known to than before or these.
+-- is as it was. All these have a list then, and those that had one before.
 pub record Lists (w p : List ℕ) (count listed used ghosts : ℕ) (w′ p′ : List ℕ) (b : Built) : Type 0 where
   pub node-is : (s : Store) → s .pairs ≡ take (2 * used) p → s .ghosts ≡ ghosts → b .node .0 ≡ list-of (values-of w count) s .node
   pub values-are : (s : Store) → s .pairs ≡ take (2 * used) p → s .ghosts ≡ ghosts → values-of w′ count ≡ list-of (values-of w count) s .values
@@ -64,5 +64,5 @@ pub record Lists (w p : List ℕ) (count listed used ghosts : ℕ) (w′ p′ : 
   pub high : (k : ℕ) → VALUES + 2 * count ≤ k → at w′ k ≡ at w k
   pub total : b .pairs + b .ghosts ≡ used + ghosts
   pub more : used ≤ b .pairs
-  pub least : count ≤ b .listed
-  pub lists : (n : ℕ) → listed ≤ n → count ≤ n → HaveLists w′ (b .listed) n
+  pub listed-is : b .listed ≡ max listed count
+  pub lists : unlisted (values-of w′ (b .listed)) ≡ 0

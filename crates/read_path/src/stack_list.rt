@@ -2,7 +2,7 @@
 use allocator::NodePtr;
 use read_store::reader_stacks::VALUES;
 ghost use mathlib.Core.Path.{_≡_};
-ghost use Prim.Native.Nat.{_≤_};
+ghost use Prim.Native.Nat.{_≤_, min};
 ghost use lib.ListN.{length};
 ghost use Rattle.words.specs.Words.{WORK};
 ghost use Rattle.spec_reading.specs.Store.{Store, list-of};
@@ -27,7 +27,7 @@ pub struct Built {
 
 // How many of the lowest `listed` values are among the lowest `values`.
 pub fn listed_among(listed: usize, values: usize) -> usize
-    ensures { λ r. ⌜ (r ≤ listed) × (r ≤ values) ⌝ }
+    ensures { λ r. ⌜ r ≡ min listed values ⌝ }
 {
     if listed < values {
         return listed;

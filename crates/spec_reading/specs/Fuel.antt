@@ -1,6 +1,6 @@
 -- Reading goes on item by item, with no bound on their number: each item takes a byte at least, so `run` never comes to its bound first.
 use Prim.Native.Nat.{ℕ, zero, suc, _≤_, _<_}
-use mathlib.Core.Path.{_≡_, refl, sym}
+use mathlib.Core.Path.{_≡_, refl, sym, _∙_}
 use mathlib.Core.Bool.{Bool, true, false, cond}
 use mathlib.Core.List.{List, [], _∷_}
 use mathlib.Core.Option.{Option, none, some}
@@ -77,3 +77,15 @@ module _ {S : Type 0} (keep : Values S) where
   run-enough (suc m) zero a l k = next-none (a .rest) (a .ops) (a .values) (λ b. run keep m b) k
   run-enough (suc m) (suc n) a l k =
       then-enough (length (a .rest)) (λ b. run keep m b) (λ b. run keep n b) (λ b s. run-enough m n b (omega arith) (omega arith)) (step keep a) (step-shorter a)
+
+  -- Reading from here on, to the end.
+  abbrev pub onward : At S → Read S
+  onward a = run keep (length (a .rest)) a
+
+  -- An item, and reading on from there.
+  pub onward-step : (a : At S) → onward a ≡ then keep (step keep a) onward
+  unfolding run
+  onward-step a =
+      run-enough (length (a .rest)) (suc (length (a .rest))) a (omega arith) (omega arith)
+      ∙ then-enough (length (a .rest)) (λ b. run keep (length (a .rest)) b) onward (λ b s. run-enough (length (a .rest)) (length (b .rest)) b (omega arith) (omega arith))
+      (step keep a) (step-shorter a)

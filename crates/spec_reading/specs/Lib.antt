@@ -1,13 +1,17 @@
 pub mod Tree
 pub mod Format
 pub mod Plain
+pub mod Grammar
 pub mod Store
 pub mod Sound
 pub mod Names
 pub mod Blobs
 pub mod Fuel
+pub mod GrammarLaws
+pub mod Refusals
 pub mod Same
 pub mod Call
 pub mod Agree
+pub mod Promise
 pub mod Bounds
 pub mod Cases

@@ -3,7 +3,7 @@ use Prim.Native.Nat.{ℕ, _+_}
 use mathlib.Core.Bool.{Bool}
 use mathlib.Core.List.{List, [], _∷_}
 use mathlib.Core.Option.{Option, none, some}
-use Rattle.spec_reading.specs.Tree.{Tree, atom, cons, follow, as-list}
+use Rattle.spec_reading.specs.Tree.{Tree, atom, cons, as-list, lead}
 use Rattle.spec_reading.specs.Format.{Values, Read, read}
 
 -- The trees read, the last one first. `made` counts the pairs of a reader that keeps this stack as a list of pairs: one for each value
@@ -22,10 +22,9 @@ abbrev pub found : Option Tree → Plain → Option Plain
 found none p = none
 found (some t) p = some (push t p)
 
--- A path leads from the stack as a list; with no set bit it is nil.
+-- A path leads from the stack as a list.
 abbrev pub push-path-plain : Option (List Bool) → Plain → Option Plain
-push-path-plain none p = some (push (atom []) p)
-push-path-plain (some bits) p = found (follow bits (as-list (p .trees))) p
+push-path-plain path p = found (lead path (as-list (p .trees))) p
 
 abbrev pub join-trees : List Tree → List Tree
 join-trees [] = []

@@ -1,8 +1,9 @@
--- Trees with open places, the walk down a path, and a stack of trees as a list.
+-- Trees with open places, the walk down a path, a stack of trees as a list, and what a reference into it is.
 use Prim.Native.Nat.{ℕ}
 use mathlib.Core.Bool.{Bool, true, false}
 use mathlib.Core.List.{List, [], _∷_}
 use mathlib.Core.Option.{Option, none, some}
+use Rattle.path.specs.Bytes.{read-path}
 
 -- A tree; `place` is an open place.
 pub data Tree : Type 0 where
@@ -26,3 +27,13 @@ follow (b ∷ bs) (cons l r) = follow bs (pick b l r)
 abbrev pub as-list : List Tree → Tree
 as-list [] = atom []
 as-list (t ∷ ts) = cons t (as-list ts)
+
+-- Where the bits of a path lead from the stack's list. A path with no set bit is nil.
+abbrev pub lead : Option (List Bool) → Tree → Option Tree
+lead none t = some (atom [])
+lead (some steps) t = follow steps t
+
+-- The tree in the place of a reference with these path bytes, where the trees of the stack, the top first, were read before it; none where the path steps
+-- into an atom.
+unfoldable pub referred : List ℕ → List Tree → Option Tree
+referred path trees = lead (read-path path) (as-list trees)

@@ -1,12 +1,21 @@
--- `read_call::nikvoldra_read` gives the answer and leaves the slices as the reading call's definition says.
+-- `read_call::nikvoldra_read` gives the answer and leaves the slices as the reading call's definition says, and so as it promises.
 -- Assumes nothing.
+use Prim.Native.Nat.{ℕ, _<_}
 use mathlib.Core.Path.{sym, _∙_}
 use native.Mathlib.Omega.{arith}
 use borrow.Author.Needs.{needs}
 use borrow.Author.Tests.{not-true, not-false}
-use Rattle.read_call.proofs.Answers.{too-short, too-long, within}
+use Rattle.words.specs.Lists.{Bytes, all-of}
+use Rattle.read_call.proofs.Answers.{too-short, too-long, within, promised}
 use Rattle.read_call.proofs.nikvoldra_read.Statement.{statement}
 use Rattle.read_call.proofs.nikvoldra_read.Tie as tie
+
+-- The input's members are bytes.
+abbrev input-known : tie.After-long-enough → tie.After-shared-slice-known
+input-known x = x .before .before .before .before .before .before .before .before .before
+
+bytes : (x : tie.After-long-enough) → Bytes (input-known x .before .args .input .now)
+bytes x = all-of (λ (n : ℕ). n < 256) (input-known x .before .args .input .now) 0 (λ i l. omega (arith, input-known x .shared-slice-known .given i))
 
 long-enough-requires : tie.Need-long-enough-requires
 long-enough-requires c κs = search needs
@@ -28,8 +37,9 @@ same-length-4 c = search needs
 
 returns : tie.Need-returns
 returns c =
-    let t = c .before .before .long-enough in
-    too-short _ _ _ _ _ (t .result) (t .ensures) (not-true _ (c .before .if1 .taken)) _ (c .refusal .ensures)
+    let tested = c .before .before in
+    let t = tested .long-enough in
+    promised _ (bytes tested) _ _ (too-short _ _ _ _ _ (t .result) (t .ensures) (not-true _ (c .before .if1 .taken)) _ (c .refusal .ensures))
 
 refusal-requires-2 : tie.Need-refusal-requires-2
 refusal-requires-2 c κs = search needs
@@ -48,8 +58,10 @@ same-length-8 c = search needs
 
 returns-2 : tie.Need-returns-2
 returns-2 c =
-    let t = c .before .before .before .long-enough in
-    too-long _ _ _ _ _ (t .result) (t .ensures) (not-false _ (c .before .before .if1 .left)) (omega (arith, c .before .if2)) _ (c .refusal2 .ensures)
+    let tested = c .before .before .before in
+    let t = tested .long-enough in
+    promised _ (bytes tested) _ _
+    (too-long _ _ _ _ _ (t .result) (t .ensures) (not-false _ (c .before .before .if1 .left)) (omega (arith, c .before .if2)) _ (c .refusal2 .ensures))
 
 read-in-requires : tie.Need-read-in-requires
 read-in-requires c κs =
@@ -73,8 +85,10 @@ returns-3 : tie.Need-returns-3
 returns-3 c =
     let read = c .before .before .before .before .before .before .before .before in
     let short = read .before .before .before .before .before in
-    let t = short .before .before .long-enough in
-    within _ _ _ _ _ (t .result) (t .ensures) (not-false _ (short .before .if1 .left)) (omega (arith, short .if2)) _ (read .read-in .ensures)
+    let tested = short .before .before in
+    let t = tested .long-enough in
+    promised _ (bytes tested) _ _
+    (within _ _ _ _ _ (t .result) (t .ensures) (not-false _ (short .before .if1 .left)) (omega (arith, short .if2)) _ (read .read-in .ensures))
 
 pub nikvoldra-read-spec : {M : Type 1} → statement M
 nikvoldra-read-spec =

@@ -199,8 +199,8 @@ lists-start w p i listed used ghosts b h a n u g m =
       high = λ k l. refl;
       total = omega arith;
       more = omega arith;
-      least = omega arith;
-      lists = λ k l _. record { all = ap (λ (j : ℕ). unlisted (values-of w j)) m ∙ a; few = omega arith };
+      listed-is = omega arith;
+      lists = ap (λ (j : ℕ). unlisted (values-of w j)) m ∙ a;
     }
 
 -- What is past n pairs is past more of them.
@@ -243,8 +243,8 @@ module _ (w₀ p₀ : List ℕ) (listed used ghosts i : ℕ) (w p : List ℕ) (b
       let s : Store = record { pairs = take (2 * used) p₀; atoms = []; bytes = []; ghosts = ghosts } in
       ap (λ (n : ℕ). unlisted (values-of w′ n)) (a .listed-is) ∙ ap unlisted (values-next s refl refl) ∙ all-listed (values-of w₀ (i + 1)) s
 
-  pub lists-more : Lists w₀ p₀ (i + 1) listed used ghosts w′ p′ b
-  lists-more =
+  pub lists-more : listed ≤ i → Lists w₀ p₀ (i + 1) listed used ghosts w′ p′ b
+  lists-more past =
       record {
         node-is = λ s e f. holds s e f .node-is;
         values-are = values-next;
@@ -255,8 +255,8 @@ module _ (w₀ p₀ : List ℕ) (listed used ghosts i : ℕ) (w p : List ℕ) (b
         high = λ k m. a .others k (λ q. omega arith) ∙ l .high k (omega arith);
         total = a .total ∙ l .total;
         more = omega (arith, grown, l .more);
-        least = omega (arith, a .listed-is);
-        lists = λ n h k. record { all = listed-next; few = omega (arith, a .listed-is) };
+        listed-is = omega (arith, a .listed-is);
+        lists = listed-next;
       }
 
   -- A ghost pair is spent for each value without a list.

@@ -50,8 +50,8 @@ returns : tie.Need-returns
 returns c =
     let j = c .before .before .before .before .before .before .before .before in
     let p = j .before .before .before .before .before .before .before .pre in
-    let n = j .before .before .before .listed-among in
-    (joins.joined-onward _ _ _ _ _ (p .0) (p .1) (p .2) (j .join .ensures) _ (n .ensures .0) (n .ensures .1), refl)
+    let e = j .before .before .before .listed-among .ensures in
+    (joins.joined-onward _ _ _ _ _ (p .0) (p .1) (p .2) (j .join .ensures) _ (omega (arith, e)) (omega (arith, e)), refl)
 
 pub join-top-spec : {M : Type 1} → statement M
 join-top-spec =

@@ -1,6 +1,6 @@
 -- `read_path::stack_list::build_list` meets its contract. The loop's invariant: the list of the lowest i values is made, and a ghost
--- pair was spent for each of them without a list. Assumes nothing.
-use Prim.Native.Nat.{_+_, _-_, _≤_}
+-- pair was spent for each of them without a list; i is past the values that had theirs. Assumes nothing.
+use Prim.Native.Nat.{_+_, _-_, _≤_, min}
 use mathlib.Core.Path.{_≡_, refl, _∙_}
 use native.Mathlib.Omega.{arith}
 use lib.ListN.{length}
@@ -16,7 +16,7 @@ abbrev Inv-loop : tie.InvT-loop
 Inv-loop work₀ pairs₀ count i₀ b₀ work pairs i b =
     (i ≤ count) × (length work ≡ length work₀) × (length pairs ≡ length pairs₀)
     × Lists work₀ pairs₀ i (b₀ .listed) (b₀ .pairs) (b₀ .ghosts) work pairs b
-    × (b .ghosts + unlisted (values-of work₀ i) ≡ b₀ .ghosts)
+    × (b .ghosts + unlisted (values-of work₀ i) ≡ b₀ .ghosts) × (min (b₀ .listed) count ≤ i)
 
 abbrev μ-loop : tie.MeasureT-loop
 μ-loop work₀ pairs₀ count i₀ b₀ work pairs i b = count - i
@@ -27,14 +27,20 @@ listed-among-requires c κs = search needs
 list-at-requires : tie.Need-list-at-requires Inv-loop μ-loop
 list-at-requires c κs =
     let p = c .before .before .before .before .pre in
-    let i = c .before .listed-among in
-    (p .work, record { all = fewer-listed _ _ _ (i .ensures .0) (p .lists); few = omega (arith, i .ensures .1, p .few) })
+    let e = c .before .listed-among .ensures in
+    (p .work, record { all = fewer-listed _ _ _ (omega (arith, e)) (p .lists); few = omega (arith, e, p .few) })
 
 loop-holds : tie.Need-loop-holds Inv-loop μ-loop
 loop-holds c =
     let p = c .before .before .before .before .before .pre in
-    let i = c .before .before .listed-among .ensures in
-    (i .1, refl, refl, lists-start _ _ _ _ _ _ _ (i .0) (p .lists) (c .list-at .ensures) refl refl refl, spent-start _ _ _ _ (i .0) (p .lists))
+    let e = c .before .before .listed-among .ensures in (
+      omega (arith, e),
+      refl,
+      refl,
+      lists-start _ _ _ _ _ _ _ (omega (arith, e)) (p .lists) (c .list-at .ensures) refl refl refl,
+      spent-start _ _ _ _ (omega (arith, e)) (p .lists),
+      omega (arith, e),
+    )
 
 add-value-requires : tie.Need-add-value-requires Inv-loop μ-loop
 add-value-requires c κs =
@@ -60,12 +66,14 @@ loop-less c = omega (arith, c .before .before .before .before .before .before .b
 loop-again : tie.Need-loop-again Inv-loop μ-loop
 loop-again c =
     let h = c .before .before .before .before .before .before .before .before in
-    let r = c .before .before .before .before .add-value in (
-      omega (arith, c .before .before .before .before .before .before .before .loop-test .taken),
+    let r = c .before .before .before .before .add-value in
+    let some-left = c .before .before .before .before .before .before .before .loop-test .taken in (
+      omega (arith, some-left),
       r .kept .0 ∙ h .loop .inv .1,
       r .kept .1 .0 ∙ h .loop .inv .2,
-      lists-more _ _ _ _ _ _ _ _ _ (h .loop .inv .3) _ _ _ (r .ensures),
+      lists-more _ _ _ _ _ _ _ _ _ (h .loop .inv .3) _ _ _ (r .ensures) (omega (arith, some-left, h .loop .inv .5)),
       spent-more _ _ _ _ _ _ _ _ _ (h .loop .inv .3) _ _ _ (r .ensures) (h .loop .inv .4),
+      omega (arith, h .loop .inv .5),
     )
 
 same-length : tie.Need-same-length Inv-loop μ-loop

@@ -40,7 +40,7 @@ returns c =
     let r = read .nikvoldra-read in
     let a = cut .before .before .before .before .before .before .args in
     first-read (l .result) (a .session .size) (a .output .now) (l .ensures) (slices (a .work .now) (a .pairs .now) (a .atoms .now) (a .bytes .now))
-    (read-result-of (r .result) (r .last .1 .0) (r .last .1 .1 .0) (r .last .1 .1 .1 .0) (r .last .1 .1 .1 .1 .0)) (r .ensures)
+    (read-result-of (r .result) (r .last .1 .0) (r .last .1 .1 .0) (r .last .1 .1 .1 .0) (r .last .1 .1 .1 .1 .0)) (r .ensures .0)
 
 pub read-first-spec : {M : Type 1} → statement M
 read-first-spec =
