@@ -8,8 +8,8 @@ use lib.Dec.{leb}
 use lib.ListN.{length}
 use Rattle.words.specs.Words.{WORK}
 use Rattle.spec_reading.specs.Call as read
+use Rattle.spec_reading.specs.Promise.{ReadAs}
 use Rattle.read_answer.specs.Answer.{slices as store-slices}
-use Rattle.spec_session.specs.Demand3.{ReadAs}
 use Rattle.spec_session.specs.Call.{Result}
 use Rattle.session_state.specs.declared.checkpoints.Checkpoint.{Checkpoint}
 use Rattle.session_answer.specs.declared.SessionAnswer.{SessionAnswer}

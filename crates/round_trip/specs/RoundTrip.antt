@@ -6,10 +6,11 @@ use mathlib.Core.List.{List, map}
 use lib.ListN.{take}
 use Rattle.path.specs.Measure.{counted}
 use Rattle.spec_reading.specs.Call as read
+use Rattle.spec_reading.specs.Promise.{ReadAs}
 use Rattle.spec_session.specs.File.{File, add, version-1, got, file}
 use Rattle.spec_session.specs.Unfold.{unfolded}
 use Rattle.spec_session.specs.Premises.{Apart}
-use Rattle.spec_session.specs.Demand3.{Finished, ReadAs, ReadBack}
+use Rattle.spec_session.specs.Demand3.{Finished, ReadBack}
 use Rattle.spec_session.specs.Call.{Result, session}
 use Rattle.session_state.specs.declared.checkpoints.Checkpoint.{Checkpoint}
 use Rattle.session_state.specs.Records.{blank}

@@ -7,7 +7,7 @@ use mathlib.Core.Option.{some}
 use Rattle.spec_search.specs.Search.{Parents, search, walk, passes}
 use Rattle.spec_reading.specs.Tree.{Tree, atom, cons}
 use Rattle.spec_search.specs.Sound.{Linked}
-use Rattle.spec_search.specs.Reference.{referred, reference-right}
+use Rattle.spec_search.specs.Reference.{reference-right}
 use Rattle.path.specs.Bytes.{path-bytes, read-path, octets, all-bits, low-bits, below-top}
 
 -- No entry has a parent; entry 0 stands alone on the stack, and has length 7, as foobar: the path is 02.

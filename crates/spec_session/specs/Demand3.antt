@@ -19,10 +19,8 @@ use Rattle.words.specs.Lists.{Bytes}
 use Rattle.words.specs.Words.{at}
 use Rattle.spec_reading.specs.Tree.{Tree}
 use Rattle.path.specs.Measure.{counted}
-use Rattle.spec_reading.specs.Format.{accepted}
-use Rattle.spec_reading.specs.Store.{Store, read-stored}
-use Rattle.spec_reading.specs.Names.{NamesHandle, names-more}
 use Rattle.spec_reading.specs.Call as read
+use Rattle.spec_reading.specs.Promise.{ReadAs, read-as}
 use Rattle.spec_session.specs.File.{File, Step, add, Limits, version-1, Got, got, refused, file}
 use Rattle.spec_session.specs.Unfold.{unfolded}
 use Rattle.spec_session.specs.Filling.{plain-filling}
@@ -36,19 +34,9 @@ use Rattle.spec_session.specs.Counted.{counted-covers}
 use Rattle.spec_session.specs.Steps.{room-in, UndoState, undo-state, Run, run-steps, with-word, after-add, unless-full, word-of, finished-bit}
 use Rattle.spec_session.specs.Call.{Slices, Result, long-enough, usable, untouched, after-run, after-file, session}
 use Rattle.spec_session.specs.Theorem.{filling-stays}
-use Rattle.spec_session.specs.TheoremBytes.{BytesReadBack}
 use Rattle.spec_session.specs.TheoremFile.{read-back-file}
 
 -- ---- the statement
-
--- The store that the reading call left in its slices.
-abbrev pub store-in : read.Result → Store
-store-in r = record { pairs = r .slices .pairs; atoms = r .slices .atoms; bytes = r .slices .bytes; ghosts = r .answer .ghosts }
-
--- Reading exactly these bytes gives 0 and a root, and the root followed through the pairs and atoms read is the tree.
-pub record ReadAs (r : read.Result) (tree : Tree) : Type 0 where
-  pub number : r .answer .number ≡ 0
-  pub root : NamesHandle (store-in r) (r .answer .root) tree
 
 -- 01: "Each finished step writes one 32-bit word: size × 2, plus 1 if finished."
 abbrev pub Finished : (words : List ℕ) → (step : ℕ) → Type 0
@@ -176,29 +164,6 @@ taken l used n e = take-at used (replicate (length l - length used) 0) n (sym e)
 at-front : (l used : List ℕ) (k : ℕ) → k < length used → at (read.filled l used) k ≡ at used k
 at-front l used k h = List·getD-append used (replicate (length l - length used) 0) 0 k h
 
--- The store that was read names the tree also in the slices, past whose used slots there are zeros.
-read-as : (bytes : List ℕ) (f : File) (hs : List ℕ) (items : List Item) → bytes ≡ output items → (space : ℕ) → length (output items) ≤ 65535 → (b : BytesReadBack space f hs items)
-    → (lent : read.Slices) → read.long-enough lent ≡ true → ReadAs (read.reading bytes lent) (b .result)
-unfolding read.reading
-read-as bytes f hs items e space short b lent long =
-    let few : leb (length bytes) 65535 ≡ true = rw e (le-leb (length (output items)) 65535 short) in
-    let got : read-stored bytes ≡ accepted (b .stored) = rw e (b .reads) in
-    rw (long, few, got)
-    (record {
-      number = refl;
-      root =
-          names-more (b .stored .store) _ _ (b .result)
-          (record {
-            pairs-added = replicate (length (lent .pairs) - length (b .stored .store .pairs)) 0;
-            atoms-added = replicate (length (lent .atoms) - length (b .stored .store .atoms)) 0;
-            bytes-added = replicate (length (lent .bytes) - length (b .stored .store .bytes)) 0;
-            pairs-are = refl;
-            atoms-are = refl;
-            bytes-are = refl;
-          })
-          (b .root-named);
-    })
-
 -- Filling in leaves the length.
 filled-length : (l used : List ℕ) → length used ≤ length l → length (read.filled l used) ≡ length l
 filled-length l used h = omega (arith, length-append used (replicate (length l - length used) 0), length-replicate {A = ℕ} (length l - length used) 0)
@@ -228,7 +193,9 @@ run-result blank l carried most measure covers input bytes f rest file-is handle
       stays =
           ap (plain-filling f) (sym (take-append-drop (suc k) handles))
           ∙ filling-stays f (take (suc k) handles) (drop (suc k) handles) (b .result) (b .is-whole) (b .filled);
-      reads = read-as _ f (take (suc k) handles) (r .last .written .items) front (usable l s) (omega (arith, size-is, b .short)) b;
+      reads =
+          subst (λ (x : List ℕ). (lent : read.Slices) → read.long-enough lent ≡ true → ReadAs (read.reading x lent) (b .result)) (sym front)
+          (read-as (output (r .last .written .items)) (b .stored) (b .result) (omega (arith, size-is, b .short)) (b .reads) (b .root-named));
       items-read = b .items-read;
       no-longer = b .no-longer;
       word = at-front (s .words) (r .words) k (omega (arith, m .all-words)) ∙ m .last-word;

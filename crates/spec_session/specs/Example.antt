@@ -20,6 +20,7 @@ use Rattle.path.specs.Measure.{counted}
 use Rattle.spec_search.specs.Search.{walk, passes, search}
 use Rattle.spec_reading.specs.Tree.{Tree, atom, cons}
 use Rattle.spec_reading.specs.Call as read
+use Rattle.spec_reading.specs.Promise.{ReadAs}
 use Rattle.spec_session.specs.File.{version-1}
 use Rattle.spec_session.specs.Unfold.{unfolded}
 use Rattle.spec_session.specs.session_file.Cases.{foobar, whole-case, whole-file, whole-case-is, state-2}
@@ -29,7 +30,7 @@ use Rattle.spec_session.specs.FindPath.{find-in}
 use Rattle.spec_session.specs.Steps.{Run, run-steps}
 use Rattle.spec_session.specs.Call.{Answer, Slices, Result, long-enough, after-run, session}
 use Rattle.spec_session.specs.Cases.{whole-apart}
-use Rattle.spec_session.specs.Demand3.{Finished, ReadAs, ReadBack, demand-3}
+use Rattle.spec_session.specs.Demand3.{Finished, ReadBack, demand-3}
 
 abbrev all-below-256 : List ℕ → Bool
 all-below-256 [] = true
