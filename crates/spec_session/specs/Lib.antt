@@ -34,5 +34,4 @@ pub mod Formed
 pub mod FileAtoms
 pub mod TheoremFile
 pub mod Demand3
-pub mod session_file
 pub mod Sentinel
