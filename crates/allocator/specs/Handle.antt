@@ -61,10 +61,3 @@ is-atom (pair i) = false
 is-atom (listed-atom i) = true
 is-atom (small-atom v) = true
 is-atom (unknown k i) = false
-
-abbrev pub is-nil : Node → Bool
-is-nil (pair i) = false
-is-nil (listed-atom i) = false
-is-nil (small-atom zero) = true
-is-nil (small-atom (suc v)) = false
-is-nil (unknown k i) = false

@@ -4,11 +4,9 @@ use Prim.Native.Nat.{ℕ, zero, suc, _+_, _*_, _/_, _%_, _^_, _≤_, _<_}
 use mathlib.Core.Path.{_≡_, refl, sym, ap, _∙_}
 use mathlib.Core.Bool.{Bool, true, false}
 use native.Mathlib.Omega.{arith}
-use lib.Dec.{eqb}
-use borrow.Author.Tests.{eq-eqb, ne-eqb}
 use Rattle.allocator.specs.declared.ObjectType.{ObjectType}
 use Rattle.allocator.specs.declared.ObjectType.the-variants.{Pair, Bytes, SmallAtom, Unknown}
-use Rattle.allocator.specs.Handle.{Node, pair, listed-atom, small-atom, unknown, node-of-kind, node-of, kind-of, index-of, handle-of, nil, object-type-of, is-pair, is-atom, is-nil}
+use Rattle.allocator.specs.Handle.{Node, pair, listed-atom, small-atom, unknown, node-of-kind, node-of, kind-of, index-of, handle-of, nil, object-type-of, is-pair, is-atom}
 
 kind-of-kind : (k i : ℕ) → kind-of (node-of-kind k i) ≡ k
 kind-of-kind zero i = refl
@@ -118,17 +116,3 @@ handle-of-nil = refl
 pub node-of-nil : node-of 134217728 ≡ nil
 unfolding node-of
 node-of-nil = refl
-
--- A handle is nil's when it names nil.
-pub is-nil-handle : (h : ℕ) → eqb h (handle-of nil) ≡ is-nil (node-of h)
-is-nil-handle h = go (node-of h) refl
-  where
-    other : (n : Node) → node-of h ≡ n → (n ≡ nil → ⊥) → eqb h (handle-of nil) ≡ false
-    other n e f = ne-eqb h (handle-of nil) (λ q. f (sym e ∙ ap node-of q ∙ node-of-small-atom 0 (omega arith)))
-
-    go : (n : Node) → node-of h ≡ n → eqb h (handle-of nil) ≡ is-nil n
-    go (pair i) e = other (pair i) e (λ q. let z : _≡_ {A = ℕ} 0 1 = cc in omega arith)
-    go (listed-atom i) e = other (listed-atom i) e (λ q. let z : _≡_ {A = ℕ} 0 1 = cc in omega arith)
-    go (small-atom zero) e = eq-eqb h (handle-of nil) (sym (handle-of-node-of h) ∙ ap handle-of e)
-    go (small-atom (suc v)) e = other (small-atom (suc v)) e (λ q. let z : suc v ≡ 0 = cc in omega arith)
-    go (unknown k i) e = other (unknown k i) e (λ q. let z : _≡_ {A = ℕ} 0 1 = cc in omega arith)

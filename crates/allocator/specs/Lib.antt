@@ -2,4 +2,3 @@ pub mod Handle
 pub mod HandleLaws
 pub mod SmallAtom
 pub mod SmallAtomLaws
-pub mod Cases

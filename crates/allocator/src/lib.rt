@@ -5,7 +5,7 @@ pub mod small_atom;
 ghost use mathlib.Core.Path.{_≡_};
 ghost use Prim.Native.Nat.{_+_, _*_, _^_, _<_};
 ghost use lib.Dec.{eqb};
-ghost use Rattle.allocator.specs.Handle.{node-of, handle-of, pair, listed-atom, small-atom, index-of, object-type-of, is-pair, is-atom, is-nil};
+ghost use Rattle.allocator.specs.Handle.{node-of, handle-of, pair, listed-atom, small-atom, index-of, object-type-of, is-pair, is-atom};
 
 // A node's handle: a kind in bits 26 up, and 26 bits of index or small value.
 pub struct NodePtr(pub u32);
@@ -100,13 +100,6 @@ impl NodePtr {
             ObjectType::SmallAtom => true,
             ObjectType::Unknown => false,
         }
-    }
-
-    // Whether the handle names the empty atom.
-    pub fn is_nil(self) -> bool
-        ensures { λ r. ⌜ r ≡ is-nil (node-of (self .0)) ⌝ }
-    {
-        self.same(NodePtr::NIL)
     }
 
     // Whether two handles are the same.

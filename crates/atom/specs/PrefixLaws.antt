@@ -87,6 +87,10 @@ bits-up v zero h k = absurd (omega arith)
 bits-up v (suc zero) h k = absurd (omega arith)
 bits-up v (suc (suc w)) h k = pow-mono (omega arith)
 
+-- No width carries a size that a lesser one holds.
+pub carries-most : (v w size : ℕ) → 1 ≤ v → Carries w size → size < 2 ^ size-bits v → w ≤ v
+carries-most v w size h c k = by-lt v w (λ q. absurd (omega (arith, c .from, bits-up v w h q))) (λ q. q)
+
 search : (n v w size : ℕ) → 1 ≤ v → v ≤ w → w < v + n → Carries w size → first-width n v size ≡ some w
 search zero v w size h k l c = absurd (omega arith)
 search (suc n) v w size h k l c =

@@ -6,5 +6,4 @@ pub mod Reference
 pub mod Enough
 pub mod Flat
 pub mod PathBits
-pub mod Examples
 pub mod Used

@@ -1,61 +1,74 @@
--- 01's cases, computed: the whole case, which meets the premises; undo; and why each premise is needed.
-use Prim.Native.Nat.{ℕ, _+_}
+-- 01's whole case and undo example, computed; that the whole case meets the premises; and why each premise is needed.
+use Prim.Native.Nat.{ℕ}
 use mathlib.Core.Path.{_≡_, refl}
-use mathlib.Core.Bool.{false}
-use mathlib.Core.List.{[], _∷_, map}
-use mathlib.Core.Option.{none, some, bind}
+use mathlib.Core.List.{List, [], _∷_, map}
+use mathlib.Core.Option.{Option, none, some, bind}
 use native.Mathlib.Omega.{arith}
 use Rattle.words.specs.BigEndian.{big-endian, number-after}
 use Rattle.allocator.specs.Handle.{node-of, handle-of}
 use Rattle.allocator.specs.SmallAtom.{small-bytes, len-for-value, further-bytes, fits-in-small-atom, is-small-atom}
 use Rattle.atom.specs.Prefix.{first-width, prefix-width, encode}
 use Rattle.atom.specs.Write.{serialized-length}
-use Rattle.spec_reading.specs.Tree.{atom, cons}
+use Rattle.spec_reading.specs.Tree.{Tree, place, atom, cons}
 use Rattle.path.specs.Bytes.{path-bytes, octets}
 use Rattle.path.specs.Measure.{counted}
 use Rattle.spec_search.specs.Search.{walk, passes, search}
-use Rattle.spec_session.specs.File.{File, add, restore, version-1, file, atoms, pairs, steps}
+use Rattle.spec_session.specs.File.{File, got, add, restore, version-1, file, atoms, pairs, steps}
 use Rattle.spec_session.specs.Unfold.{unfolded}
 use Rattle.spec_session.specs.Filling.{plain-filling}
-use Rattle.spec_session.specs.session_file.Cases.{foobar, whole-case, whole-file}
 use Rattle.spec_session.specs.Premises.{Apart}
 use Rattle.spec_session.specs.Cache.{enter, update}
-use Rattle.spec_session.specs.Items.{cons-item, atom-item, reference-item, read-items, output}
+use Rattle.spec_session.specs.Items.{read-items, output}
 use Rattle.spec_session.specs.Writer.{write, resume, start}
 use Rattle.spec_session.specs.FindPath.{find-in}
 use Rattle.spec_session.specs.Steps.{Run, run-steps}
 use Rattle.spec_session.specs.Call.{after-file}
 
+abbrev pub foobar : List ℕ
+foobar = 0x66 ∷ 0x6f ∷ 0x6f ∷ 0x62 ∷ 0x61 ∷ 0x72 ∷ []
+
 abbrev run : File → Run
 run f = run-steps counted 65535 f (f .steps) [] start
 
+-- The words of a run, and the tree that its items are read as.
+abbrev words-read : File → List ℕ × Option Tree
+words-read f = (run f .words, read-items (run f .last .written .items))
+
 -- ---- the whole case
 
-whole-words : run whole-file .words ≡ 16 ∷ 21 ∷ []
-unfolding run-steps unfolded enter update write resume find-in walk passes search node-of handle-of serialized-length encode prefix-width first-width path-bytes octets big-endian
-whole-words = refl
+-- 42 52 53 00 01 00 01 00 06 66 6f 6f 62 61 72 00 02 08 00 00 00 08 00 00 00 04 00 00 00 00 00 00 00 00 00 00 00 01 00 00 00 01 01 04 00 00 00
+abbrev pub whole-case : List ℕ
+whole-case =
+    0x42 ∷ 0x52 ∷ 0x53 ∷ 0 ∷ 1 ∷ 0 ∷ 1 ∷ 0 ∷ 6 ∷ 0x66 ∷ 0x6f ∷ 0x6f ∷ 0x62 ∷ 0x61 ∷ 0x72 ∷ 0 ∷ 2 ∷ 8 ∷ 0 ∷ 0 ∷ 0 ∷ 8 ∷ 0 ∷ 0 ∷ 0 ∷ 4 ∷ 0 ∷ 0 ∷ 0 ∷ 0 ∷ 0 ∷ 0 ∷ 0
+    ∷ 0 ∷ 0 ∷ 0 ∷ 0 ∷ 1 ∷ 0 ∷ 0 ∷ 0 ∷ 1 ∷ 1 ∷ 4 ∷ 0 ∷ 0 ∷ 0 ∷ []
 
-whole-items : run whole-file .last .written .items ≡ cons-item ∷ atom-item foobar ∷ reference-item (false ∷ []) ∷ []
-unfolding run-steps unfolded enter update write resume find-in walk passes search node-of handle-of serialized-length encode prefix-width first-width path-bytes octets big-endian
-whole-items = refl
+abbrev pub whole-file : File
+whole-file =
+    record {
+      atoms = foobar ∷ [];
+      pairs = record { left = 0x8000000; right = 0x8000000 } ∷ record { left = 0x4000000; right = 0 } ∷ [];
+      sentinel = some 0;
+      steps = add 1 ∷ add 0x4000000 ∷ [];
+    }
+
+pub whole-case-is : file version-1 whole-case ≡ got whole-file []
+unfolding file atoms pairs steps number-after big-endian node-of further-bytes fits-in-small-atom is-small-atom
+whole-case-is = refl
+
+-- The states of the plain filling: open; (foobar . open); (foobar . foobar). A third add finds no place open and leaves the tree as it is.
+pub whole-states : map (plain-filling whole-file) ([] ∷ (1 ∷ []) ∷ (1 ∷ 0x4000000 ∷ []) ∷ (1 ∷ 0x4000000 ∷ 0x4000000 ∷ []) ∷ [])
+    ≡ place ∷ cons (atom foobar) place ∷ cons (atom foobar) (atom foobar) ∷ cons (atom foobar) (atom foobar) ∷ []
+unfolding plain-filling unfolded node-of
+whole-states = refl
 
 pub whole-apart : Apart (map (unfolded whole-file) (1 ∷ 0x4000000 ∷ []))
 unfolding unfolded node-of handle-of
 whole-apart = (omega arith, ((λ h a i. i), tt), (omega arith, tt, tt))
 
--- Just enough room.
-whole-fits : run-steps counted 10 whole-file (whole-file .steps) [] start .number ≡ 0
-unfolding run-steps unfolded enter update write resume find-in walk passes search node-of handle-of serialized-length encode prefix-width first-width path-bytes octets big-endian
-whole-fits = refl
-
--- One byte short of the reference: 13, and the items before it stay.
-whole-short : run-steps counted 9 whole-file (whole-file .steps) [] start .number ≡ 13
-unfolding run-steps unfolded enter update write resume find-in walk passes search node-of handle-of serialized-length encode prefix-width first-width path-bytes octets big-endian
-whole-short = refl
-
--- The call: number 0, two steps, ten bytes; whatever the slices held, they hold the words and the bytes, and zero past them. (Question 1 is left out.)
+-- The call: number 0, two steps, ten bytes, for which there is just enough room; whatever the slices held, they hold the words and
+-- the bytes, and zero past them. (Question 1 is left out.)
 whole-call : after-file {C = ℕ} 0 version-1 counted (file version-1 whole-case)
-    (record { work = 7 ∷ 8 ∷ []; words = 1 ∷ 2 ∷ 3 ∷ []; checkpoints = 4 ∷ []; output = 5 ∷ 5 ∷ 5 ∷ 5 ∷ 5 ∷ 5 ∷ 5 ∷ 5 ∷ 5 ∷ 5 ∷ 5 ∷ 5 ∷ [] })
+    (record { work = 7 ∷ 8 ∷ []; words = 1 ∷ 2 ∷ 3 ∷ []; checkpoints = 4 ∷ []; output = 5 ∷ 5 ∷ 5 ∷ 5 ∷ 5 ∷ 5 ∷ 5 ∷ 5 ∷ 5 ∷ 5 ∷ [] })
     ≡ record {
       answer = record { number = 0; steps = 2; size = 10 };
       slices =
@@ -63,42 +76,12 @@ whole-call : after-file {C = ℕ} 0 version-1 counted (file version-1 whole-case
             work = 0 ∷ 0 ∷ [];
             words = 16 ∷ 21 ∷ 0 ∷ [];
             checkpoints = 0 ∷ [];
-            output = 0xff ∷ 0x86 ∷ 0x66 ∷ 0x6f ∷ 0x6f ∷ 0x62 ∷ 0x61 ∷ 0x72 ∷ 0xfe ∷ 0x02 ∷ 0 ∷ 0 ∷ [];
+            output = 0xff ∷ 0x86 ∷ 0x66 ∷ 0x6f ∷ 0x6f ∷ 0x62 ∷ 0x61 ∷ 0x72 ∷ 0xfe ∷ 0x02 ∷ [];
           };
     }
 unfolding file atoms pairs steps number-after fits-in-small-atom is-small-atom further-bytes run-steps unfolded enter update write resume find-in walk passes search node-of handle-of
     serialized-length encode prefix-width first-width path-bytes octets big-endian
 whole-call = refl
-
--- ---- (abc . abc) is `ff 83 61 62 63 fe 02`; (ab . ab) is `ff 82 61 62 82 61 62`: abc and ab are small atoms
-
-abbrev twice : ℕ → File
-twice value = record { atoms = []; pairs = record { left = 0x8000000 + value; right = 0x8000000 + value } ∷ []; sentinel = none; steps = add 0 ∷ [] }
-
-abc-bytes : output (run (twice 0x616263) .last .written .items) ≡ 0xff ∷ 0x83 ∷ 0x61 ∷ 0x62 ∷ 0x63 ∷ 0xfe ∷ 0x02 ∷ []
-unfolding run-steps unfolded enter update write resume find-in walk passes search node-of handle-of
-    serialized-length encode prefix-width first-width path-bytes octets big-endian small-bytes len-for-value further-bytes
-abc-bytes = refl
-
-ab-bytes : output (run (twice 0x6162) .last .written .items) ≡ 0xff ∷ 0x82 ∷ 0x61 ∷ 0x62 ∷ 0x82 ∷ 0x61 ∷ 0x62 ∷ []
-unfolding run-steps unfolded enter update write resume find-in walk passes search node-of handle-of
-    serialized-length encode prefix-width first-width path-bytes octets big-endian small-bytes len-for-value further-bytes
-ab-bytes = refl
-
--- ---- ((foobar . foobar) . (foobar . foobar)): the second half is a reference
-
-square : File
-square =
-    record {
-      atoms = foobar ∷ [];
-      pairs = record { left = 0x4000000; right = 0x4000000 } ∷ record { left = 0; right = 0 } ∷ [];
-      sentinel = none;
-      steps = add 1 ∷ [];
-    }
-
-square-items : run square .last .written .items ≡ cons-item ∷ cons-item ∷ atom-item foobar ∷ reference-item (false ∷ []) ∷ reference-item (false ∷ []) ∷ []
-unfolding square run-steps unfolded enter update write resume find-in walk passes search node-of handle-of serialized-length encode prefix-width first-width path-bytes octets big-endian
-square-items = refl
 
 -- ---- undo: A = ((S . nil) . B) is pair 1, C = (B . nil) is pair 2, B = foobar is atom 0; the sentinel S is the small atom 1
 
@@ -115,11 +98,6 @@ undone =
       steps = add 1 ∷ add 0x4000000 ∷ restore 1 ∷ add 2 ∷ [];
     }
 
-undone-words : run undone .words ≡ 4 ∷ 25 ∷ 4 ∷ 29 ∷ []
-unfolding undone run-steps unfolded enter update write resume find-in walk passes search node-of handle-of
-    serialized-length encode prefix-width first-width path-bytes octets big-endian small-bytes len-for-value further-bytes
-undone-words = refl
-
 undone-bytes : output (run undone .last .written .items)
     ≡ 0xff ∷ 0xff ∷ 0xff ∷ 0x86 ∷ 0x66 ∷ 0x6f ∷ 0x6f ∷ 0x62 ∷ 0x61 ∷ 0x72 ∷ 0x80 ∷ 0x80 ∷ 0xfe ∷ 0x04 ∷ []
 unfolding undone run-steps unfolded enter update write resume find-in walk passes search node-of handle-of
@@ -127,8 +105,8 @@ unfolding undone run-steps unfolded enter update write resume find-in walk passe
 undone-bytes = refl
 
 -- ((C . nil) . C), where the plain filling of A and C is ((C . nil) . B).
-undone-read : read-items (run undone .last .written .items)
-    ≡ some (cons (cons (cons (atom foobar) (atom [])) (atom [])) (cons (atom foobar) (atom [])))
+undone-read : words-read undone
+    ≡ (4 ∷ 25 ∷ 4 ∷ 29 ∷ [], some (cons (cons (cons (atom foobar) (atom [])) (atom [])) (cons (atom foobar) (atom []))))
 unfolding undone bind run-steps unfolded enter update write resume find-in walk passes search node-of handle-of
     serialized-length encode prefix-width first-width path-bytes octets big-endian small-bytes len-for-value further-bytes
 undone-read = refl
@@ -150,12 +128,8 @@ again =
       steps = add 0 ∷ add 4 ∷ add 0x8000003 ∷ [];
     }
 
-again-words : run again .words ≡ 2 ∷ 30 ∷ 41 ∷ []
-unfolding again run-steps unfolded enter update write resume find-in walk passes search node-of handle-of
-    serialized-length encode prefix-width first-width path-bytes octets big-endian small-bytes len-for-value further-bytes
-again-words = refl
-
-again-read : read-items (run again .last .written .items) ≡ none
+-- The last word says finished, and the items are turned down.
+again-read : words-read again ≡ (2 ∷ 30 ∷ 41 ∷ [], none)
 unfolding again bind run-steps unfolded enter update write resume find-in walk passes search node-of handle-of
     serialized-length encode prefix-width first-width path-bytes octets big-endian small-bytes len-for-value further-bytes
 again-read = refl
@@ -176,13 +150,15 @@ two =
       steps = add 1 ∷ add 2 ∷ add 3 ∷ [];
     }
 
-two-filled : plain-filling two (1 ∷ 2 ∷ 3 ∷ [])
-    ≡ cons (cons (cons (atom foobar) (atom [])) (cons (atom (1 ∷ [])) (atom (2 ∷ [])))) (atom foobar)
+-- The same up to the last atom.
+abbrev two-tree : List ℕ → Tree
+two-tree bytes = cons (cons (cons (atom foobar) (atom [])) (cons (atom (1 ∷ [])) (atom (2 ∷ [])))) (atom bytes)
+
+two-filled : plain-filling two (1 ∷ 2 ∷ 3 ∷ []) ≡ two-tree foobar
 unfolding two plain-filling unfolded node-of handle-of small-bytes len-for-value further-bytes big-endian
 two-filled = refl
 
-two-read : read-items (run two .last .written .items)
-    ≡ some (cons (cons (cons (atom foobar) (atom [])) (cons (atom (1 ∷ [])) (atom (2 ∷ [])))) (atom (1 ∷ [])))
+two-read : words-read two ≡ (4 ∷ 22 ∷ 33 ∷ [], some (two-tree (1 ∷ [])))
 unfolding two bind run-steps unfolded enter update write resume find-in walk passes search node-of handle-of
     serialized-length encode prefix-width first-width path-bytes octets big-endian small-bytes len-for-value further-bytes
 two-read = refl

@@ -11,9 +11,9 @@ use lib.ListN.{length, getD, length-append}
 use lib.Seq.{take-all}
 use borrow.Author.Tests.{ltb-true, ltb-false, eqb-true, eq-eqb, le-leb}
 use Rattle.words.specs.Choice.{by-cond, by-lt}
-use Rattle.atom.specs.Prefix.{width, single}
+use Rattle.atom.specs.Prefix.{size-bits, width, single}
 use Rattle.atom.specs.Write.{serialized-length}
-use Rattle.atom.specs.PrefixLaws.{Carries, width-carries, single-one, single-length}
+use Rattle.atom.specs.PrefixLaws.{Carries, width-carries, carries-most, single-one, single-length}
 use Rattle.atom.specs.WriteLaws.{width-of-single, width-of-none, width-of-sized, length-some, length-none}
 use Rattle.path.specs.Bytes.{value, octets, path-bytes}
 use Rattle.path.specs.BytesLaws.{length-path-bytes}
@@ -33,50 +33,17 @@ counted-wide : (full : Bool) (n w : ℕ) → Carries w n → 2 ≤ n → w + n �
 counted-wide full n w c two =
     at-least (eqb n 0) _ _ (λ e. absurd (omega (arith, eqb-true n 0 e))) (λ _.
     at-least (eqb n 1) _ _ (λ e. absurd (omega (arith, eqb-true n 1 e))) (λ _.
-    at-least (ltb n 64) _ _ (λ e. below w c (ltb-true n 64 e)) (λ a.
-    at-least (ltb n 512) _ _ (λ e. below-2 w c (omega (arith, ltb-true n 512 e))) (λ b.
-    at-least (ltb n 1048576) _ _ (λ e. below-3 w c (ltb-true n 1048576 e)) (λ d.
+    at-least (ltb n 64) _ _ (λ e. most 1 (omega arith) (ltb-true n 64 e)) (λ a.
+    at-least (ltb n 512) _ _ (λ e. most 2 (omega arith) (omega (arith, ltb-true n 512 e))) (λ b.
+    at-least (ltb n 1048576) _ _ (λ e. most 3 (omega arith) (ltb-true n 1048576 e)) (λ d.
     at-least (ltb n 16777216) _ _ (λ e. omega (arith, c .five)) (λ f.
-    at-least (ltb n 134217728) _ _ (λ e. below-4 w c (ltb-true n 134217728 e)) (λ g. omega (arith, c .five))))))))
+    at-least (ltb n 134217728) _ _ (λ e. most 4 (omega arith) (ltb-true n 134217728 e)) (λ g. omega (arith, c .five))))))))
   where
     at-least : (b : Bool) (x y : ℕ) → (b ≡ true → w + n ≤ x) → (b ≡ false → w + n ≤ y) → w + n ≤ cond b x y
     at-least b x y = by-cond (λ (v : ℕ). w + n ≤ v) b x y
 
-    below : (w : ℕ) → Carries w n → n < 64 → w + n ≤ 1 + n
-    below zero k h = omega arith
-    below (suc zero) k h = omega arith
-    below (suc (suc zero)) k h = absurd (omega (arith, k .from))
-    below (suc (suc (suc zero))) k h = absurd (omega (arith, k .from))
-    below (suc (suc (suc (suc zero)))) k h = absurd (omega (arith, k .from))
-    below (suc (suc (suc (suc (suc zero))))) k h = absurd (omega (arith, k .from))
-    below (suc (suc (suc (suc (suc (suc w)))))) k h = absurd (omega (arith, k .five))
-
-    below-2 : (w : ℕ) → Carries w n → n < 8192 → w + n ≤ 2 + n
-    below-2 zero k h = omega arith
-    below-2 (suc zero) k h = omega arith
-    below-2 (suc (suc zero)) k h = omega arith
-    below-2 (suc (suc (suc zero))) k h = absurd (omega (arith, k .from))
-    below-2 (suc (suc (suc (suc zero)))) k h = absurd (omega (arith, k .from))
-    below-2 (suc (suc (suc (suc (suc zero))))) k h = absurd (omega (arith, k .from))
-    below-2 (suc (suc (suc (suc (suc (suc w)))))) k h = absurd (omega (arith, k .five))
-
-    below-3 : (w : ℕ) → Carries w n → n < 1048576 → w + n ≤ 3 + n
-    below-3 zero k h = omega arith
-    below-3 (suc zero) k h = omega arith
-    below-3 (suc (suc zero)) k h = omega arith
-    below-3 (suc (suc (suc zero))) k h = omega arith
-    below-3 (suc (suc (suc (suc zero)))) k h = absurd (omega (arith, k .from))
-    below-3 (suc (suc (suc (suc (suc zero))))) k h = absurd (omega (arith, k .from))
-    below-3 (suc (suc (suc (suc (suc (suc w)))))) k h = absurd (omega (arith, k .five))
-
-    below-4 : (w : ℕ) → Carries w n → n < 134217728 → w + n ≤ 4 + n
-    below-4 zero k h = omega arith
-    below-4 (suc zero) k h = omega arith
-    below-4 (suc (suc zero)) k h = omega arith
-    below-4 (suc (suc (suc zero))) k h = omega arith
-    below-4 (suc (suc (suc (suc zero)))) k h = omega arith
-    below-4 (suc (suc (suc (suc (suc zero))))) k h = absurd (omega (arith, k .from))
-    below-4 (suc (suc (suc (suc (suc (suc w)))))) k h = absurd (omega (arith, k .five))
+    most : (v : ℕ) → 1 ≤ v → n < 2 ^ size-bits v → w + n ≤ v + n
+    most v one k = omega (arith, carries-most v w n one c k)
 
 -- One byte.
 counted-one : (full : Bool) (n : ℕ) → n ≡ 1 → counted-bytes full n ≡ cond full 2 1
@@ -119,17 +86,8 @@ module _ (s : List Bool) where
       (λ h.
       let one : n ≡ 1 = omega (arith, length-path-bytes bits, some-bits) in
       let two : counted bits ≡ 2 = counted-one full n one ∙ ap (λ (b : Bool). cond b 2 1) (fills one e) in
-      omega (arith, l, two, one, first w c (omega arith)))
+      omega (arith, l, two, one, carries-most 1 w n (omega arith) c (omega arith)))
       (λ h. omega (arith, l, counted-wide full n w c h))
-    where
-      first : (w : ℕ) → Carries w n → n < 2 → w ≤ 1
-      first zero k h = omega arith
-      first (suc zero) k h = omega arith
-      first (suc (suc zero)) k h = absurd (omega (arith, k .from))
-      first (suc (suc (suc zero))) k h = absurd (omega (arith, k .from))
-      first (suc (suc (suc (suc zero)))) k h = absurd (omega (arith, k .from))
-      first (suc (suc (suc (suc (suc zero))))) k h = absurd (omega (arith, k .from))
-      first (suc (suc (suc (suc (suc (suc w)))))) k h = absurd (omega (arith, k .five))
 
   by-width : (o : Option ℕ) → width n ≡ o → single (path-bytes bits) ≡ false → serialized-length (path-bytes bits) ≤ counted bits
   by-width none k e = omega (arith, length-none (path-bytes bits) (width-of-none (path-bytes bits) e k))

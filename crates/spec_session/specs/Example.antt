@@ -7,7 +7,7 @@ use mathlib.Core.Bool.{Bool, true, false, _&&_}
 use mathlib.Core.List.{List, [], _∷_}
 use native.Mathlib.Omega.{arith}
 use lib.Dec.{ltb}
-use lib.ListN.{length, take, replicate, length-replicate}
+use lib.ListN.{length, take, getD, replicate, length-replicate}
 use borrow.Author.Tests.{ltb-true, le-leb}
 use Rattle.words.specs.BigEndian.{big-endian}
 use Rattle.words.specs.Words.{at}
@@ -18,18 +18,17 @@ use Rattle.atom.specs.Write.{serialized-length}
 use Rattle.path.specs.Bytes.{path-bytes, octets}
 use Rattle.path.specs.Measure.{counted}
 use Rattle.spec_search.specs.Search.{walk, passes, search}
-use Rattle.spec_reading.specs.Tree.{Tree, atom, cons}
+use Rattle.spec_reading.specs.Tree.{Tree, place, atom, cons}
 use Rattle.spec_reading.specs.Call as read
 use Rattle.spec_reading.specs.Promise.{ReadAs}
 use Rattle.spec_session.specs.File.{version-1}
 use Rattle.spec_session.specs.Unfold.{unfolded}
-use Rattle.spec_session.specs.session_file.Cases.{foobar, whole-case, whole-file, whole-case-is, state-2}
+use Rattle.spec_session.specs.Cases.{foobar, whole-case, whole-file, whole-case-is, whole-states, whole-apart}
 use Rattle.spec_session.specs.Cache.{enter, update}
 use Rattle.spec_session.specs.Writer.{write, resume, start}
 use Rattle.spec_session.specs.FindPath.{find-in}
 use Rattle.spec_session.specs.Steps.{Run, run-steps}
 use Rattle.spec_session.specs.Call.{Answer, Slices, Result, long-enough, after-run, session}
-use Rattle.spec_session.specs.Cases.{whole-apart}
 use Rattle.spec_session.specs.Demand3.{Finished, ReadBack, demand-3}
 
 abbrev all-below-256 : List ℕ → Bool
@@ -86,7 +85,7 @@ module _ {C : Type 0} (blank : C) (slices : Slices C) (long : long-enough versio
       let read-are : take (the-call .answer .size) (the-call .slices .output) ≡ finished-bytes =
       ap (λ (a : Answer). take (a .size) (the-call .slices .output)) answer-is ∙ bytes-are in
       subst (λ (bytes : List ℕ). ReadAs (read.reading bytes lent) (cons (atom foobar) (atom foobar))) read-are
-      (subst (λ (t : Tree). ReadAs (read.reading (take (the-call .answer .size) (the-call .slices .output)) lent) t) (sym (whole-back .filling) ∙ state-2)
+      (subst (λ (t : Tree). ReadAs (read.reading (take (the-call .answer .size) (the-call .slices .output)) lent) t) (sym (whole-back .filling) ∙ ap (λ (ts : List Tree). getD ts 2 place) whole-states)
       (whole-back .reads lent enough))
 
 -- Such slices: of 01's least lengths, whatever they hold.

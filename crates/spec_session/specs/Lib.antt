@@ -35,5 +35,4 @@ pub mod FileAtoms
 pub mod TheoremFile
 pub mod Demand3
 pub mod Example
-pub mod session_file
 pub mod Sentinel

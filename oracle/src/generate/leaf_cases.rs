@@ -212,6 +212,8 @@ pub fn leaf_cases(seed: u64) -> Vec<u8> {
         bits(&mut rng, n, Some(0x80));
     }
     bits(&mut rng, 5120, Some(0x91));
+    // nine bits, whose bytes are 01 02
+    add(b'b', &bytes("010000000000000100"));
 
     for b in 0..=255_u8 {
         add(b's', &[b]);
@@ -298,6 +300,10 @@ pub fn leaf_cases(seed: u64) -> Vec<u8> {
             let i = (rng.next() as u32 & 0x3ffffff) >> rng.below(26);
             add(b'o', &(kind << 26 | i).to_be_bytes());
         }
+    }
+
+    for h in ["00000007", "04000005", "0800007f"] {
+        add(b'o', &bytes(h));
     }
 
     add(b't', &[]);
