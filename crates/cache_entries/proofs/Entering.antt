@@ -1,6 +1,6 @@
 -- A tree entered: the sentinel, an atom, a pair that is known, and a pair whose sides are entered first.
 -- Assumes nothing.
-use Prim.Native.Nat.{ℕ, zero, suc, _+_, _-_, _*_, _≤_, _<_}
+use Prim.Native.Nat.{ℕ, suc, _+_, _*_, _≤_, _<_}
 use mathlib.Core.Path.{_≡_, refl, sym, ap, _∙_, subst}
 use mathlib.Core.Bool.{Bool, true, false}
 use mathlib.Core.List.{List}
@@ -21,6 +21,7 @@ use Rattle.spec_session.specs.Sentinel.{sentinel-word}
 use Rattle.cache_entries.specs.Meaning.{bytes-named, no-pair, Tables, Names, entry-or-none, unmapped, Whole, Holds}
 use Rattle.cache_entries.specs.Contracts.{Action, sentinel-action, atom-action, join-action, enter-action, Acts, Made, Joined, span, Bounded, Entered, Room}
 use Rattle.cache_entries.proofs.Atoms.{not-true}
+use Rattle.cache_entries.proofs.table.Rows.{word-some}
 use Rattle.cache_entries.proofs.Frames.{tables-kept, unmapped-same, unmapped-above, unmapped-more, unmapped-none, unmapped-grows}
 
 -- ---- the definition's equations
@@ -184,33 +185,25 @@ module _ (w : List ℕ) (h i : ℕ) (wh : Whole w) (n : Names w (at w PAIR-COUNT
       (mapped-is f c t ho ∙ ap entry-or-none z)
 
   -- A pair that is known stays as it is.
-  pub known-entered : (at w (MAPS + i) ≡ 0 → ⊥) → Entered w w h (at w (MAPS + i) - 1)
-  known-entered nz =
+  pub known-entered : {x : ℕ} → some x ≡ entry-or-none (at w (MAPS + i)) → Entered w w h x
+  known-entered {x} k =
       record {
         whole = wh;
-        low = let m = wh .maps i low in go (at w (MAPS + i)) nz m;
+        low = omega (arith, wh .maps i low, word-some (at w (MAPS + i)) x k);
         more = omega arith;
         bounded = λ p l k. record { room = omega arith; counts = omega arith };
         maps = λ k l m. refl;
         outside = record { below = λ k l. refl; above = λ k l. refl };
         does = λ f c t ho.
-            let is : enter (unfolded f h) c ≡ (c, at w (MAPS + i) - 1) =
+            let is : enter (unfolded f h) c ≡ (c, x) =
             entering f c t
             ∙ ap (λ (o : Option ℕ). known-or o c (join-pair i (enter (unfolded f left) c .1) (enter (unfolded f right) (enter (unfolded f left) c .0))))
-            (mapped-is f c t ho ∙ known (at w (MAPS + i)) nz) in
+            (mapped-is f c t ho ∙ sym k) in
             record {
               holds = subst (λ (z : Cache × ℕ). Holds f w (z .0)) (sym is) ho;
               answer = ap (λ (z : Cache × ℕ). z .1) (sym is);
             };
       }
-    where
-      go : (k : ℕ) → (k ≡ 0 → ⊥) → k ≤ at w USED → k - 1 < at w USED
-      go zero f l = absurd (f refl)
-      go (suc k) f l = omega arith
-
-      known : (k : ℕ) → (k ≡ 0 → ⊥) → entry-or-none k ≡ some (k - 1)
-      known zero f = absurd (f refl)
-      known (suc k) f = ap {B = Option ℕ} some (omega arith)
 
 -- ---- a pair that is not known: left, right, and the pair itself
 
@@ -391,11 +384,6 @@ test-other {r} {a} {b} e t q = not-true (sym (sym e ∙ t) ∙ eq-eqb a b q)
 pub test-pair : (w : List ℕ) (h : ℕ) {i : ℕ} {r : Bool} → Names w (at w PAIR-COUNT) h → r ≡ is-atom (node-of h) → r ≡ false → i ≡ index-of (node-of h)
     → node-of h ≡ pair i
 test-pair w h {i} {r} n e t q = names-pair w (at w PAIR-COUNT) h n (sym e ∙ t) ∙ ap pair (sym q)
-
-pub known-at : {w : List ℕ} {h i k : ℕ} → Whole w → Names w (at w PAIR-COUNT) h → (at w SENTINEL ≡ h → ⊥) → node-of h ≡ pair i
-    → k ≡ at w (MAPS + i) → (k ≡ 0 → ⊥) → Entered w w h (k - 1)
-known-at {w} {h} {i} {k} wh n q e m nz =
-    subst (λ (j : ℕ). Entered w w h (j - 1)) (sym m) (known-entered w h i wh n q e (λ z. nz (m ∙ z)))
 
 -- There is room for one entry at least.
 pub room-one : (w : List ℕ) (h : ℕ) → Room w h → at w USED < ENTRIES

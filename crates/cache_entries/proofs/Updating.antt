@@ -1,9 +1,9 @@
 -- An update: the sentinel's parents are taken, the added tree is entered, and they are placed at its root.
 -- Assumes nothing.
-use Prim.Native.Nat.{ℕ, zero, suc, _+_, _-_, _*_, _≤_, _<_}
+use Prim.Native.Nat.{ℕ, _+_, _*_, _≤_, _<_}
 use mathlib.Core.Path.{_≡_, refl, sym, ap, _∙_, subst}
 use mathlib.Core.List.{List, [], map}
-use mathlib.Core.Option.{Option, some}
+use mathlib.Core.Option.{Option, none, some}
 use native.Mathlib.Omega.{arith}
 use lib.ListN.{length}
 use Rattle.words.specs.Words.{at, part}
@@ -17,6 +17,7 @@ use Rattle.work_layout.specs.Rows.{parent-of}
 use Rattle.cache_entries.specs.table.Contracts.{moved-of, Taken, Placed, MovedLinks}
 use Rattle.cache_entries.specs.Meaning.{Tables, Names, entry-or-none, unmapped, Whole, Holds}
 use Rattle.cache_entries.specs.Contracts.{enter-action, Acts, span, Bounded, Entered, Room, Cleared, Updated}
+use Rattle.cache_entries.proofs.table.Rows.{word-some}
 use Rattle.cache_entries.proofs.Lift.{parents-of-rows}
 use Rattle.cache_entries.proofs.Frames.{tables-kept, unmapped-same, unmapped-grows}
 use Rattle.cache_entries.proofs.Making.{adjusted-whole, adjusted-holds}
@@ -24,16 +25,12 @@ use Rattle.cache_entries.proofs.Entering.{names-span}
 
 -- ---- the sentinel's parents
 
-sentinel-at : (k s : ℕ) → (k ≡ 0 → ⊥) → s ≡ k - 1 → entry-or-none k ≡ some s
-sentinel-at zero s nz e = absurd (nz refl)
-sentinel-at (suc k) s nz e = ap {B = Option ℕ} some (omega arith)
-
 none-moved : (w : List ℕ) → moved-of w 0 ≡ []
 unfolding part
 none-moved w = refl
 
 -- There is no entry of the sentinel.
-pub cleared-none : (w : List ℕ) → Whole w → at w SENTINEL-ENTRY ≡ 0 → Cleared w w 0
+pub cleared-none : (w : List ℕ) → Whole w → none ≡ entry-or-none (at w SENTINEL-ENTRY) → Cleared w w 0
 cleared-none w wh z =
     record {
       whole = wh;
@@ -45,20 +42,16 @@ cleared-none w wh z =
       below = λ k h. refl;
       above = λ k h. refl;
       holds = λ f c t ho.
-          subst (λ (o : Option ℕ). Holds f w (with-entries (clear-sentinel o (c .entries)) c)) (sym (ho .sentinel-entry ∙ ap entry-or-none z)) (again f c ho);
-      moved = λ f c t ho. none-moved w ∙ ap (λ (o : Option ℕ). sentinel-parents o (c .entries)) (sym (ho .sentinel-entry ∙ ap entry-or-none z));
+          subst (λ (o : Option ℕ). Holds f w (with-entries (clear-sentinel o (c .entries)) c)) (z ∙ sym (ho .sentinel-entry)) (again f c ho);
+      moved = λ f c t ho. none-moved w ∙ ap (λ (o : Option ℕ). sentinel-parents o (c .entries)) (z ∙ sym (ho .sentinel-entry));
     }
   where
     again : (f : File) (c : Cache) → Holds f w c → Holds f w (with-entries (c .entries) c)
     again f c ho = record { entries = ho .entries; mapped = ho .mapped; sentinel-entry = ho .sentinel-entry }
 
-module _ (w w′ : List ℕ) (e n : ℕ) (wh : Whole w) (nz : at w SENTINEL-ENTRY ≡ 0 → ⊥) (is : e ≡ at w SENTINEL-ENTRY - 1) where
+module _ (w w′ : List ℕ) (e n : ℕ) (wh : Whole w) (is : some e ≡ entry-or-none (at w SENTINEL-ENTRY)) where
   pub sentinel-low : e < at w USED
-  sentinel-low = go (at w SENTINEL-ENTRY) nz is (wh .sentinel-entry)
-    where
-      go : (k : ℕ) → (k ≡ 0 → ⊥) → e ≡ k - 1 → k ≤ at w USED → e < at w USED
-      go zero f q l = absurd (f refl)
-      go (suc k) f q l = omega arith
+  sentinel-low = omega (arith, word-some (at w SENTINEL-ENTRY) e is, wh .sentinel-entry)
 
   module _ (t : Taken w w′ e n) where
     maps : (k : ℕ) → k < 1024 → at w′ (MAPS + k) ≡ at w (MAPS + k)
@@ -68,7 +61,7 @@ module _ (w w′ : List ℕ) (e n : ℕ) (wh : Whole w) (nz : at w SENTINEL-ENTR
     sent = t .maps SENTINEL-ENTRY (omega arith) (omega arith)
 
     here : (f : File) (c : Cache) → Holds f w c → c .sentinel-entry ≡ some e
-    here f c ho = ho .sentinel-entry ∙ sentinel-at (at w SENTINEL-ENTRY) e nz is
+    here f c ho = ho .sentinel-entry ∙ sym is
 
     -- The latest entry of the sentinel loses its parents.
     pub cleared-some : Cleared w w′ n

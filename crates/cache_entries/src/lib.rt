@@ -17,12 +17,10 @@ ghost use Rattle.atom.specs.Write.{serialized-length};
 ghost use Rattle.allocator.specs.Handle.{node-of, is-atom};
 ghost use Rattle.allocator.specs.SmallAtom.{small-bytes};
 ghost use Rattle.spec_session.specs.Cache.{pair-length};
-ghost use Rattle.work_layout.specs.Layout.{PAIRS, FIRST, ATOM-LENGTHS, PAIR-COUNT, SENTINEL, MAPS};
-ghost use Rattle.cache_entries.specs.Meaning.{Names, Whole};
+ghost use Rattle.work_layout.specs.Layout.{PAIRS, FIRST, ATOM-LENGTHS, PAIR-COUNT, SENTINEL, MAPS, SENTINEL-ENTRY};
+ghost use Rattle.cache_entries.specs.Meaning.{entry-or-none, Names, Whole};
 ghost use Rattle.cache_entries.specs.Contracts.{is-listed, Stands, Measured};
-
-// The first word of an atom's key; the second one is its handle.
-pub const ATOM_KEY: u32 = 0xfffffffe;
+ghost use Rattle.cache_entries.specs.table.Contracts.{option-of};
 
 fn long(x: u32) -> u64
     ensures { λ r. ⌜ r ≡ x ⌝ }
@@ -30,12 +28,20 @@ fn long(x: u32) -> u64
     x as u64
 }
 
-// One more than the entry of pair i, or 0.
-pub fn map_of(work: &[u32], i: usize) -> u32
+// The entry of pair i, if it has one.
+pub fn map_of(work: &[u32], i: usize) -> Found
     requires { ⌜ (WORK ≤ length (now work)) × (i < 1024) ⌝ }
-    ensures { λ r. ⌜ r ≡ at (now (work .entry)) (MAPS + i) ⌝ }
+    ensures { λ x. ⌜ option-of x ≡ entry-or-none (at (now (work .entry)) (MAPS + i)) ⌝ }
 {
-    work[work_layout::MAPS + i]
+    table::found_by(work[work_layout::MAPS + i])
+}
+
+// The sentinel's latest entry, if it has one.
+pub fn sentinel_entry(work: &[u32]) -> Found
+    requires { ⌜ WORK ≤ length (now work) ⌝ }
+    ensures { λ x. ⌜ option-of x ≡ entry-or-none (at (now (work .entry)) SENTINEL-ENTRY) ⌝ }
+{
+    table::found_by(work[work_layout::SENTINEL_ENTRY])
 }
 
 // The left handle of pair i.
@@ -83,17 +89,16 @@ fn first_of(work: &[u32], i: usize) -> u32
 }
 
 // The handle of an atom that stands for all atoms with the same bytes.
-pub fn atom_key(work: &[u32], h: NodePtr) -> u32
+pub fn atom_key(work: &[u32], h: NodePtr) -> NodePtr
     requires { ⌜ (Whole (now work)) × (Names (now work) (at (now work) PAIR-COUNT) (h .0)) × (is-atom (node-of (h .0)) ≡ true) ⌝ }
-    ensures { λ r. ⌜ Stands (now (work .entry)) (h .0) r ⌝ }
+    ensures { λ r. ⌜ Stands (now (work .entry)) (h .0) (r .0) ⌝ }
 {
     if is_listed(h) {
         let i = wide(h.index());
         let first = first_of(work, i);
-        let key = NodePtr::bytes(first);
-        return key.0;
+        return NodePtr::bytes(first);
     }
-    h.0
+    h
 }
 
 // The serialized length of a small atom.

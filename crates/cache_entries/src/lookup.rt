@@ -1,6 +1,7 @@
 // The entry of a node in the tree cache, as tree_cache.rs has it: a pair's is mapped, an atom's is looked up by its bytes.
 use crate::table;
 use crate::table::Found;
+use crate::table::Key;
 use allocator::NodePtr;
 use words::wide;
 use work_layout::EntryIndex;
@@ -18,11 +19,10 @@ pub fn pair_entry(work: &[u32], i: usize) -> EntryIndex
     requires { ⌜ (Whole (now work)) × (i < at (now work) PAIR-COUNT) ⌝ }
     ensures { λ e. ⌜ PairEntry (now (work .entry)) i (e .0) ⌝ }
 {
-    let k = crate::map_of(work, i);
-    if k == 0 {
-        return EntryIndex(0);
+    match crate::map_of(work, i) {
+        Found::At(e) => e,
+        Found::Nothing => EntryIndex(0),
     }
-    EntryIndex(k - 1)
 }
 
 // The entry of an atom; entry 0 where it has none.
@@ -31,7 +31,7 @@ fn atom_entry(work: &[u32], node: NodePtr) -> EntryIndex
     ensures { λ e. ⌜ AtomEntry (now (work .entry)) (node .0) (e .0) ⌝ }
 {
     let key = crate::atom_key(work, node);
-    match table::find_key(work, crate::ATOM_KEY, key) {
+    match table::find_key(work, Key::Atom(key)) {
         Found::At(e) => e,
         Found::Nothing => EntryIndex(0),
     }

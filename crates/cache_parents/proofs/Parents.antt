@@ -10,13 +10,17 @@ use lib.Dec.{ltb}
 use lib.ListN.{length, set, length-set, length-map}
 use lib.Seq.{getD-set-same, getD-set-other}
 use borrow.Author.Tests.{lt-ltb, le-ltb}
-use Rattle.words.specs.Words.{at, part}
+use Rattle.words.specs.Words.{at, part, WORK}
 use Rattle.words.proofs.Words.{part-length, part-same, part-more, part-store, map-append, map-set}
 use Rattle.spec_session.specs.Cache.{add-parent}
 use Rattle.work_layout.specs.Layout.{USED, COUNTS, PARENTS, ENTRIES}
 use Rattle.work_layout.specs.Rows.{parent-of, parents-of, Sound}
 use Rattle.cache_entries.specs.table.Contracts.{ParentAdded}
 use Rattle.cache_entries.proofs.table.Single.{RowOnly, row-used, row-sound, row-rows, row-keys, row-counts, row-high}
+
+-- What the count of an entry's parents asks for.
+pub count-asks : {w : List ℕ} {e : ℕ} → Sound w → e < at w USED → (WORK ≤ length w) × (e < ENTRIES) × (at w (COUNTS + e) ≤ 100)
+count-asks {w} {e} s h = let l : e < ENTRIES = omega (arith, s .used) in (s .long, l, s .counts e l)
 
 -- The word of a parent and a position is read as the two.
 pub link-code : (p : ℕ) (t : Bool) → parent-of (p * 2 + cond t 1 0) ≡ (p, t)
@@ -46,17 +50,16 @@ row-added w w′ e p t s h r low more q = record {
   kept = record { low = low; high = row-high w w′ e s h r };
 }
 
-module _ (w : List ℕ) (e p b n : ℕ) (t : Bool) (s : Sound w) (h : e < at w USED) (hp : p < at w USED) (hb : b ≡ cond t 1 0) (b2 : b < 2) (hn : n ≡ at w (COUNTS + e)) where
-  link : ℕ
-  link = p * 2 + b
-
+module _ (w : List ℕ) (e p link n : ℕ) (t : Bool) (s : Sound w) (h : e < at w USED) (hp : p < at w USED) (hl : link ≡ p * 2 + cond t 1 0) (hn : n ≡ at w (COUNTS + e)) where
   link-low : link < 2 * at w USED
-  unfolding link
-  link-low = omega arith
+  link-low = go t hl
+    where
+      go : (t : Bool) → link ≡ p * 2 + cond t 1 0 → link < 2 * at w USED
+      go true q = omega arith
+      go false q = omega arith
 
   code : parent-of link ≡ (p, t)
-  unfolding link
-  code = ap (λ (x : ℕ). parent-of (p * 2 + x)) hb ∙ link-code p t
+  code = ap parent-of hl ∙ link-code p t
 
   room : PARENTS + e * 100 + 100 ≤ length w
   room = omega (arith, s .used, s .long)
@@ -113,15 +116,15 @@ module _ (w : List ℕ) (e p b n : ℕ) (t : Bool) (s : Sound w) (h : e < at w U
           ∙ ap (λ (x : ℕ). part w (PARENTS + e * 100) n ++ x ∷ []) last in
           rw (count, more, ← hn, map-append, code, lt-ltb (length (map parent-of (part w (PARENTS + e * 100) n))) 100 (rw long l))
 
-  replaced-words : 100 ≤ n → ParentAdded w (set w (PARENTS + e * 100 + (p + b) % 100) link) e p t
+  replaced-words : (slot : ℕ) → slot ≡ (p + cond t 1 0) % 100 → 100 ≤ n → ParentAdded w (set w (PARENTS + e * 100 + slot) link) e p t
   unfolding parents-of
-  replaced-words l = row-added w w₁ e p t s h r (λ k q. other k (omega arith)) (omega (arith, count)) row
+  replaced-words slot hs l = row-added w w₁ e p t s h r (λ k q. other k (omega arith)) (omega (arith, count)) row
     where
       w₁ : List ℕ
-      w₁ = set w (PARENTS + e * 100 + (p + b) % 100) link
+      w₁ = set w (PARENTS + e * 100 + slot) link
 
-      other : (k : ℕ) → (k ≡ PARENTS + e * 100 + (p + b) % 100 → ⊥) → at w₁ k ≡ at w k
-      other k q = getD-set-other w (PARENTS + e * 100 + (p + b) % 100) k link 0 q
+      other : (k : ℕ) → (k ≡ PARENTS + e * 100 + slot → ⊥) → at w₁ k ≡ at w k
+      other k q = getD-set-other w (PARENTS + e * 100 + slot) k link 0 q
 
       count : at w₁ (COUNTS + e) ≡ n
       count = other (COUNTS + e) (omega (arith, e-low)) ∙ sym hn
@@ -129,17 +132,17 @@ module _ (w : List ℕ) (e p b n : ℕ) (t : Bool) (s : Sound w) (h : e < at w U
       full : n ≤ 100
       full = omega (arith, s .counts e e-low)
 
-      links : (i : ℕ) → i < n → Dec (i ≡ (p + b) % 100) → at w₁ (PARENTS + e * 100 + i) < 2 * at w USED
+      links : (i : ℕ) → i < n → Dec (i ≡ slot) → at w₁ (PARENTS + e * 100 + i) < 2 * at w USED
       links i q (yes x) =
-          rw (x, getD-set-same w (PARENTS + e * 100 + (p + b) % 100) link 0 (omega (arith, room))) link-low
+          rw (x, getD-set-same w (PARENTS + e * 100 + slot) link 0 (omega (arith, room))) link-low
       links i q (no x) = rw (other (PARENTS + e * 100 + i) (omega arith)) (s .links e i e-low (omega arith))
 
       r : RowOnly w w₁ e
       r = record {
         len = simp length-set;
-        same = λ k z c q. other k (q ((p + b) % 100) (omega arith));
+        same = λ k z c q. other k (q slot (omega arith));
         few = omega (arith, count, full);
-        links = λ i q. links i (rw count at q) (ℕ-discrete i ((p + b) % 100));
+        links = λ i q. links i (rw count at q) (ℕ-discrete i slot);
       }
 
       row : parents-of w₁ e ≡ add-parent p t (parents-of w e)
@@ -147,14 +150,12 @@ module _ (w : List ℕ) (e p b n : ℕ) (t : Bool) (s : Sound w) (h : e < at w U
           let g = room in
           let long : length (map parent-of (part w (PARENTS + e * 100) n)) ≡ n = length-map (part w (PARENTS + e * 100) n) parent-of ∙ part-length w (PARENTS + e * 100) n (omega (arith, full)) in
           let old = map parent-of (part w (PARENTS + e * 100) n) in
-          let new : add-parent p t old ≡ set old ((p + b) % 100) (p, t) = full-row p t old (le-ltb (length old) 100 (rw long l)) ∙ ap (λ (x : ℕ). set old ((p + x) % 100) (p, t)) (sym hb) in
-          rw (count, ← hn, part-store w (PARENTS + e * 100) n ((p + b) % 100) link (omega arith), map-set, code) (sym new)
+          let new : add-parent p t old ≡ set old slot (p, t) = full-row p t old (le-ltb (length old) 100 (rw long l)) ∙ ap (λ (x : ℕ). set old x (p, t)) (sym hs) in
+          rw (count, ← hn, part-store w (PARENTS + e * 100) n slot link (omega arith), map-set, code) (sym new)
 
   -- At the place i of the entry.
-  pub pushed : (i : ℕ) → i ≡ e → n < 100 → ParentAdded w (set (set w (PARENTS + i * 100 + n) (p * 2 + b)) (COUNTS + i) (n + 1)) e p t
-  unfolding link
+  pub pushed : (i : ℕ) → i ≡ e → n < 100 → ParentAdded w (set (set w (PARENTS + i * 100 + n) link) (COUNTS + i) (n + 1)) e p t
   pushed i q l = rw q (pushed-words l)
 
-  pub replaced : (i k : ℕ) → i ≡ e → k ≡ p + b → 100 ≤ n → ParentAdded w (set w (PARENTS + i * 100 + k % 100) (p * 2 + b)) e p t
-  unfolding link
-  replaced i k q x l = rw (q, x) (replaced-words l)
+  pub replaced : (i b k : ℕ) → i ≡ e → b ≡ cond t 1 0 → k ≡ p + b → 100 ≤ n → ParentAdded w (set w (PARENTS + i * 100 + k % 100) link) e p t
+  replaced i b k q y x l = rw q (replaced-words (k % 100) (rw (x, y)) l)

@@ -1,8 +1,8 @@
 // A sentinel's parents in work, taken and placed at the end of a root's list.
-use cache_entries::table;
 use words::slices;
 use work_layout::EntryIndex;
 use work_layout::MAX_PARENTS;
+use work_layout::parents;
 ghost use mathlib.Core.Path.{_≡_};
 ghost use Prim.Native.Nat.{_-_, _≤_, _<_};
 ghost use Rattle.words.specs.Words.{at};
@@ -15,7 +15,7 @@ pub fn take_parents(work: &mut [u32], e: EntryIndex) -> usize
     requires { ⌜ (Sound (now work)) × (e .0 < at (now work) USED) ⌝ }
     ensures { λ n. ⌜ Taken (now (work .entry)) (now (work .exit)) (e .0) n ⌝ }
 {
-    let n = table::count_of(work, e);
+    let n = parents::count_of(work, e);
     let i = words::wide(e.0);
     slices::copy_within(
         work,
@@ -39,7 +39,7 @@ pub fn place_parents(work: &mut [u32], e: EntryIndex, moved: usize)
     requires { ⌜ (Sound (now work)) × (e .0 < at (now work) USED) × (moved ≤ MAX-PARENTS) × (MovedLinks (now work) moved) ⌝ }
     ensures { λ _. ⌜ Placed (now (work .entry)) (now (work .exit)) (e .0) moved ⌝ }
 {
-    let n = table::count_of(work, e);
+    let n = parents::count_of(work, e);
     let dropped = over(n + moved);
     let kept = n - dropped;
     let i = words::wide(e.0);

@@ -1,6 +1,6 @@
 // The stack of tree_cache.rs, in work: entries popped.
-use words::wide;
 use work_layout::BELOW;
+use work_layout::EntryIndex;
 use work_layout::STACK;
 use work_layout::TOPS;
 ghost use mathlib.Core.Path.{_≡_};
@@ -11,11 +11,11 @@ ghost use Rattle.work_layout.specs.Layout.{STACK, ENTRIES};
 ghost use Rattle.cache_stack.specs.Contracts.{Stacked, Popped, PoppedTwo};
 
 // The entry at a place of the stack.
-fn entry_at(work: &[u32], depth: usize, i: usize) -> usize
+fn entry_at(work: &[u32], depth: usize, i: usize) -> EntryIndex
     requires { ⌜ (WORK ≤ length (now work)) × (Stacked (now work) depth) × (i < depth) ⌝ }
-    ensures { λ r. ⌜ (r ≡ at (now (work .entry)) (STACK + i)) × (r < ENTRIES) ⌝ }
+    ensures { λ e. ⌜ (e .0 ≡ at (now (work .entry)) (STACK + i)) × (e .0 < ENTRIES) ⌝ }
 {
-    wide(work[STACK + i])
+    EntryIndex(work[STACK + i])
 }
 
 // The top of `depth` entries goes.
@@ -24,7 +24,8 @@ pub fn pop(work: &mut [u32], depth: usize)
     ensures { λ _. ⌜ Popped (now (work .entry)) (now (work .exit)) depth ⌝ }
 {
     let i = depth - 1;
-    let x = entry_at(work, depth, i);
+    let e = entry_at(work, depth, i);
+    let x = e.0 as usize;
     work[TOPS + x] = work[BELOW + i];
 }
 

@@ -2,6 +2,7 @@
 use allocator::NodePtr;
 use cache_entries::Found;
 use cache_entries::table;
+use cache_entries::table::Key;
 use cache_entries::table::insert_entry;
 use work_layout::EntryIndex;
 ghost use mathlib.Core.Path.{_≡_};
@@ -11,18 +12,18 @@ ghost use Rattle.words.specs.Words.{at};
 ghost use Rattle.allocator.specs.Handle.{node-of, is-atom};
 ghost use Rattle.work_layout.specs.Layout.{PAIR-COUNT, USED, ENTRIES};
 ghost use Rattle.work_layout.specs.Rows.{Sound};
-ghost use Rattle.cache_entries.specs.table.Contracts.{Interned};
+ghost use Rattle.cache_entries.specs.table.Contracts.{first-word, second-word, Interned};
 ghost use Rattle.cache_entries.specs.Meaning.{Names, Whole};
 ghost use Rattle.cache_entries.specs.Contracts.{atom-action, pair-action, Made};
 
 // The entry with this key, found or made.
-fn find_or_add(work: &mut [u32], left: u32, right: u32, len: u64) -> EntryIndex
+fn find_or_add(work: &mut [u32], key: Key, len: u64) -> EntryIndex
     requires { ⌜ (Sound (now work)) × (at (now work) USED < ENTRIES) ⌝ }
-    ensures { λ x. ⌜ Interned (now (work .entry)) (now (work .exit)) left right len (x .0) ⌝ }
+    ensures { λ x. ⌜ Interned (now (work .entry)) (now (work .exit)) (first-word key) (second-word key) len (x .0) ⌝ }
 {
-    match table::find_key(work, left, right) {
+    match table::find_key(work, key) {
         Found::At(e) => e,
-        Found::Nothing => insert_entry::insert(work, left, right, len),
+        Found::Nothing => insert_entry::insert(work, key, len),
     }
 }
 
@@ -34,7 +35,7 @@ pub fn enter_atom(work: &mut [u32], h: NodePtr) -> EntryIndex
 {
     let key = cache_entries::atom_key(work, h);
     let len = cache_entries::atom_length(work, h);
-    find_or_add(work, cache_entries::ATOM_KEY, key, len)
+    find_or_add(work, Key::Atom(key), len)
 }
 
 // The entry of a pair whose sides have the entries l and r, found or made.
@@ -45,5 +46,5 @@ pub fn enter_pair(work: &mut [u32], l: EntryIndex, r: EntryIndex) -> EntryIndex
     let a = table::length_of(work, l);
     let b = table::length_of(work, r);
     let len = cache_entries::pair_length(a, b);
-    find_or_add(work, l.0, r.0, len)
+    find_or_add(work, Key::Pair(l, r), len)
 }

@@ -3,6 +3,7 @@ use crate::enter_node;
 use crate::make_entry;
 use crate::meet_sentinel;
 use allocator::NodePtr;
+use cache_entries::Found;
 use words::wide;
 use work_layout::EntryIndex;
 ghost use Rattle.words.specs.Words.{at};
@@ -22,9 +23,8 @@ pub fn enter(work: &mut [u32], h: NodePtr) -> EntryIndex
         return enter_node::enter_atom(work, h);
     }
     let i = wide(h.index());
-    let k = cache_entries::map_of(work, i);
-    if k != 0 {
-        return EntryIndex(k - 1);
+    if let Found::At(e) = cache_entries::map_of(work, i) {
+        return e;
     }
     let a = cache_entries::left_of(work, i);
     let b = cache_entries::right_of(work, i);

@@ -5,8 +5,8 @@ mod make_entry;
 mod meet_sentinel;
 
 use allocator::NodePtr;
+use cache_entries::Found;
 use cache_parents::moved_parents;
-use work_layout::EntryIndex;
 ghost use Prim.Native.Nat.{_+_, _*_, _<_};
 ghost use Rattle.words.specs.Words.{at};
 ghost use Rattle.work_layout.specs.Layout.{PAIR-COUNT, USED, ENTRIES};
@@ -18,11 +18,10 @@ fn take_sentinel(work: &mut [u32]) -> usize
     requires { ⌜ Whole (now work) ⌝ }
     ensures { λ n. ⌜ Cleared (now (work .entry)) (now (work .exit)) n ⌝ }
 {
-    let s = work[work_layout::SENTINEL_ENTRY];
-    if s == 0 {
-        return 0;
+    match cache_entries::sentinel_entry(work) {
+        Found::At(e) => moved_parents::take_parents(work, e),
+        Found::Nothing => 0,
     }
-    moved_parents::take_parents(work, EntryIndex(s - 1))
 }
 
 // The cache after the tree of handle root is added: the present sentinel entry's parents move to its root.

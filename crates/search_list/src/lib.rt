@@ -4,14 +4,16 @@ pub mod search_copies;
 pub mod search_moves;
 
 use words::wide;
+use work_layout::EntryIndex;
 use work_layout::PREVS;
 use work_layout::SEEN;
+use work_layout::parents::Parent;
 ghost use mathlib.Core.Path.{_≡_};
-ghost use Prim.Native.Nat.{_+_, _*_, _≤_, _<_};
+ghost use Prim.Native.Nat.{_+_, _/_, _≤_, _<_};
 ghost use lib.ListN.{length};
 ghost use Rattle.spec_search.specs.Search.{most-visits};
 ghost use Rattle.words.specs.Words.{at, WORK};
-ghost use Rattle.work_layout.specs.Layout.{ENTRIES, COUNTS, TOPS, PARENTS, MAX-PARENTS, LENS};
+ghost use Rattle.work_layout.specs.Layout.{ENTRIES, TOPS, LENS};
 ghost use Rattle.search_list.specs.State.{node-at, place-at, extra-at, seen-at, MOST-PATHS};
 ghost use Rattle.search_list.specs.Steps.{Stored, Marked};
 
@@ -29,28 +31,12 @@ pub enum Turned {
     Capped,
 }
 
-// How many parents entry e has.
-pub fn count_of(work: &[u32], e: usize) -> usize
-    requires { ⌜ (WORK ≤ length (now work)) × (e < ENTRIES) ⌝ }
-    ensures { λ r. ⌜ r ≡ at (now (work .entry)) (COUNTS + e) ⌝ }
-{
-    wide(work[work_layout::COUNTS + e])
-}
-
-// Parent i of entry e, doubled, and its position.
-pub fn parent_at(work: &[u32], e: usize, i: usize) -> u32
-    requires { ⌜ (WORK ≤ length (now work)) × (e < ENTRIES) × (i < MAX-PARENTS) ⌝ }
-    ensures { λ r. ⌜ r ≡ at (now (work .entry)) (PARENTS + e * MAX-PARENTS + i) ⌝ }
-{
-    work[work_layout::PARENTS + e * work_layout::MAX_PARENTS + i]
-}
-
 // One more than the highest place of entry e on the stack, or 0.
-pub fn top_of(work: &[u32], e: usize) -> usize
-    requires { ⌜ (WORK ≤ length (now work)) × (e < ENTRIES) ⌝ }
-    ensures { λ r. ⌜ r ≡ at (now (work .entry)) (TOPS + e) ⌝ }
+pub fn top_of(work: &[u32], e: EntryIndex) -> usize
+    requires { ⌜ (WORK ≤ length (now work)) × (e .0 < ENTRIES) ⌝ }
+    ensures { λ r. ⌜ r ≡ at (now (work .entry)) (TOPS + e .0) ⌝ }
 {
-    wide(work[work_layout::TOPS + e])
+    wide(work[work_layout::TOPS + e.0 as usize])
 }
 
 // The node whose bits path i has.
@@ -61,12 +47,37 @@ pub fn node_of(work: &[u32], i: usize) -> u32
     work[work_layout::PATHS + 3 * i]
 }
 
-// Where path i is: at an entry, doubled, and the position bit that it takes there; on the stack, the distance from the top.
-pub fn place_of(work: &[u32], i: usize) -> u32
+// Where path i is, as it stands in work: what `parent_of` or what `distance_of` gives.
+fn place_of(work: &[u32], i: usize) -> u32
     requires { ⌜ (WORK ≤ length (now work)) × (i < MOST-PATHS) ⌝ }
     ensures { λ r. ⌜ r ≡ place-at (now (work .entry)) i ⌝ }
 {
     work[work_layout::PATHS + 3 * i + 1]
+}
+
+// Where path i is, at an entry: the entry, and the position bit that it takes there.
+pub fn parent_of(work: &[u32], i: usize) -> Parent
+    requires { ⌜ (WORK ≤ length (now work)) × (i < MOST-PATHS) ⌝ }
+    ensures { λ p. ⌜ p .0 ≡ place-at (now (work .entry)) i ⌝ }
+{
+    Parent(place_of(work, i))
+}
+
+// The entry that path i is at.
+pub fn entry_of(work: &[u32], i: usize) -> EntryIndex
+    requires { ⌜ (WORK ≤ length (now work)) × (i < MOST-PATHS) ⌝ }
+    ensures { λ e. ⌜ e .0 ≡ place-at (now (work .entry)) i / 2 ⌝ }
+{
+    let p = parent_of(work, i);
+    p.entry()
+}
+
+// Where path i is, on the stack: the distance from the top.
+pub fn distance_of(work: &[u32], i: usize) -> u32
+    requires { ⌜ (WORK ≤ length (now work)) × (i < MOST-PATHS) ⌝ }
+    ensures { λ r. ⌜ r ≡ place-at (now (work .entry)) i ⌝ }
+{
+    place_of(work, i)
 }
 
 // 0 where path i is at an entry; on the stack, how many bits it has after its node's: a 0, and then each a 1.
@@ -97,29 +108,45 @@ pub fn size_of(work: &[u32], i: usize) -> usize
 }
 
 // Whether entry e is seen.
-pub fn is_seen(work: &[u32], e: usize) -> bool
-    requires { ⌜ (WORK ≤ length (now work)) × (e < ENTRIES) ⌝ }
-    ensures { λ b. ⌜ b ≡ seen-at (now (work .entry)) e ⌝ }
+pub fn is_seen(work: &[u32], e: EntryIndex) -> bool
+    requires { ⌜ (WORK ≤ length (now work)) × (e .0 < ENTRIES) ⌝ }
+    ensures { λ b. ⌜ b ≡ seen-at (now (work .entry)) (e .0) ⌝ }
 {
     // A local: with a literal there the proof takes seconds.
     let from = SEEN;
-    bitset::is_visited(&work[from..PREVS], e)
+    bitset::is_visited(&work[from..PREVS], e.0 as usize)
 }
 
 // Entry e is seen.
-pub fn mark_seen(work: &mut [u32], e: usize)
-    requires { ⌜ (WORK ≤ length (now work)) × (e < ENTRIES) ⌝ }
-    ensures { λ _. ⌜ Marked (now (work .entry)) (now (work .exit)) e ⌝ }
+pub fn mark_seen(work: &mut [u32], e: EntryIndex)
+    requires { ⌜ (WORK ≤ length (now work)) × (e .0 < ENTRIES) ⌝ }
+    ensures { λ _. ⌜ Marked (now (work .entry)) (now (work .exit)) (e .0) ⌝ }
 {
-    bitset::visit(&mut work[SEEN..PREVS], e);
+    bitset::visit(&mut work[SEEN..PREVS], e.0 as usize);
 }
 
 // Path i has the bits of node a, is at place v, and has x bits after the node's.
-pub fn put_path(work: &mut [u32], i: usize, a: u32, v: u32, x: u32)
+fn put_path(work: &mut [u32], i: usize, a: u32, v: u32, x: u32)
     requires { ⌜ (WORK ≤ length (now work)) × (i < MOST-PATHS) ⌝ }
     ensures { λ _. ⌜ Stored (now (work .entry)) (now (work .exit)) i a v x ⌝ }
 {
     work[work_layout::PATHS + 3 * i] = a;
     work[work_layout::PATHS + 3 * i + 1] = v;
     work[work_layout::PATHS + 3 * i + 2] = x;
+}
+
+// Path i has the bits of node a, and is at an entry.
+pub fn put_at_entry(work: &mut [u32], i: usize, a: u32, p: Parent)
+    requires { ⌜ (WORK ≤ length (now work)) × (i < MOST-PATHS) ⌝ }
+    ensures { λ _. ⌜ Stored (now (work .entry)) (now (work .exit)) i a (p .0) 0 ⌝ }
+{
+    put_path(work, i, a, p.0, 0);
+}
+
+// Path i has the bits of node a and x more, and is on the stack, at this distance from the top.
+pub fn put_on_stack(work: &mut [u32], i: usize, a: u32, distance: u32, x: u32)
+    requires { ⌜ (WORK ≤ length (now work)) × (i < MOST-PATHS) ⌝ }
+    ensures { λ _. ⌜ Stored (now (work .entry)) (now (work .exit)) i a distance x ⌝ }
+{
+    put_path(work, i, a, distance, x);
 }

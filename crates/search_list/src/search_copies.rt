@@ -1,5 +1,7 @@
 // How the working list gets paths and nodes: a node made, copies at the parents and on the stack. What adds paths gives how many there are then.
 use crate::Search;
+use work_layout::EntryIndex;
+use work_layout::parents;
 ghost use mathlib.Core.List.{_++_, _∷_, []};
 ghost use Prim.Native.Nat.{_+_, _-_, _*_, _≤_, _<_};
 ghost use lib.ListN.{length};
@@ -17,42 +19,42 @@ pub fn add_node(work: &mut [u32], slot: usize, nodes: usize)
     ensures { λ _. ⌜ Visited (now (work .entry)) (now (work .exit)) slot nodes ⌝ }
 {
     let a = crate::node_of(work, slot);
-    let v = crate::place_of(work, slot);
+    let p = crate::parent_of(work, slot);
     let l = crate::len_of(work, words::wide(a));
     let k = nodes + 1;
     work[work_layout::PREVS + k] = a;
-    work[work_layout::NODES + k] = v;
+    work[work_layout::NODES + k] = p.0;
     work[work_layout::LENS + k] = (l + 1) as u32;
-    crate::mark_seen(work, words::wide(v) / 2);
+    crate::mark_seen(work, p.entry());
 }
 
 // A path with the bits of the last node at parent i of entry e, unless that is seen.
-fn add_copy(work: &mut [u32], e: usize, i: usize, paths: usize, nodes: usize) -> usize
+fn add_copy(work: &mut [u32], e: EntryIndex, i: usize, paths: usize, nodes: usize) -> usize
     requires { ⌜ (Links (now work)) × (Nodes (now work) nodes) × (PathsOK (now work) nodes paths) ⌝ }
-    requires { ⌜ (e < ENTRIES) × (i < count-at (now work) e) × (paths < MOST-PATHS) ⌝ }
+    requires { ⌜ (e .0 < ENTRIES) × (i < count-at (now work) (e .0)) × (paths < MOST-PATHS) ⌝ }
     ensures { λ r. ⌜
         Relisted (now (work .entry)) (now (work .exit)) nodes r
         (trails-of (now (work .entry)) paths
         ++ upward (seen-of (now (work .entry)) nodes) (node-bits (now (work .entry)) nodes)
-        (parent-of (at (now (work .entry)) (PARENTS + e * MAX-PARENTS + i)) ∷ [])) ⌝ }
+        (parent-of (at (now (work .entry)) (PARENTS + e .0 * MAX-PARENTS + i)) ∷ [])) ⌝ }
 {
-    let v = crate::parent_at(work, e, i);
-    if crate::is_seen(work, words::wide(v) / 2) {
+    let p = parents::parent_at(work, e, i);
+    if crate::is_seen(work, p.entry()) {
         return paths;
     }
-    crate::put_path(work, paths, nodes as u32, v, 0);
+    crate::put_at_entry(work, paths, nodes as u32, p);
     paths + 1
 }
 
 // A path with the bits of the last node at each unseen parent of entry e from parent `first` on.
-pub fn add_copies(work: &mut [u32], e: usize, first: usize, s: Search) -> usize
+pub fn add_copies(work: &mut [u32], e: EntryIndex, first: usize, s: Search) -> usize
     requires { ⌜ (Links (now work)) × (Nodes (now work) (s .nodes)) × (PathsOK (now work) (s .nodes) (s .paths)) ⌝ }
-    requires { ⌜ (e < ENTRIES) × (first ≤ count-at (now work) e) × (s .paths + (count-at (now work) e - first) ≤ MOST-PATHS) ⌝ }
+    requires { ⌜ (e .0 < ENTRIES) × (first ≤ count-at (now work) (e .0)) × (s .paths + (count-at (now work) (e .0) - first) ≤ MOST-PATHS) ⌝ }
     ensures { λ r. ⌜
         Relisted (now (work .entry)) (now (work .exit)) (s .nodes) r
-        (trails-of (now (work .entry)) (s .paths) ++ copies (now (work .entry)) (s .nodes) e first) ⌝ }
+        (trails-of (now (work .entry)) (s .paths) ++ copies (now (work .entry)) (s .nodes) (e .0) first) ⌝ }
 {
-    let all = crate::count_of(work, e);
+    let all = parents::count_of(work, e);
     let mut paths = s.paths;
     let mut i = first;
     while i < all {
@@ -63,17 +65,17 @@ pub fn add_copies(work: &mut [u32], e: usize, first: usize, s: Search) -> usize
 }
 
 // For an entry on the stack a path there, with the bits of the last node and a further 0.
-pub fn add_stacked(work: &mut [u32], e: usize, s: Search) -> usize
+pub fn add_stacked(work: &mut [u32], e: EntryIndex, s: Search) -> usize
     requires { ⌜ (Links (now work)) × (Tops (now work) (s .depth)) × (Nodes (now work) (s .nodes)) × (PathsOK (now work) (s .nodes) (s .paths)) ⌝ }
-    requires { ⌜ (e < ENTRIES) × (s .paths < MOST-PATHS) ⌝ }
+    requires { ⌜ (e .0 < ENTRIES) × (s .paths < MOST-PATHS) ⌝ }
     ensures { λ r. ⌜
         Relisted (now (work .entry)) (now (work .exit)) (s .nodes) r
-        (trails-of (now (work .entry)) (s .paths) ++ stacked (now (work .entry)) (s .nodes) e (s .depth)) ⌝ }
+        (trails-of (now (work .entry)) (s .paths) ++ stacked (now (work .entry)) (s .nodes) (e .0) (s .depth)) ⌝ }
 {
     let t = crate::top_of(work, e);
     if t == 0 {
         return s.paths;
     }
-    crate::put_path(work, s.paths, s.nodes as u32, (s.depth - t) as u32, 1);
+    crate::put_on_stack(work, s.paths, s.nodes as u32, (s.depth - t) as u32, 1);
     s.paths + 1
 }

@@ -1,6 +1,8 @@
 // How a step changes the working list: a path moved to a parent or to the stack, or dropped.
 use crate::Search;
 use crate::search_copies;
+use work_layout::EntryIndex;
+use work_layout::parents;
 ghost use mathlib.Core.List.{_++_};
 ghost use Prim.Native.Nat.{_+_, _-_, _*_, _≤_, _<_};
 ghost use lib.ListN.{length, set};
@@ -12,14 +14,15 @@ ghost use Rattle.search_list.specs.Steps.{PathsOK, copies, stacked, Link
 ghost use Rattle.search_list.specs.State.{node-bits, trail-of, trails-of, trail, count-at, MOST-PATHS};
 
 // The first parent of entry e that is not seen, or how many it has.
-pub fn first_unseen(work: &[u32], e: usize) -> usize
-    requires { ⌜ (Links (now work)) × (e < ENTRIES) ⌝ }
-    ensures { λ r. ⌜ FirstUnseen (now (work .entry)) e r ⌝ }
+pub fn first_unseen(work: &[u32], e: EntryIndex) -> usize
+    requires { ⌜ (Links (now work)) × (e .0 < ENTRIES) ⌝ }
+    ensures { λ r. ⌜ FirstUnseen (now (work .entry)) (e .0) r ⌝ }
 {
-    let all = crate::count_of(work, e);
+    let all = parents::count_of(work, e);
     let mut i = 0;
     while i < all {
-        if !crate::is_seen(work, words::wide(crate::parent_at(work, e, i)) / 2) {
+        let p = parents::parent_at(work, e, i);
+        if !crate::is_seen(work, p.entry()) {
             return i;
         }
         i += 1;
@@ -47,29 +50,33 @@ pub fn drop_path(work: &mut [u32], slot: usize, last: usize, nodes: usize)
 
 // The path in `slot` goes to parent k of entry e, each later unseen parent gets a copy, and then the stack. This function and the next give how many
 // paths there are then.
-pub fn go_up(work: &mut [u32], slot: usize, s: Search, e: usize, k: usize) -> usize
+pub fn go_up(work: &mut [u32], slot: usize, s: Search, e: EntryIndex, k: usize) -> usize
     requires { ⌜ (Links (now work)) × (Tops (now work) (s .depth)) × (Nodes (now work) (s .nodes)) × (PathsOK (now work) (s .nodes) (s .paths)) ⌝ }
-    requires { ⌜ (slot < s .paths) × (e < ENTRIES) × (k < count-at (now work) e) × (s .paths + (count-at (now work) e - k) ≤ MOST-PATHS) ⌝ }
+    requires { ⌜
+        (slot < s .paths)
+        × (e .0 < ENTRIES)
+        × (k < count-at (now work) (e .0))
+        × (s .paths + (count-at (now work) (e .0) - k) ≤ MOST-PATHS) ⌝ }
     ensures { λ r. ⌜
         Relisted (now (work .entry)) (now (work .exit)) (s .nodes) r
         (set (trails-of (now (work .entry)) (s .paths)) slot
-        (trail 0 (node-bits (now (work .entry)) (s .nodes)) (at (now (work .entry)) (PARENTS + e * MAX-PARENTS + k)))
-        ++ (copies (now (work .entry)) (s .nodes) e (k + 1) ++ stacked (now (work .entry)) (s .nodes) e (s .depth))) ⌝ }
+        (trail 0 (node-bits (now (work .entry)) (s .nodes)) (at (now (work .entry)) (PARENTS + e .0 * MAX-PARENTS + k)))
+        ++ (copies (now (work .entry)) (s .nodes) (e .0) (k + 1) ++ stacked (now (work .entry)) (s .nodes) (e .0) (s .depth))) ⌝ }
 {
-    let v = crate::parent_at(work, e, k);
-    crate::put_path(work, slot, s.nodes as u32, v, 0);
+    let p = parents::parent_at(work, e, k);
+    crate::put_at_entry(work, slot, s.nodes as u32, p);
     let mut more = s;
     more.paths = search_copies::add_copies(work, e, k + 1, s);
     search_copies::add_stacked(work, e, more)
 }
 
 // The path in `slot` is dropped, and the stack gets a copy.
-pub fn go_off(work: &mut [u32], slot: usize, s: Search, e: usize) -> usize
+pub fn go_off(work: &mut [u32], slot: usize, s: Search, e: EntryIndex) -> usize
     requires { ⌜ (Links (now work)) × (Tops (now work) (s .depth)) × (Nodes (now work) (s .nodes)) × (PathsOK (now work) (s .nodes) (s .paths)) ⌝ }
-    requires { ⌜ (slot < s .paths) × (e < ENTRIES) × (s .paths < MOST-PATHS) ⌝ }
+    requires { ⌜ (slot < s .paths) × (e .0 < ENTRIES) × (s .paths < MOST-PATHS) ⌝ }
     ensures { λ r. ⌜
         Relisted (now (work .entry)) (now (work .exit)) (s .nodes) r
-        (swap-remove (trails-of (now (work .entry)) (s .paths) ++ stacked (now (work .entry)) (s .nodes) e (s .depth)) slot
+        (swap-remove (trails-of (now (work .entry)) (s .paths) ++ stacked (now (work .entry)) (s .nodes) (e .0) (s .depth)) slot
         (trail-of (now (work .entry)) slot)) ⌝ }
 {
     let last = search_copies::add_stacked(work, e, s) - 1;

@@ -152,11 +152,11 @@ pub record Begun (w y : List ℕ) (d e : ℕ) : Type 0 where
   pub len : length y ≡ length w
 
 -- The passes from l on give what all passes give.
-pub record Searching (w₀ w : List ℕ) (d e limit l : ℕ) (s : Search) : Type 0 where
+pub record Searching (w₀ w : List ℕ) (d limit l : ℕ) (s : Search) : Type 0 where
   pub sound : Working w (s .depth) (s .paths) (s .nodes)
   pub mid : Mid l (trails-of w (s .paths)) 0
   pub within : l ≤ limit + 1
-  pub same : passes (parents-of-all w₀) (stack-of w₀ d) (suc limit) 0 (at-entry [] e true ∷ []) []
+  pub same : passes (parents-of-all w₀) (stack-of w₀ d) (suc limit) 0 (trails-of w₀ 1) []
       ≡ passes (parents-of-all w₀) (stack-of w₀ d) (suc limit - l) l (trails-of w (s .paths)) (seen-of w (s .nodes))
   pub deep : s .depth ≡ d
   pub kept : Kept w₀ w
@@ -184,7 +184,7 @@ module _ {w y : List ℕ} {d e : ℕ} (b : Begun w y d e) where
   tops-y : Tops y d
   tops-y = low-tops w y d (b .started .kept .low) (b .tops)
 
-  pub search-start : (limit : ℕ) → Searching y y d e limit 0 (search-of 1 0 d)
+  pub search-start : (limit : ℕ) → Searching y y d limit 0 (search-of 1 0 d)
   unfolding seen-of
   search-start limit = record {
     sound = record {
@@ -197,16 +197,16 @@ module _ {w y : List ℕ} {d e : ℕ} (b : Begun w y d e) where
     };
     mid = record { within = omega arith; longer = tt; least = rw (b .started .trails) (omega arith, tt) };
     within = omega arith;
-    same = let z : suc limit - 0 ≡ suc limit = omega arith in rw (z, b .started .trails);
+    same = let z : suc limit - 0 ≡ suc limit = omega arith in rw z;
     deep = refl;
     kept = kept-none y;
     len = refl;
   }
 
-  module _ {z : List ℕ} {limit l : ℕ} {s : Search} (k : Searching y z d e limit l s) where
+  module _ {z : List ℕ} {limit l : ℕ} {s : Search} (k : Searching y z d limit l s) where
     -- What all passes give.
     all : Option (List Bool)
-    all = passes (parents-of-all y) (stack-of y d) (suc limit) 0 (at-entry [] e true ∷ []) []
+    all = passes (parents-of-all y) (stack-of y d) (suc limit) 0 (trails-of y 1) []
 
     -- What the passes give is what the search of the words before the start gives.
     finds : {v : List ℕ} {len : ℕ} {r : Way} → Limit len limit → all ≡ way-of v r → Usable v r → Kept z v → Finds w v d len e r
@@ -214,7 +214,8 @@ module _ {w y : List ℕ} {d e : ℕ} (b : Begun w y d e) where
     finds {v} {len} lim a u q = record {
       answer =
           ap₂ {C = Option (List Bool)} (λ P S. search P S len e) (sym (low-parents w y (b .links) (b .started .kept .low) (b .len)))
-          (sym (stack-same w y d (b .started .kept .low) (b .tops .deep))) ∙ limited y d len e limit tops-y lim ∙ a;
+          (sym (stack-same w y d (b .started .kept .low) (b .tops .deep))) ∙ limited y d len e limit tops-y lim
+          ∙ ap (λ (list : List Trail). passes (parents-of-all y) (stack-of y d) (suc limit) 0 list []) (sym (b .started .trails)) ∙ a;
       usable = u;
       kept = kept-more w y v (b .started .kept) (kept-more y z v (k .kept) q);
     }
@@ -250,7 +251,7 @@ module _ {w y : List ℕ} {d e : ℕ} (b : Begun w y d e) where
           (ap₂ {C = Passed} (λ P S. goes P S l (trails-of z (s .paths)) 0 (seen-of z (s .nodes))) (sym (low-parents y z links-y (k .kept .low) (k .len)))
           (sym (stack-same y z d (k .kept .low) (tops-y .deep)) ∙ ap (stack-of z) (sym (k .deep))) ∙ q)
 
-      pub search-more : {v : List ℕ} {s′ : Search} → length v ≡ length z → Passes z v l s (Next s′) → Searching y v d e limit (l + 1) s′
+      pub search-more : {v : List ℕ} {s′ : Search} → length v ≡ length z → Passes z v l s (Next s′) → Searching y v d limit (l + 1) s′
       unfolding all
       search-more {v} lv p =
           let o : suc limit - (l + 1) ≡ limit - l = omega arith in

@@ -9,6 +9,7 @@ use words::slices;
 use work_layout::EntryIndex;
 use work_layout::PREVS;
 use work_layout::SEEN;
+use work_layout::parents::Parent;
 ghost use mathlib.Core.List.{[]};
 ghost use Prim.Native.Nat.{_≤_, _<_};
 ghost use lib.ListN.{length};
@@ -61,13 +62,13 @@ fn clear_seen(work: &mut [u32])
 }
 
 // One path, with no bits, at entry e, position 1.
-fn start(work: &mut [u32], e: u32)
-    requires { ⌜ (WORK ≤ length (now work)) × (e < ENTRIES) ⌝ }
-    ensures { λ _. ⌜ Started (now (work .entry)) (now (work .exit)) e ⌝ }
+fn start(work: &mut [u32], e: EntryIndex)
+    requires { ⌜ (WORK ≤ length (now work)) × (e .0 < ENTRIES) ⌝ }
+    ensures { λ _. ⌜ Started (now (work .entry)) (now (work .exit)) (e .0) ⌝ }
 {
     clear_seen(work);
     work[work_layout::LENS] = 0;
-    search_list::put_path(work, 0, 0, e * 2 + 1, 0);
+    search_list::put_at_entry(work, 0, 0, Parent::new(e, true));
 }
 
 // The slot of the path that was found, or that there is none.
@@ -77,9 +78,9 @@ pub enum Way {
 }
 
 // The passes 0, 1, .. up to the last one, from the start.
-fn all_passes(work: &mut [u32], e: u32, len: u64, depth: usize) -> Way
-    requires { ⌜ (Links (now work)) × (Tops (now work) depth) × (unseen (count-at (now work)) [] ENTRIES ≤ 2048) × (e < ENTRIES) ⌝ }
-    ensures { λ r. ⌜ Finds (now (work .entry)) (now (work .exit)) depth len e r ⌝ }
+fn all_passes(work: &mut [u32], e: EntryIndex, len: u64, depth: usize) -> Way
+    requires { ⌜ (Links (now work)) × (Tops (now work) depth) × (unseen (count-at (now work)) [] ENTRIES ≤ 2048) × (e .0 < ENTRIES) ⌝ }
+    ensures { λ r. ⌜ Finds (now (work .entry)) (now (work .exit)) depth len (e .0) r ⌝ }
 {
     let limit = search_limit::limit_of(len);
     start(work, e);
@@ -114,5 +115,5 @@ pub fn search(work: &mut [u32], e: EntryIndex, len: u64, depth: usize) -> Way
     requires { ⌜ (Sound (now work)) × (Tops (now work) depth) × (all-counts (now work) ENTRIES ≤ 2048) × (e .0 < ENTRIES) ⌝ }
     ensures { λ r. ⌜ Finds (now (work .entry)) (now (work .exit)) depth len (e .0) r ⌝ }
 {
-    all_passes(work, e.0, len, depth)
+    all_passes(work, e, len, depth)
 }

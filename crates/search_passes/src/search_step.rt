@@ -12,13 +12,13 @@ fn step_stack(work: &mut [u32], slot: usize, s: Search) -> Turned
     requires { ⌜ (Working (now work) (s .depth) (s .paths) (s .nodes)) × (slot < s .paths) × (0 < extra-at (now work) slot) ⌝ }
     ensures { λ r. ⌜ Steps (now (work .entry)) (now (work .exit)) (s .depth) slot (s .paths) (s .nodes) r ⌝ }
 {
-    let v = search_list::place_of(work, slot);
-    if v == 0 {
+    let distance = search_list::distance_of(work, slot);
+    if distance == 0 {
         return Turned::Result(slot);
     }
     let a = search_list::node_of(work, slot);
     let x = search_list::extra_of(work, slot);
-    search_list::put_path(work, slot, a, v - 1, x + 1);
+    search_list::put_on_stack(work, slot, a, distance - 1, x + 1);
     Turned::On(slot + 1, s)
 }
 

@@ -3,6 +3,7 @@ use search_list::Search;
 use search_list::Turned;
 use search_list::search_copies;
 use search_list::search_moves;
+use work_layout::parents;
 ghost use mathlib.Core.Path.{_≡_};
 ghost use mathlib.Core.Bool.{false};
 ghost use Prim.Native.Nat.{_/_, _<_};
@@ -23,12 +24,12 @@ fn visit(work: &mut [u32], slot: usize, s: Search) -> Turned
         × (s .nodes < most-visits) ⌝ }
     ensures { λ r. ⌜ Steps (now (work .entry)) (now (work .exit)) (s .depth) slot (s .paths) (s .nodes) r ⌝ }
 {
-    let e = words::wide(search_list::place_of(work, slot)) / 2;
+    let e = search_list::entry_of(work, slot);
     search_copies::add_node(work, slot, s.nodes);
     let mut next = s;
     next.nodes += 1;
     let k = search_moves::first_unseen(work, e);
-    if k < search_list::count_of(work, e) {
+    if k < parents::count_of(work, e) {
         let paths = search_moves::go_up(work, slot, next, e, k);
         next.paths = paths;
         return Turned::On(slot + 1, next);
@@ -43,7 +44,7 @@ pub fn step_entry(work: &mut [u32], slot: usize, s: Search) -> Turned
     requires { ⌜ (Working (now work) (s .depth) (s .paths) (s .nodes)) × (slot < s .paths) × (extra-at (now work) slot ≡ 0) ⌝ }
     ensures { λ r. ⌜ Steps (now (work .entry)) (now (work .exit)) (s .depth) slot (s .paths) (s .nodes) r ⌝ }
 {
-    if search_list::is_seen(work, words::wide(search_list::place_of(work, slot)) / 2) {
+    if search_list::is_seen(work, search_list::entry_of(work, slot)) {
         let mut next = s;
         next.paths -= 1;
         search_moves::drop_path(work, slot, next.paths, s.nodes);

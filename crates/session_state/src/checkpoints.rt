@@ -5,7 +5,8 @@ ghost use Prim.Native.Nat.{_≤_};
 ghost use lib.ListN.{length, replicate, drop};
 ghost use Rattle.session_state.specs.Records.{blank};
 
-// The state before an add: the open pairs, the depth of the stack, the bytes written, and one more than the sentinel's entry, or 0.
+// The state before an add: the open pairs, the depth of the stack, the bytes written, and one more than the sentinel's entry, or 0: the word of work, since
+// the caller lends these records.
 #[repr(C)]
 pub struct Checkpoint {
     pub opens: u32,

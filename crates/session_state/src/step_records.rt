@@ -66,10 +66,11 @@ pub fn note(words: &mut [u32], p: Progress, next: usize) -> Progress
 }
 
 // The sentinel's entry of a checkpoint record. One that was not there stays as it is.
-pub fn bring_entry(work: &mut [u32], entry: u32)
+pub fn bring_entry(work: &mut [u32], c: Checkpoint)
     requires { ⌜ WORK ≤ length (now work) ⌝ }
-    ensures { λ _. ⌜ now (work .exit) ≡ with-entry (now (work .entry)) entry ⌝ }
+    ensures { λ _. ⌜ now (work .exit) ≡ with-entry (now (work .entry)) (c .sentinel) ⌝ }
 {
+    let entry = c.sentinel;
     if entry != 0 {
         work[work_layout::SENTINEL_ENTRY] = entry;
         return;

@@ -15,7 +15,7 @@ fn undo(work: &mut [u32], depth: usize, number: usize, c: Checkpoint)
     ensures { λ _. ⌜ Undone (now (work .entry)) (now (work .exit)) number c ⌝ }
 {
     cache_undo::restore(work, number, c.opens as usize, depth, c.depth as usize);
-    step_records::bring_entry(work, c.sentinel);
+    step_records::bring_entry(work, c);
 }
 
 // A restore: question 11; the state before an add is the present one again, and the step's word is written.

@@ -1,5 +1,6 @@
 // What lies where in work, 524,288 words: the offset of each region. The sizes stand in specs/Layout.antt, with the proof that no two
 // regions meet.
+pub mod parents;
 
 // Two words for each listed atom of the file: where its bytes start and end: 2,048 words.
 pub const ATOMS: usize = 0;

@@ -1,7 +1,7 @@
 -- What the words say of the cache that they hold: the entries of pairs and atoms.
 -- Assumes nothing.
-use Prim.Native.Nat.{ℕ, zero, suc, _+_, _-_, _<_}
-use mathlib.Core.Path.{_≡_, refl, sym, ap, _∙_}
+use Prim.Native.Nat.{ℕ, _+_, _<_}
+use mathlib.Core.Path.{_≡_, sym, ap, _∙_}
 use mathlib.Core.Bool.{true}
 use mathlib.Core.List.{List}
 use mathlib.Core.Option.{none, some}
@@ -10,12 +10,12 @@ use Rattle.words.specs.Words.{at}
 use Rattle.allocator.specs.Handle.{pair, node-of, is-atom}
 use Rattle.spec_session.specs.File.{File}
 use Rattle.spec_session.specs.Cache.{Entry, Cache, atom-key, find-key}
-use Rattle.spec_session.specs.Writer.{or-zero, atom-entry}
+use Rattle.spec_session.specs.Writer.{or-zero, atom-entry, pair-entry}
 use Rattle.work_layout.specs.Layout.{MAPS, USED, PAIR-COUNT}
 use Rattle.work_layout.specs.Rows.{row-of, rows-of}
 use Rattle.cache_entries.specs.declared.table.Found.{Found}
 use Rattle.cache_entries.specs.table.Contracts.{find-row, option-of}
-use Rattle.cache_entries.proofs.table.Rows.{find-low}
+use Rattle.cache_entries.proofs.table.Rows.{find-low, word-some}
 use Rattle.cache_entries.specs.Meaning.{ATOM-KEY, bytes-named, entry-or-none, Tables, Whole, Holds}
 use Rattle.cache_entries.specs.Contracts.{Stands}
 use Rattle.cache_entries.proofs.Atoms.{not-true}
@@ -24,23 +24,18 @@ use Rattle.cache_entries.specs.lookup.Contracts.{PairEntry, AtomEntry, E
 
 -- ---- what the getters give
 
-pub pair-none : (w : List ℕ) (i : ℕ) → i < at w PAIR-COUNT → at w (MAPS + i) ≡ 0 → PairEntry w i 0
-pair-none w i h q =
-    record {
-      low = omega arith;
-      is = λ f c t ho. ap or-zero (ho .mapped i (omega (arith, t .pair-count)) ∙ ap entry-or-none q);
-    }
+-- The entry that a pair is mapped to, and entry 0 where it is mapped to none.
+module _ {w : List ℕ} {i : ℕ} (wh : Whole w) (h : i < at w PAIR-COUNT) (r : Found) (q : option-of r ≡ entry-or-none (at w (MAPS + i))) where
+  mapped-is : (f : File) (c : Cache) → Tables f w → Holds f w c → pair-entry c i ≡ or-zero (option-of r)
+  mapped-is f c t ho = ap or-zero (ho .mapped i (omega (arith, t .pair-count)) ∙ sym q)
 
-or-none-some : (k e : ℕ) → (k ≡ 0 → ⊥) → e ≡ k - 1 → or-zero (entry-or-none k) ≡ e
-or-none-some zero e h q = absurd (h refl)
-or-none-some (suc k) e h q = sym (q ∙ omega arith)
+  pub pair-at : {e : ℕ} → option-of r ≡ some e → PairEntry w i e
+  pair-at {e} p =
+      let z = word-some (at w (MAPS + i)) e (sym p ∙ q) in
+      record { low = omega (arith, wh .maps i h, wh .sound .used); is = λ f c t ho. mapped-is f c t ho ∙ ap or-zero p }
 
-pub pair-some : (w : List ℕ) (i k : ℕ) → Whole w → i < at w PAIR-COUNT → k ≡ at w (MAPS + i) → (k ≡ 0 → ⊥) → PairEntry w i (k - 1)
-pair-some w i k wh h q z =
-    record {
-      low = omega (arith, wh .maps i h, wh .sound .used);
-      is = λ f c t ho. ap or-zero (ho .mapped i (omega (arith, t .pair-count)) ∙ ap entry-or-none (sym q)) ∙ or-none-some k (k - 1) z refl;
-    }
+  pub pair-none : option-of r ≡ none → PairEntry w i 0
+  pair-none p = record { low = omega arith; is = λ f c t ho. mapped-is f c t ho ∙ ap or-zero p }
 
 -- The entry that a lookup gives, and entry 0 where it gives none.
 module _ {w : List ℕ} {h key : ℕ} (wh : Whole w) (s : Stands w h key) (r : Found) (q : option-of r ≡ find-row ATOM-KEY key (rows-of w)) where

@@ -1,6 +1,6 @@
 -- Laws of the entries as rows: one row changed, a row looked up by its key, the parents counted.
 -- Assumes nothing.
-use Prim.Native.Nat.{ℕ, zero, suc, _+_, _*_, _≤_, _<_}
+use Prim.Native.Nat.{ℕ, zero, suc, _+_, _-_, _*_, _<_}
 use mathlib.Core.Path.{_≡_, refl, ap, _∙_}
 use mathlib.Core.Bool.{Bool, true, false, cond, _&&_}
 use mathlib.Core.List.{List, _∷_}
@@ -15,7 +15,8 @@ use Rattle.words.specs.Words.{at, tabulate}
 use Rattle.words.proofs.Words.{tabulate-same, length-tabulate, getD-tabulate}
 use Rattle.spec_session.specs.Cache.{later}
 use Rattle.work_layout.specs.Layout.{USED, COUNTS, LOW, HIGH}
-use Rattle.work_layout.specs.Rows.{Sound, length-of, Row, row-of, rows-of, with-parents, adjust-row, all-counts}
+use Rattle.work_layout.specs.Rows.{length-of, Row, row-of, rows-of, with-parents, adjust-row, all-counts}
+use Rattle.cache_entries.specs.Meaning.{entry-or-none}
 use Rattle.cache_entries.specs.table.Contracts.{find-row}
 
 pub length-rows : (w : List ℕ) → length (rows-of w) ≡ at w USED
@@ -26,12 +27,7 @@ pub row-at : (w : List ℕ) (e : ℕ) (d : Row) → e < at w USED → getD (rows
 unfolding rows-of
 row-at w e d h = getD-tabulate (at w USED) (row-of w) e d h
 
--- What the getters give, at the place i of the entry e.
-pub count-is : (w : List ℕ) (e i n : ℕ) → Sound w → e < at w USED → i ≡ e → n ≡ at w (COUNTS + i) → (n ≡ at w (COUNTS + e)) × (n ≤ 100)
-count-is w e i n s h p q =
-    let a : n ≡ at w (COUNTS + e) = q ∙ ap (λ (x : ℕ). at w (COUNTS + x)) p in
-    (a, omega (arith, s .counts e (omega (arith, s .used))))
-
+-- What `length_of` gives, at the place i of the entry e.
 pub length-is : (w : List ℕ) (e i a b : ℕ) → i ≡ e → a ≡ at w (LOW + i) → b ≡ at w (HIGH + i) → a + b * 4294967296 ≡ length-of w e
 length-is w e i a b p q r =
     let x : a ≡ at w (LOW + e) = q ∙ ap (λ (y : ℕ). at w (LOW + y)) p in
@@ -112,3 +108,17 @@ find-low (suc n) f l r e q =
     go true o p f = let y : 0 ≡ e = cc in omega arith
     go false none p f = absurd (let z : _≡_ {A = ℕ} 0 1 = cc in omega arith)
     go false (some d) p f = let y : suc d ≡ e = cc in omega (arith, f d refl)
+
+-- ---- a word that stands for an entry, as one more, or for none
+
+pub some-word : (k : ℕ) → (k ≡ 0 → ⊥) → some (k - 1) ≡ entry-or-none k
+some-word zero n = absurd (n refl)
+some-word (suc k) n = ap {B = Option ℕ} some (omega arith)
+
+pub word-some : (k e : ℕ) → some e ≡ entry-or-none k → k ≡ e + 1
+word-some zero e q = absurd (let z : _≡_ {A = ℕ} 0 1 = cc in omega arith)
+word-some (suc k) e q = let z : e ≡ k = cc in omega arith
+
+pub word-none : (k : ℕ) → none ≡ entry-or-none k → k ≡ 0
+word-none zero q = refl
+word-none (suc k) q = absurd (let z : _≡_ {A = ℕ} 0 1 = cc in omega arith)

@@ -12,6 +12,20 @@ use Rattle.work_layout.specs.Layout.{MOVED, USED, LEFT, RIGHT, SEEN, ENTRIES, M
 use Rattle.work_layout.specs.Rows.{Row, rows-of, new-row, adjust-row, parent-of, parents-of, Sound, all-counts}
 use Rattle.cache_entries.specs.declared.table.Found.{Found}
 use Rattle.cache_entries.specs.declared.table.Found.the-variants.{At, Nothing}
+use Rattle.cache_entries.specs.declared.table.Key.{Key}
+use Rattle.cache_entries.specs.declared.table.Key.the-variants.{Pair, Atom, Sentinel}
+use Rattle.cache_entries.specs.Meaning.{ATOM-KEY, SENTINEL-KEY}
+
+-- The two words that stand for a key in work: the entries of a pair's sides; else a mark, and an atom's handle or a sentinel's own entry.
+abbrev pub first-word : Key → ℕ
+first-word (Pair l r) = l .0
+first-word (Atom h) = ATOM-KEY
+first-word (Sentinel e) = SENTINEL-KEY
+
+abbrev pub second-word : Key → ℕ
+second-word (Pair l r) = r .0
+second-word (Atom h) = h .0
+second-word (Sentinel e) = e .0
 
 -- The first entry with this key.
 abbrev pub find-row : (left right : ℕ) → List Row → Option ℕ

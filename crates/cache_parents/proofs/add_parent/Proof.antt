@@ -3,24 +3,18 @@
 use native.Mathlib.Omega.{arith}
 use lib.ListN.{length-set}
 use borrow.Author.Needs.{needs}
-use Rattle.cache_parents.proofs.Parents.{pushed, replaced}
+use Rattle.cache_parents.proofs.Parents.{count-asks, pushed, replaced}
 use Rattle.cache_parents.proofs.add_parent.Statement.{statement}
 use Rattle.cache_parents.proofs.add_parent.Tie as tie
 
 count-of-requires : tie.Need-count-of-requires
-count-of-requires c κs = search needs
+count-of-requires c κs = let s = c .before .before in count-asks (s .pre .0) (s .pre .1)
 
 wide-requires : tie.Need-wide-requires
 wide-requires c κs = search needs
 
-position-of-requires : tie.Need-position-of-requires
-position-of-requires c κs = search needs
-
-mul-link : tie.Need-mul-link
-mul-link c = search needs
-
-add-link : tie.Need-add-link
-add-link c = search needs
+new-requires : tie.Need-new-requires
+new-requires c κs = search needs
 
 mul-work : tie.Need-mul-work
 mul-work c = search needs
@@ -52,6 +46,9 @@ mul-work-3 c = search needs
 slice-write-work-2 : tie.Need-slice-write-work-2
 slice-write-work-2 c = simp length-set (omega arith)
 
+position-of-requires : tie.Need-position-of-requires
+position-of-requires c κs = search needs
+
 add-wide : tie.Need-add-wide
 add-wide c = search needs
 
@@ -82,22 +79,22 @@ returns c =
     let i = p .before in
     let n = i .before in
     let s = n .before .before .before in
-    pushed (s .args .work .now) (s .args .e .0) (s .args .parent .0) (p .position-of .result) (n .count-of .result) (s .args .right)
-    (s .pre .0) (s .pre .1) (s .pre .2) (p .position-of .ensures .0) (p .position-of .ensures .1) (n .count-of .ensures .0)
-    (i .wide .result) (i .wide .ensures) (c .if1 .taken)
+    pushed (s .args .work .now) (s .args .e .0) (s .args .parent .0) (p .new .result .0) (n .count-of .result) (s .args .right)
+    (s .pre .0) (s .pre .1) (s .pre .2) (p .new .ensures) (n .count-of .ensures .0) (i .wide .result) (i .wide .ensures) (c .if1 .taken)
 
 same-length-2 : tie.Need-same-length-2
 same-length-2 c = search needs
 
 returns-2 : tie.Need-returns-2
 returns-2 c =
-    let p = c .before .before in
+    let b = c .before .before in
+    let p = b .before .before in
     let i = p .before in
     let n = i .before in
     let s = n .before .before .before in
-    replaced (s .args .work .now) (s .args .e .0) (s .args .parent .0) (p .position-of .result) (n .count-of .result) (s .args .right)
-    (s .pre .0) (s .pre .1) (s .pre .2) (p .position-of .ensures .0) (p .position-of .ensures .1) (n .count-of .ensures .0)
-    (i .wide .result) (c .wide2 .result) (i .wide .ensures) (c .wide2 .ensures) (c .before .if1 .left)
+    replaced (s .args .work .now) (s .args .e .0) (s .args .parent .0) (p .new .result .0) (n .count-of .result) (s .args .right)
+    (s .pre .0) (s .pre .1) (s .pre .2) (p .new .ensures) (n .count-of .ensures .0) (i .wide .result) (b .position-of .result) (c .wide2 .result)
+    (i .wide .ensures) (b .position-of .ensures .0) (c .wide2 .ensures) (b .before .if1 .left)
 
 pub add-parent-spec : {M : Type 1} → statement M
 add-parent-spec =
@@ -105,9 +102,7 @@ add-parent-spec =
     (tie.spec
     count-of-requires
     wide-requires
-    position-of-requires
-    mul-link
-    add-link
+    new-requires
     mul-work
     add-work
     add-work-2
@@ -118,6 +113,7 @@ add-parent-spec =
     add-work-4
     mul-work-3
     slice-write-work-2
+    position-of-requires
     add-wide
     wide-requires-2
     mul-work-4

@@ -16,6 +16,9 @@ part-visit-start c = search needs
 part-visit-end : tie.Need-part-visit-end
 part-visit-end c = search needs
 
+cast-visit : tie.Need-cast-visit
+cast-visit c = search needs
+
 visit-requires : tie.Need-visit-requires
 visit-requires c κs = search needs
 
@@ -25,11 +28,11 @@ same-length c = search needs
 returns : tie.Need-returns
 unfolding part
 returns c =
-    let s = c .before .before .before .before .before in
+    let s = c .before .before .before .before .before .before in
     let r = c .before .before .visit in
-    marked (s .args .work .now) (r .last .0) (s .pre .0) (r .kept .0 ∙ seen-length (s .args .work .now) (s .pre .0)) (s .args .e) (s .pre .1) (r .ensures .1)
+    marked (s .args .work .now) (r .last .0) (s .pre .0) (r .kept .0 ∙ seen-length (s .args .work .now) (s .pre .0)) (s .args .e .0) (s .pre .1) (r .ensures .1)
 
 pub mark-seen-spec : {M : Type 1} → statement M
 mark-seen-spec =
     tie.close
-    (tie.spec sub-visit part-visit-start part-visit-end visit-requires same-length returns)
+    (tie.spec sub-visit part-visit-start part-visit-end cast-visit visit-requires same-length returns)

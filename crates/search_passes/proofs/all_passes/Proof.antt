@@ -9,16 +9,16 @@ use Rattle.search_passes.proofs.all_passes.Statement.{statement}
 use Rattle.search_passes.proofs.all_passes.Tie as tie
 
 abbrev Inv-loop : tie.InvT-loop
-Inv-loop work₀ e len d limit l₀ s₀ work l s = Searching work₀ work d e limit l s
+Inv-loop work₀ len d limit l₀ s₀ work l s = Searching work₀ work d limit l s
 
 abbrev μ-loop : tie.MeasureT-loop
-μ-loop work₀ e len d limit l₀ s₀ work l s = limit + 1 - l
+μ-loop work₀ len d limit l₀ s₀ work l s = limit + 1 - l
 
 -- The call, and what is known after the start.
 abbrev call : tie.After-start Inv-loop μ-loop → tie.Start Inv-loop μ-loop
 call x = x .before .before .before .before
 
-begun : (x : tie.After-start Inv-loop μ-loop) → Begun (call x .args .work .now) (x .start .last .0) (call x .args .depth) (call x .args .e)
+begun : (x : tie.After-start Inv-loop μ-loop) → Begun (call x .args .work .now) (x .start .last .0) (call x .args .depth) (call x .args .e .0)
 begun x =
     let p = call x .pre in
     record { links = p .0; tops = p .1; few = p .2; started = x .start .ensures; len = x .start .kept .0 }

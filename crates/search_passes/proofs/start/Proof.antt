@@ -14,25 +14,25 @@ clear-seen-requires c κs = search needs
 slice-write-work : tie.Need-slice-write-work
 slice-write-work c = search needs
 
-mul-put-path : tie.Need-mul-put-path
-mul-put-path c = search needs
+new-requires : tie.Need-new-requires
+new-requires c κs = search needs
 
-add-put-path : tie.Need-add-put-path
-add-put-path c = search needs
-
-put-path-requires : tie.Need-put-path-requires
-put-path-requires c κs =
-    (simp length-set (omega (arith, c .before .before .before .clear-seen .kept .0, c .before .before .before .before .before .before .pre .0)), omega arith)
+put-at-entry-requires : tie.Need-put-at-entry-requires
+put-at-entry-requires c κs =
+    let k = c .before .before .before .before in
+    (simp length-set (omega (arith, k .clear-seen .kept .0, k .before .before .before .pre .0)), omega arith)
 
 same-length : tie.Need-same-length
-same-length c = c .before .before .put-path .kept .0 ∙ simp length-set (c .before .before .before .before .before .before .clear-seen .kept .0)
+same-length c = c .before .before .put-at-entry .kept .0 ∙ simp length-set (c .before .before .before .before .before .before .before .clear-seen .kept .0)
 
 returns : tie.Need-returns
 returns c =
-    let s = c .before .before .before .before .before .before .before .before .before in
-    let k = c .before .before .before .before .before .before .clear-seen in
-    started (s .args .work .now) (k .last .0) (c .before .before .put-path .last .0) (s .args .e) (omega (arith, k .kept .0, s .pre .0)) (s .pre .1)
-    (k .ensures) (c .before .before .put-path .ensures)
+    let p = c .before .before in
+    let x = p .before .before .before .before .before in
+    let s = x .before .before .before in
+    let k = x .clear-seen in
+    started (s .args .work .now) (k .last .0) (p .put-at-entry .last .0) (s .args .e .0) (omega (arith, k .kept .0, s .pre .0)) (s .pre .1)
+    (k .ensures) (rw (p .before .new .ensures) at (p .put-at-entry .ensures))
 
 pub start-spec : {M : Type 1} → statement M
 start-spec =
@@ -40,8 +40,7 @@ start-spec =
     (tie.spec
     clear-seen-requires
     slice-write-work
-    mul-put-path
-    add-put-path
-    put-path-requires
+    new-requires
+    put-at-entry-requires
     same-length
     returns)

@@ -1,16 +1,26 @@
 -- `find_key` meets its contract. The invariant: no entry from `head` on has the key. Keys are distinct, so the last entry with it is the first one.
 -- Assumes nothing.
+use mathlib.Core.Path.{_∙_}
 use mathlib.Core.Logic.{⊎-elim}
 use borrow.Author.Needs.{needs}
+use Rattle.work_layout.specs.Rows.{rows-of}
+use Rattle.cache_entries.specs.table.Contracts.{find-row}
 use Rattle.cache_entries.proofs.table.Chain.{Seek, seek-start, seek-found, seek-less, skip-left, skip-right, seek-none}
 use Rattle.cache_entries.proofs.table.find_key.Statement.{statement}
 use Rattle.cache_entries.proofs.table.find_key.Tie as tie
 
 abbrev Inv-loop : tie.InvT-loop
-Inv-loop work left right slot head₀ head = Seek work left right slot head
+Inv-loop work k slot head₀ head = Seek work (k .left) (k .right) slot head
 
 abbrev μ-loop : tie.MeasureT-loop
-μ-loop work left right slot head₀ head = head
+μ-loop work k slot head₀ head = head
+
+-- The call, from the loop.
+abbrev start : tie.At-loop Inv-loop μ-loop → tie.Start Inv-loop μ-loop
+start k = k .before .before .before .before .before
+
+words-of-requires : tie.Need-words-of-requires Inv-loop μ-loop
+words-of-requires c κs = search needs
 
 slot-of-requires : tie.Need-slot-of-requires Inv-loop μ-loop
 slot-of-requires c κs = search needs
@@ -25,7 +35,7 @@ shared-slice-read-head : tie.Need-shared-slice-read-head Inv-loop μ-loop
 shared-slice-read-head c = search needs
 
 loop-holds : tie.Need-loop-holds Inv-loop μ-loop
-loop-holds c = let s = c .before .before .before in seek-start (s .args .work .now) (s .pre) _ _ (c .before .slot-of .result) (c .before .slot-of .ensures)
+loop-holds c = let s = c .before .before .before .before in seek-start (s .args .work .now) (s .pre) _ _ (c .before .slot-of .result) (c .before .slot-of .ensures)
 
 sub-wide : tie.Need-sub-wide Inv-loop μ-loop
 sub-wide c = search needs
@@ -56,11 +66,14 @@ sub-t21 c = search needs
 
 returns : tie.Need-returns Inv-loop μ-loop
 returns c =
-    let t = c .before .before .before .before in
+    let f = c .before .before .before in
+    let t = f .before .before .before in
     let k = t .before .before in
-    let s = k .before .before .before .before in
+    let s = start k in
+    let words = k .before .before .before .words-of .ensures in
     seek-found (s .args .work .now) (s .pre) _ _ _ (k .loop .head) (t .wide .result) (k .loop .inv) (t .before .loop-test .taken) (t .wide .ensures)
-    (c .before .before .if1 .taken) (c .if2 .taken)
+    (f .if1 .taken) (c .if2 .taken)
+    ∙ (λ j. find-row (words .0 j) (words .1 j) (rows-of (s .args .work .now)))
 
 add-head-2 : tie.Need-add-head-2 Inv-loop μ-loop
 add-head-2 c = search needs
@@ -73,23 +86,26 @@ shared-slice-read-head-2 c = search needs
 
 loop-less : tie.Need-loop-less Inv-loop μ-loop
 loop-less c =
-    let t = c .before .before .before in
+    let t = c .before .before .before .before in
     let k = t .before .before in
-    let s = k .before .before .before .before in
+    let s = start k in
     seek-less (s .args .work .now) (s .pre) _ _ _ (k .loop .head) (t .wide .result) (k .loop .inv) (t .before .loop-test .taken) (t .wide .ensures)
 
 loop-again : tie.Need-loop-again Inv-loop μ-loop
 loop-again c =
-    let t = c .before .before .before in
+    let t = c .before .before .before .before in
     let k = t .before .before in
-    let s = k .before .before .before .before in
+    let s = start k in
     ⊎-elim
-    (λ x. skip-right (s .args .work .now) (s .pre) _ _ _ (k .loop .head) (t .wide .result) (k .loop .inv) (t .before .loop-test .taken) (t .wide .ensures) (x .0 .taken) (x .2 .left))
+    (λ x. skip-right (s .args .work .now) (s .pre) _ _ _ (k .loop .head) (t .wide .result) (k .loop .inv) (t .before .loop-test .taken) (t .wide .ensures) (x .0 .taken) (x .3 .left))
     (λ x. skip-left (s .args .work .now) (s .pre) _ _ _ (k .loop .head) (t .wide .result) (k .loop .inv) (t .before .loop-test .taken) (t .wide .ensures) (x .left))
     (c .before .if1 .came)
 
 returns-2 : tie.Need-returns-2 Inv-loop μ-loop
-returns-2 c = seek-none _ _ _ _ (c .before .loop .head) (c .before .loop .inv) (c .loop-test .left)
+returns-2 c =
+    let words = c .before .before .before .before .words-of .ensures in
+    seek-none _ _ _ _ (c .before .loop .head) (c .before .loop .inv) (c .loop-test .left)
+    ∙ (λ j. find-row (words .0 j) (words .1 j) (rows-of (start (c .before) .args .work .now)))
 
 pub find-key-spec : {M : Type 1} → statement M
 find-key-spec =
@@ -97,6 +113,7 @@ find-key-spec =
     (tie.spec
     Inv-loop
     μ-loop
+    words-of-requires
     slot-of-requires
     add-head
     mul-head

@@ -3,12 +3,13 @@
 use mathlib.Core.Path.{_∙_}
 use lib.ListN.{length-set}
 use borrow.Author.Needs.{needs}
+use Rattle.cache_parents.proofs.Parents.{count-asks}
 use Rattle.cache_parents.proofs.moved_parents.Move.{place-row}
 use Rattle.cache_parents.proofs.moved_parents.place_parents.Statement.{statement}
 use Rattle.cache_parents.proofs.moved_parents.place_parents.Tie as tie
 
 count-of-requires : tie.Need-count-of-requires
-count-of-requires c κs = search needs
+count-of-requires c κs = let s = c .before .before in count-asks (s .pre .0) (s .pre .1)
 
 add-over : tie.Need-add-over
 add-over c = search needs

@@ -1,12 +1,13 @@
 -- `take_parents` meets its contract: the row is copied to MOVED, and its count is 0.
 -- Assumes nothing.
 use borrow.Author.Needs.{needs}
+use Rattle.cache_parents.proofs.Parents.{count-asks}
 use Rattle.cache_parents.proofs.moved_parents.Move.{take-row}
 use Rattle.cache_parents.proofs.moved_parents.take_parents.Statement.{statement}
 use Rattle.cache_parents.proofs.moved_parents.take_parents.Tie as tie
 
 count-of-requires : tie.Need-count-of-requires
-count-of-requires c κs = search needs
+count-of-requires c κs = let s = c .before .before in count-asks (s .pre .0) (s .pre .1)
 
 wide-requires : tie.Need-wide-requires
 wide-requires c κs = search needs

@@ -11,6 +11,9 @@ sub-i c = search needs
 entry-at-requires : tie.Need-entry-at-requires
 entry-at-requires c κs = search needs
 
+cast-x : tie.Need-cast-x
+cast-x c = search needs
+
 add-work : tie.Need-add-work
 add-work c = search needs
 
@@ -34,8 +37,9 @@ same-length c = search needs
 
 returns : tie.Need-returns
 returns c =
-    let s = c .before .before .before .before in
-    popped (s .args .work .now) (s .args .depth) (c .before .entry-at .result) (s .pre .0) (s .pre .1) (s .pre .2) (c .before .entry-at .ensures .0)
+    let e = c .before .before in
+    let s = e .before .before .before in
+    popped (s .args .work .now) (s .args .depth) (e .entry-at .result .0) (s .pre .0) (s .pre .1) (s .pre .2) (e .entry-at .ensures .0)
 
 pub pop-spec : {M : Type 1} → statement M
 pop-spec =
@@ -43,6 +47,7 @@ pop-spec =
     (tie.spec
     sub-i
     entry-at-requires
+    cast-x
     add-work
     mul-work
     slice-read-work

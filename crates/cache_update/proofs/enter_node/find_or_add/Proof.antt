@@ -29,7 +29,7 @@ returns : tie.Need-returns
 returns c =
     let f = c .before .before .before in
     let s = f .before .before .before in
-    found-interned (s .args .work .now) (s .args .left) (s .args .right) (s .args .len) (c .before .e .given .0 .0 .0) (s .pre .0)
+    found-interned (s .args .work .now) _ _ (s .args .len) (c .before .e .given .0 .0 .0) (s .pre .0)
     (sym (ap option-of (c .before .e .given .1)) ∙ f .find-key .ensures)
 
 same-length-2 : tie.Need-same-length-2
@@ -39,7 +39,7 @@ returns-2 : tie.Need-returns-2
 returns-2 c =
     let f = c .before .before .before .before .before .before in
     let s = f .before .before .before in
-    new-interned (s .args .work .now) _ (s .args .left) (s .args .right) (s .args .len) _
+    new-interned (s .args .work .now) _ _ _ (s .args .len) _
     (sym (ap option-of (c .before .before .before .before .enum-told .given .1)) ∙ f .find-key .ensures) (c .before .before .insert .ensures)
 
 pub find-or-add-spec : {M : Type 1} → statement M

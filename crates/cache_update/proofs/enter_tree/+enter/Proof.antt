@@ -1,7 +1,7 @@
 -- `cache_update::enter_tree::enter` meets its contract. The measure: one more than the number of the pair, or 0 for an atom.
 -- Assumes nothing.
-use Prim.Native.Nat.{ℕ, _<_}
-use mathlib.Core.Path.{_≡_, sym, _∙_}
+use Prim.Native.Nat.{ℕ, _+_, _<_}
+use mathlib.Core.Path.{_≡_, sym, ap, _∙_}
 use mathlib.Core.List.{List}
 use native.Mathlib.Omega.{arith}
 use borrow.Author.Needs.{needs}
@@ -9,12 +9,14 @@ use borrow.Fn.Kinds.{In}
 use borrow.Fn.PlainCycle.{Measures, is, falls, and}
 use Rattle.words.specs.Words.{at}
 use Rattle.allocator.specs.Handle.{node-of, pair}
-use Rattle.work_layout.specs.Layout.{PAIR-COUNT, SENTINEL, USED, ENTRIES}
+use Rattle.work_layout.specs.Layout.{PAIR-COUNT, SENTINEL, MAPS, USED, ENTRIES}
 use Rattle.allocator.proofs.NodePtr.index.Reads as index-reads
 use Rattle.allocator.proofs.NodePtr.is_atom.Reads as is-atom-reads
 use Rattle.cache_entries.specs.Contracts.{span}
+use Rattle.cache_entries.specs.table.Contracts.{option-of}
+use Rattle.cache_entries.proofs.table.Rows.{word-none}
 use Rattle.cache_entries.proofs.Entering.{NewPair, pair-low, sentinel-entered, atom-entered, span-a, span-b, span-h, left-asks, right-asks, join-asks, pair-entered}
-use Rattle.cache_entries.proofs.Entering.{test-same, test-other, test-pair, known-at, room-one}
+use Rattle.cache_entries.proofs.Entering.{test-same, test-other, test-pair, known-entered, room-one}
 use Rattle.cache_update.proofs.enter_tree.enter.Reads as enter
 use Rattle.cache_update.proofs.enter_tree.enter.Kinds as enter-kinds
 use Rattle.cache_update.proofs.enter_tree.+enter.Lts-enter as enter-lts
@@ -106,12 +108,22 @@ module _ (t : ℕ) where
       let l = pair-low (words s) (at (words s) PAIR-COUNT) (handle s) (x .wide .result) (s .pre .1 .1) (is-pair x) in
       omega (arith, l, s .pre .1 .0 .handles .few-pairs)
 
+  -- After the pair is found to have no entry yet.
+  abbrev New : Type 0
+  New = enter-lts.After-enum-told (claims t) (enter-at t) enter.Post
+
+  abbrev numbered : New → Numbered
+  numbered x = x .before .before .before .before
+
+  empty : (x : New) → at (words (begin (other (numbered x)))) (MAPS + numbered x .wide .result) ≡ 0
+  empty x = word-none _ (sym (ap option-of (x .enum-told .given .1)) ∙ x .before .before .map-of .ensures)
+
   -- After the handles of both sides are read.
   abbrev Sides : Type 0
   Sides = enter-lts.After-right-of (claims t) (enter-at t) enter.Post
 
   abbrev number : Sides → Numbered
-  number x = x .before .before .before .before .before .before .before
+  number x = numbered (x .before .before .before .before)
 
   abbrev start : Sides → Start
   start x = begin (other (number x))
@@ -124,7 +136,7 @@ module _ (t : ℕ) where
         names = p .1;
         other = not-sentinel (other (number x));
         is-pair = is-pair (number x);
-        empty = sym (x .before .before .before .before .before .map-of .ensures) ∙ x .before .before .before .before .if3 .left;
+        empty = empty (x .before .before .before .before);
         room = p .2;
         left = x .before .before .left-of .ensures;
         right = x .right-of .ensures;
@@ -170,23 +182,28 @@ module _ (t : ℕ) where
   map-of-requires : enter-lts.Need-map-of-requires (claims t) (enter-at t) enter.Post
   map-of-requires c κs = let x = c .before in (begin (other x) .pre .1 .0 .sound .long, low x)
 
-  sub-t21 : enter-lts.Need-sub-t21 (claims t) (enter-at t) enter.Post
-  sub-t21 c = search needs
+  enum-known-e : enter-lts.Need-enum-known-e (claims t) (enter-at t) enter.Post
+  enum-known-e c = search needs
 
   same-length-3 : enter-lts.Need-same-length-3 (claims t) (enter-at t) enter.Post
   same-length-3 c = search needs
 
   returns-3 : enter-lts.Need-returns-3 (claims t) (enter-at t) enter.Post
   returns-3 c =
-      let x = c .before .before .before in
+      let m = c .before .before .before in
+      let x = m .before .before in
       let s = begin (other x) in
-      known-at (s .pre .1 .0) (s .pre .1 .1) (not-sentinel (other x)) (is-pair x) (c .before .map-of .ensures) (c .if3 .taken)
+      known-entered (words s) (handle s) (x .wide .result) (s .pre .1 .0) (s .pre .1 .1) (not-sentinel (other x)) (is-pair x)
+      (sym (ap option-of (c .before .e .given .1)) ∙ m .map-of .ensures)
+
+  enum-told : enter-lts.Need-enum-told (claims t) (enter-at t) enter.Post
+  enum-told c = search needs
 
   left-of-requires : enter-lts.Need-left-of-requires (claims t) (enter-at t) enter.Post
-  left-of-requires c κs = let x = c .before .before .before .before in (begin (other x) .pre .1 .0 .sound .long, low x)
+  left-of-requires c κs = let x = numbered (c .before) in (begin (other x) .pre .1 .0 .sound .long, low x)
 
   right-of-requires : enter-lts.Need-right-of-requires (claims t) (enter-at t) enter.Post
-  right-of-requires c κs = let x = c .before .before .before .before .before .before in (begin (other x) .pre .1 .0 .sound .long, low x)
+  right-of-requires c κs = let x = numbered (c .before .before .before) in (begin (other x) .pre .1 .0 .sound .long, low x)
 
   enter-requires : enter-lts.Need-enter-requires (claims t) (enter-at t) enter.Post
   enter-requires c κs =
@@ -231,9 +248,10 @@ pub +enter-spec : {M : Type 1} → statement M
     (index-requires t)
     (wide-requires t)
     (map-of-requires t)
-    (sub-t21 t)
+    (enum-known-e t)
     (same-length-3 t)
     (returns-3 t)
+    (enum-told t)
     (left-of-requires t)
     (right-of-requires t)
     (enter-requires t)

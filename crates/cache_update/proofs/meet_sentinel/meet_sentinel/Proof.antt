@@ -6,8 +6,8 @@ use Rattle.cache_entries.proofs.Keys.{no-sentinel}
 use Rattle.cache_update.proofs.meet_sentinel.meet_sentinel.Statement.{statement}
 use Rattle.cache_update.proofs.meet_sentinel.meet_sentinel.Tie as tie
 
-slice-read-used : tie.Need-slice-read-used
-slice-read-used c = search needs
+slice-read-work : tie.Need-slice-read-work
+slice-read-work c = search needs
 
 insert-requires : tie.Need-insert-requires
 insert-requires c κs =
@@ -32,4 +32,4 @@ returns c =
 pub meet-sentinel-spec : {M : Type 1} → statement M
 meet-sentinel-spec =
     tie.close
-    (tie.spec slice-read-used insert-requires add-work slice-write-work same-length returns)
+    (tie.spec slice-read-work insert-requires add-work slice-write-work same-length returns)

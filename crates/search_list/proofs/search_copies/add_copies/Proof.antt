@@ -8,22 +8,22 @@ use Rattle.search_list.proofs.search_copies.add_copies.Statement.{state
 use Rattle.search_list.proofs.search_copies.add_copies.Tie as tie
 
 abbrev Inv-loop : tie.InvT-loop
-Inv-loop work₀ e first s all paths₀ i₀ work paths i = Copying work₀ work e (s .nodes) first (s .paths) paths i
+Inv-loop work₀ e first s all paths₀ i₀ work paths i = Copying work₀ work (e .0) (s .nodes) first (s .paths) paths i
 
 abbrev μ-loop : tie.MeasureT-loop
 μ-loop work₀ e first s all paths₀ i₀ work paths i = all - i
 
 -- The parent of this turn is one of the entry's.
-next : (x : tie.In-loop Inv-loop μ-loop) → x .before .loop .i < count-at (x .before .before .before .before .before .args .work .now) (x .before .before .before .before .before .args .e)
-next x = omega (arith, x .loop-test .taken, x .before .before .count-of .ensures)
+next : (x : tie.In-loop Inv-loop μ-loop) → x .before .loop .i < count-at (x .before .before .before .before .before .args .work .now) (x .before .before .before .before .before .args .e .0)
+next x = omega (arith, x .loop-test .taken, x .before .before .count-of .ensures .0)
 
 count-of-requires : tie.Need-count-of-requires Inv-loop μ-loop
-count-of-requires c κs = (c .before .before .pre .0 .0 .long, c .before .before .pre .1 .0)
+count-of-requires c κs = let s = c .before .before in (s .pre .0 .0 .long, s .pre .1 .0, s .pre .0 .0 .counts (s .args .e .0) (s .pre .1 .0))
 
 loop-holds : tie.Need-loop-holds Inv-loop μ-loop
 loop-holds c =
     let s = c .before .before .before in
-    copying-start (s .args .work .now) (s .args .e) (s .args .s .nodes) (s .args .first) (s .args .s .paths) (s .pre .1 .1) (s .pre .0 .2)
+    copying-start (s .args .work .now) (s .args .e .0) (s .args .s .nodes) (s .args .first) (s .args .s .paths) (s .pre .1 .1) (s .pre .0 .2)
 
 add-copy-requires : tie.Need-add-copy-requires Inv-loop μ-loop
 add-copy-requires c κs =
@@ -33,7 +33,7 @@ add-copy-requires c κs =
 add-i : tie.Need-add-i Inv-loop μ-loop
 add-i c =
     let s = c .before .before .before .before .before .before .before .before .before in
-    omega (arith, next (c .before .before .before .before), s .pre .0 .0 .counts (s .args .e) (s .pre .1 .0))
+    omega (arith, next (c .before .before .before .before), s .pre .0 .0 .counts (s .args .e .0) (s .pre .1 .0))
 
 loop-less : tie.Need-loop-less Inv-loop μ-loop
 loop-less c = omega arith
@@ -50,7 +50,7 @@ same-length c = c .before .loop .inv .len
 returns : tie.Need-returns Inv-loop μ-loop
 returns c =
     let s = c .before .before .before .before .before in
-    copying-end (s .pre .0 .0) (s .pre .1 .0) (c .before .loop .inv) (omega (arith, c .loop-test .left, c .before .before .count-of .ensures))
+    copying-end (s .pre .0 .0) (s .pre .1 .0) (c .before .loop .inv) (omega (arith, c .loop-test .left, c .before .before .count-of .ensures .0))
 
 pub add-copies-spec : {M : Type 1} → statement M
 add-copies-spec =

@@ -2,7 +2,7 @@
 -- Assumes nothing.
 use Rattle.search_list.proofs.Copies.{copy-seen, copy-new}
 use Rattle.search_list.specs.State.{seen-at}
-use Prim.Native.Nat.{ℕ, _/_, _<_}
+use Prim.Native.Nat.{_/_, _<_}
 use Rattle.work_layout.specs.Layout.{ENTRIES}
 use mathlib.Core.Path.{_≡_, ap, sym, _∙_}
 use native.Mathlib.Omega.{arith}
@@ -11,25 +11,25 @@ use Rattle.search_list.proofs.search_copies.add_copy.Statement.{stateme
 use Rattle.search_list.proofs.search_copies.add_copy.Tie as tie
 
 -- The parent is an entry.
-low : (x : tie.After-parent-at) → x .parent-at .result / 2 < ENTRIES
+low : (x : tie.After-parent-at) → x .parent-at .result .0 / 2 < ENTRIES
 low x =
     let s = x .before .before .before in
-    omega (arith, x .parent-at .ensures, s .pre .0 .0 .links (s .args .e) (s .args .i) (s .pre .1 .0) (s .pre .1 .1))
+    omega (arith, x .parent-at .ensures, s .pre .0 .0 .links (s .args .e .0) (s .args .i) (s .pre .1 .0) (s .pre .1 .1))
 
 -- Whether it is seen.
-seen : (x : tie.After-is-seen) → x .is-seen .result ≡ seen-at (x .before .before .before .before .before .before .args .work .now) (x .before .before .before .parent-at .result / 2)
-seen x = x .is-seen .ensures ∙ ap (λ (k : ℕ). seen-at (x .before .before .before .before .before .before .args .work .now) (k / 2)) (x .before .wide .ensures)
+seen : (x : tie.After-is-seen) → x .is-seen .result ≡ seen-at (x .before .before .before .before .before .before .args .work .now) (x .before .before .before .parent-at .result .0 / 2)
+seen x = x .is-seen .ensures ∙ ap (seen-at (x .before .before .before .before .before .before .args .work .now)) (x .before .entry .ensures)
 
 parent-at-requires : tie.Need-parent-at-requires
 parent-at-requires c κs =
     let s = c .before .before in
-    (s .pre .0 .0 .long, s .pre .1 .0, omega (arith, s .pre .0 .0 .counts (s .args .e) (s .pre .1 .0)))
+    (s .pre .0 .0 .long, s .pre .1 .0, omega (arith, s .pre .0 .0 .counts (s .args .e .0) (s .pre .1 .0)))
 
-wide-requires : tie.Need-wide-requires
-wide-requires c κs = search needs
+entry-requires : tie.Need-entry-requires
+entry-requires c κs = search needs
 
 is-seen-requires : tie.Need-is-seen-requires
-is-seen-requires c κs = (c .before .before .before .before .before .pre .0 .0 .long, omega (arith, c .wide .ensures, low (c .before .before)))
+is-seen-requires c κs = (c .before .before .before .before .before .pre .0 .0 .long, omega (arith, c .entry .ensures, low (c .before .before)))
 
 same-length : tie.Need-same-length
 same-length c = search needs
@@ -38,14 +38,14 @@ returns : tie.Need-returns
 returns c =
     let v = c .before .before .before .before in
     let s = v .before .before .before in
-    copy-seen (s .args .work .now) (s .args .nodes) (s .args .paths) (s .pre .0 .1) (s .pre .0 .2) (v .parent-at .result) _ (v .parent-at .ensures) (low v)
+    copy-seen (s .args .work .now) (s .args .nodes) (s .args .paths) (s .pre .0 .1) (s .pre .0 .2) (v .parent-at .result .0) _ (v .parent-at .ensures) (low v)
     (sym (c .if1 .taken) ∙ seen (c .before))
 
-cast-put-path : tie.Need-cast-put-path
-cast-put-path c = search needs
+cast-put-at-entry : tie.Need-cast-put-at-entry
+cast-put-at-entry c = search needs
 
-put-path-requires : tie.Need-put-path-requires
-put-path-requires c κs = search needs
+put-at-entry-requires : tie.Need-put-at-entry-requires
+put-at-entry-requires c κs = search needs
 
 add-result : tie.Need-add-result
 add-result c = search needs
@@ -55,10 +55,10 @@ same-length-2 c = search needs
 
 returns-2 : tie.Need-returns-2
 returns-2 c =
-    let p = c .before .before .put-path in
+    let p = c .before .before .put-at-entry in
     let v = c .before .before .before .before .before .before .before .before in
     let s = v .before .before .before in
-    copy-new (s .args .work .now) (s .args .nodes) (s .args .paths) (s .pre .0 .1) (s .pre .0 .2) (p .last .0) (v .parent-at .result) _
+    copy-new (s .args .work .now) (s .args .nodes) (s .args .paths) (s .pre .0 .1) (s .pre .0 .2) (p .last .0) (v .parent-at .result .0) _
     (v .parent-at .ensures) (low v) (s .pre .1 .2) (sym (c .before .before .before .before .if1 .left) ∙ seen (c .before .before .before .before .before)) (p .ensures)
 
 pub add-copy-spec : {M : Type 1} → statement M
@@ -66,12 +66,12 @@ add-copy-spec =
     tie.close
     (tie.spec
     parent-at-requires
-    wide-requires
+    entry-requires
     is-seen-requires
     same-length
     returns
-    cast-put-path
-    put-path-requires
+    cast-put-at-entry
+    put-at-entry-requires
     add-result
     same-length-2
     returns-2)

@@ -23,8 +23,8 @@ short x =
 node-of-requires : tie.Need-node-of-requires
 node-of-requires c κs = search needs
 
-place-of-requires : tie.Need-place-of-requires
-place-of-requires c κs = search needs
+parent-of-requires : tie.Need-parent-of-requires
+parent-of-requires c κs = search needs
 
 wide-requires : tie.Need-wide-requires
 wide-requires c κs = search needs
@@ -68,13 +68,13 @@ mul-work-3 c = search needs
 slice-write-work-3 : tie.Need-slice-write-work-3
 slice-write-work-3 c = simp length-set (omega arith)
 
-wide-requires-2 : tie.Need-wide-requires-2
-wide-requires-2 c κs = search needs
+entry-requires : tie.Need-entry-requires
+entry-requires c κs = search needs
 
 mark-seen-requires : tie.Need-mark-seen-requires
 mark-seen-requires c κs =
     let s = c .before .before .before .before .before .before .before .before .before .before in
-    (simp length-set (s .pre .0 .0), omega (arith, s .pre .1 .1, c .wide2 .ensures, c .before .before .before .before .before .place-of .ensures))
+    (simp length-set (s .pre .0 .0), omega (arith, s .pre .1 .1, c .entry .ensures, c .before .before .before .before .before .parent-of .ensures))
 
 same-length : tie.Need-same-length
 same-length c =
@@ -83,21 +83,21 @@ same-length c =
 returns : tie.Need-returns
 returns c =
     let l = c .before .before .before .before .before in
-    let p = l .before .before .before .place-of in
+    let p = l .before .before .before .parent-of in
     let n = l .before .before .before .before .before .node-of in
     let s = l .before .before .before .before .before .before .before .before in
     let k = c .before .before .mark-seen in
-    node-added (s .args .work .now) (k .last .0) (s .args .slot) (s .args .nodes) (n .result) (p .result) (l .len-of .result)
+    node-added (s .args .work .now) (k .last .0) (s .args .slot) (s .args .nodes) (n .result) (p .result .0) (l .len-of .result)
     (s .pre .0 .0) (s .pre .0 .1) (s .pre .0 .2) (s .pre .1 .0) (s .pre .1 .1) (n .ensures) (p .ensures)
     (l .len-of .ensures ∙ ap (λ (k : ℕ). at (s .args .work .now) (LENS + k)) (l .before .wide .ensures))
-    (rw (c .before .before .before .wide2 .ensures) at (k .ensures))
+    (rw (c .before .before .before .entry .ensures) at (k .ensures))
 
 pub add-node-spec : {M : Type 1} → statement M
 add-node-spec =
     tie.close
     (tie.spec
     node-of-requires
-    place-of-requires
+    parent-of-requires
     wide-requires
     len-of-requires
     add-k
@@ -112,7 +112,7 @@ add-node-spec =
     add-work-4
     mul-work-3
     slice-write-work-3
-    wide-requires-2
+    entry-requires
     mark-seen-requires
     same-length
     returns)

@@ -15,23 +15,23 @@ same-length c = search needs
 returns : tie.Need-returns
 returns c =
     let s = c .before .before .before .before in
-    off-stack (s .args .work .now) (s .args .s .nodes) (s .args .s .paths) (s .pre .0 .2) (s .pre .0 .3) (s .args .s .depth) (s .args .e) (s .pre .0 .1) (s .pre .1 .0)
+    off-stack (s .args .work .now) (s .args .s .nodes) (s .args .s .paths) (s .pre .0 .2) (s .pre .0 .3) (s .args .s .depth) (s .args .e .0) (s .pre .0 .1) (s .pre .1 .0)
     (c .before .top-of .result) (c .before .top-of .ensures) (c .if1 .taken)
 
-cast-put-path : tie.Need-cast-put-path
-cast-put-path c = search needs
+cast-put-on-stack : tie.Need-cast-put-on-stack
+cast-put-on-stack c = search needs
 
-sub-put-path : tie.Need-sub-put-path
-sub-put-path c =
+sub-put-on-stack : tie.Need-sub-put-on-stack
+sub-put-on-stack c =
     let t = c .before .before .before .before in
     let s = t .before .before .before in
-    omega (arith, s .pre .0 .1 .tops (s .args .e) (s .pre .1 .0), t .top-of .ensures)
+    omega (arith, s .pre .0 .1 .tops (s .args .e .0) (s .pre .1 .0), t .top-of .ensures)
 
-cast-put-path-2 : tie.Need-cast-put-path-2
-cast-put-path-2 c = search needs
+cast-put-on-stack-2 : tie.Need-cast-put-on-stack-2
+cast-put-on-stack-2 c = search needs
 
-put-path-requires : tie.Need-put-path-requires
-put-path-requires c κs = search needs
+put-on-stack-requires : tie.Need-put-on-stack-requires
+put-on-stack-requires c κs = search needs
 
 add-result : tie.Need-add-result
 add-result c = search needs
@@ -41,10 +41,10 @@ same-length-2 c = search needs
 
 returns-2 : tie.Need-returns-2
 returns-2 c =
-    let p = c .before .before .before .put-path in
+    let p = c .before .before .before .put-on-stack in
     let t = c .before .before .before .before .before .before .before .before in
     let s = t .before .before .before in
-    on-stack (s .args .work .now) (s .args .s .nodes) (s .args .s .paths) (s .pre .0 .2) (s .pre .0 .3) (s .args .s .depth) (s .args .e) (s .pre .0 .1)
+    on-stack (s .args .work .now) (s .args .s .nodes) (s .args .s .paths) (s .pre .0 .2) (s .pre .0 .3) (s .args .s .depth) (s .args .e .0) (s .pre .0 .1)
     (s .pre .1 .0) (p .last .0) (t .top-of .result) (t .top-of .ensures) (c .before .before .before .before .before .before .before .if1 .left) (s .pre .1 .1) (p .ensures)
 
 pub add-stacked-spec : {M : Type 1} → statement M
@@ -54,10 +54,10 @@ add-stacked-spec =
     top-of-requires
     same-length
     returns
-    cast-put-path
-    sub-put-path
-    cast-put-path-2
-    put-path-requires
+    cast-put-on-stack
+    sub-put-on-stack
+    cast-put-on-stack-2
+    put-on-stack-requires
     add-result
     same-length-2
     returns-2)

@@ -13,49 +13,49 @@ use Rattle.search_list.proofs.search_moves.first_unseen.Statement.{stat
 use Rattle.search_list.proofs.search_moves.first_unseen.Tie as tie
 
 abbrev Inv-loop : tie.InvT-loop
-Inv-loop work e all i₀ i = Seeking work e i
+Inv-loop work e all i₀ i = Seeking work (e .0) i
 
 abbrev μ-loop : tie.MeasureT-loop
 μ-loop work e all i₀ i = all - i
 
 -- The parent of this turn is one of the entry's; and whether it is seen.
-next : (x : tie.In-loop Inv-loop μ-loop) → x .before .loop .i < count-at (x .before .before .before .before .args .work .now) (x .before .before .before .before .args .e)
-next x = omega (arith, x .loop-test .taken, x .before .before .count-of .ensures)
+next : (x : tie.In-loop Inv-loop μ-loop) → x .before .loop .i < count-at (x .before .before .before .before .args .work .now) (x .before .before .before .before .args .e .0)
+next x = omega (arith, x .loop-test .taken, x .before .before .count-of .ensures .0)
 
 abbrev start : tie.After-is-seen Inv-loop μ-loop → tie.Start Inv-loop μ-loop
 start x = x .before .before .before .before .before .before .before
 
 seen : (x : tie.After-is-seen Inv-loop μ-loop)
-    → seen-at (start x .args .work .now) (at (start x .args .work .now) (PARENTS + start x .args .e * MAX-PARENTS + x .before .before .before .before .loop .i) / 2) ≡ x .is-seen .result
+    → seen-at (start x .args .work .now) (at (start x .args .work .now) (PARENTS + start x .args .e .0 * MAX-PARENTS + x .before .before .before .before .loop .i) / 2) ≡ x .is-seen .result
 seen x =
-    ap (λ (z : ℕ). seen-at (start x .args .work .now) (z / 2)) (sym (x .before .wide .ensures ∙ x .before .before .parent-at .ensures))
+    ap (seen-at (start x .args .work .now)) (sym (x .before .entry .ensures ∙ ap (λ (z : ℕ). z / 2) (x .before .before .parent-at .ensures)))
     ∙ sym (x .is-seen .ensures)
 
 count-of-requires : tie.Need-count-of-requires Inv-loop μ-loop
-count-of-requires c κs = (c .before .pre .0 .long, c .before .pre .1)
+count-of-requires c κs = let s = c .before in (s .pre .0 .long, s .pre .1, s .pre .0 .counts (s .args .e .0) (s .pre .1))
 
 loop-holds : tie.Need-loop-holds Inv-loop μ-loop
-loop-holds c = let s = c .before .before in seeking-start (s .args .work .now) (s .args .e)
+loop-holds c = let s = c .before .before in seeking-start (s .args .work .now) (s .args .e .0)
 
 parent-at-requires : tie.Need-parent-at-requires Inv-loop μ-loop
 parent-at-requires c κs =
     let s = c .before .before .before .before in
-    (s .pre .0 .long, s .pre .1, omega (arith, s .pre .0 .counts (s .args .e) (s .pre .1), c .before .before .count-of .ensures))
+    (s .pre .0 .long, s .pre .1, omega (arith, s .pre .0 .counts (s .args .e .0) (s .pre .1), c .before .before .count-of .ensures .0))
 
-wide-requires : tie.Need-wide-requires Inv-loop μ-loop
-wide-requires c κs = search needs
+entry-requires : tie.Need-entry-requires Inv-loop μ-loop
+entry-requires c κs = search needs
 
 is-seen-requires : tie.Need-is-seen-requires Inv-loop μ-loop
 is-seen-requires c κs =
     let t = c .before .before in
     let s = t .before .before .before .before in
-    (s .pre .0 .long, omega (arith, c .wide .ensures, c .before .parent-at .ensures, s .pre .0 .links (s .args .e) (t .before .loop .i) (s .pre .1) (next t)))
+    (s .pre .0 .long, omega (arith, c .entry .ensures, c .before .parent-at .ensures, s .pre .0 .links (s .args .e .0) (t .before .loop .i) (s .pre .1) (next t)))
 
 returns : tie.Need-returns Inv-loop μ-loop
 returns c =
     let s = c .before .before .before .before .before .before .before .before in
     let k = c .before .before .before .before .before .loop in
-    seeking-found (s .args .work .now) (s .args .e) (k .i) (k .inv)
+    seeking-found (s .args .work .now) (s .args .e .0) (k .i) (k .inv)
     (seen (c .before) ∙ not-true _ (c .if1 .taken))
 
 add-i : tie.Need-add-i Inv-loop μ-loop
@@ -68,14 +68,14 @@ loop-again : tie.Need-loop-again Inv-loop μ-loop
 loop-again c =
     let s = c .before .before .before .before .before .before .before .before in
     let k = c .before .before .before .before .before .loop in
-    seeking-more (s .args .work .now) (s .args .e) (k .i) (k .inv)
+    seeking-more (s .args .work .now) (s .args .e .0) (k .i) (k .inv)
     (next (c .before .before .before .before)) (seen (c .before) ∙ not-false _ (c .if1 .left))
 
 returns-2 : tie.Need-returns-2 Inv-loop μ-loop
 returns-2 c =
     let s = c .before .before .before .before in
-    seeking-none (s .args .work .now) (s .args .e) (c .before .loop .i) (c .before .loop .inv)
-    (omega (arith, c .loop-test .left, c .before .before .count-of .ensures))
+    seeking-none (s .args .work .now) (s .args .e .0) (c .before .loop .i) (c .before .loop .inv)
+    (omega (arith, c .loop-test .left, c .before .before .count-of .ensures .0))
 
 pub first-unseen-spec : {M : Type 1} → statement M
 first-unseen-spec =
@@ -86,7 +86,7 @@ first-unseen-spec =
     count-of-requires
     loop-holds
     parent-at-requires
-    wide-requires
+    entry-requires
     is-seen-requires
     returns
     add-i

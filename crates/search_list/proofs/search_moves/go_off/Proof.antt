@@ -13,7 +13,7 @@ start x = x .before .before .before
 
 -- What is known there.
 off : (x : tie.After-add-stacked)
-    → Off (start x .args .work .now) (x .add-stacked .last .0) (start x .args .slot) (start x .args .s .paths) (start x .args .s .nodes) (start x .args .e)
+    → Off (start x .args .work .now) (x .add-stacked .last .0) (start x .args .slot) (start x .args .s .paths) (start x .args .s .nodes) (start x .args .e .0)
     (start x .args .s .depth) (x .add-stacked .result)
 off x =
     let p = start x .pre in

@@ -8,13 +8,13 @@ use Rattle.search_list.proofs.search_moves.go_up.Statement.{statement}
 use Rattle.search_list.proofs.search_moves.go_up.Tie as tie
 
 -- The call, from where the path is stored.
-abbrev start : tie.After-put-path → tie.Start
+abbrev start : tie.After-put-at-entry → tie.Start
 start x = x .before .before .before .before .before .before
 
 -- What is known there.
-up : (x : tie.After-put-path)
-    → Up (start x .args .work .now) (x .put-path .last .0) (start x .args .slot) (start x .args .s .paths) (start x .args .s .nodes) (start x .args .e)
-    (start x .args .k) (start x .args .s .depth) (x .before .before .before .parent-at .result)
+up : (x : tie.After-put-at-entry)
+    → Up (start x .args .work .now) (x .put-at-entry .last .0) (start x .args .slot) (start x .args .s .paths) (start x .args .s .nodes) (start x .args .e .0)
+    (start x .args .k) (start x .args .s .depth) (x .before .before .before .parent-at .result .0)
 up x =
     let p = start x .pre in
     record {
@@ -27,23 +27,23 @@ up x =
       parent = p .1 .2;
       room = p .1 .3;
       word = x .before .before .before .parent-at .ensures;
-      stored = x .put-path .ensures;
-      len = x .put-path .kept .0;
+      stored = x .put-at-entry .ensures;
+      len = x .put-at-entry .kept .0;
     }
 
 parent-at-requires : tie.Need-parent-at-requires
 parent-at-requires c κs =
     let s = c .before .before in
-    (s .pre .0 .0 .long, s .pre .1 .1, omega (arith, s .pre .0 .0 .counts (s .args .e) (s .pre .1 .1)))
+    (s .pre .0 .0 .long, s .pre .1 .1, omega (arith, s .pre .0 .0 .counts (s .args .e .0) (s .pre .1 .1)))
 
-cast-put-path : tie.Need-cast-put-path
-cast-put-path c = search needs
+cast-put-at-entry : tie.Need-cast-put-at-entry
+cast-put-at-entry c = search needs
 
-put-path-requires : tie.Need-put-path-requires
-put-path-requires c κs = search needs
+put-at-entry-requires : tie.Need-put-at-entry-requires
+put-at-entry-requires c κs = search needs
 
 add-add-copies : tie.Need-add-add-copies
-add-add-copies c = let s = c .before .before .before .before .before .before .before .before .before in omega (arith, s .pre .0 .0 .counts (s .args .e) (s .pre .1 .1))
+add-add-copies c = let s = c .before .before .before .before .before .before .before .before .before in omega (arith, s .pre .0 .0 .counts (s .args .e .0) (s .pre .1 .1))
 
 add-copies-requires : tie.Need-add-copies-requires
 add-copies-requires c κs = up-asks (up (c .before .before .before))
@@ -56,7 +56,7 @@ add-stacked-requires c κs =
 same-length : tie.Need-same-length
 same-length c =
     let y = c .before .before .before .before .before .before in
-    c .before .before .add-stacked .kept .0 ∙ y .add-copies .kept .0 ∙ y .before .before .before .before .put-path .kept .0
+    c .before .before .add-stacked .kept .0 ∙ y .add-copies .kept .0 ∙ y .before .before .before .before .put-at-entry .kept .0
 
 returns : tie.Need-returns
 returns c =
@@ -68,8 +68,8 @@ go-up-spec =
     tie.close
     (tie.spec
     parent-at-requires
-    cast-put-path
-    put-path-requires
+    cast-put-at-entry
+    put-at-entry-requires
     add-add-copies
     add-copies-requires
     add-stacked-requires

@@ -16,14 +16,14 @@ here s = record { ok = s .pre .0; slot = s .pre .1 }
 low : (s : tie.Start) → s .args .slot < MOST-PATHS
 low s = omega (arith, few (s .pre .0), s .pre .1)
 
-place-of-requires : tie.Need-place-of-requires
-place-of-requires c κs = let s = c .before .before in (s .pre .0 .links .long, low s)
+distance-of-requires : tie.Need-distance-of-requires
+distance-of-requires c κs = let s = c .before .before in (s .pre .0 .links .long, low s)
 
 same-length : tie.Need-same-length
 same-length c = search needs
 
 returns : tie.Need-returns
-returns c = let s = c .before .before .before .before in stack-result (here s) (s .pre .2) (sym (c .before .place-of .ensures) ∙ c .if1 .taken)
+returns c = let s = c .before .before .before .before in stack-result (here s) (s .pre .2) (sym (c .before .distance-of .ensures) ∙ c .if1 .taken)
 
 node-of-requires : tie.Need-node-of-requires
 node-of-requires c κs = let s = c .before .before .before .before .before in (s .pre .0 .links .long, low s)
@@ -31,16 +31,16 @@ node-of-requires c κs = let s = c .before .before .before .before .before in (s
 extra-of-requires : tie.Need-extra-of-requires
 extra-of-requires c κs = let s = c .before .before .before .before .before .before .before in (s .pre .0 .links .long, low s)
 
-sub-put-path : tie.Need-sub-put-path
-sub-put-path c = search needs
+sub-put-on-stack : tie.Need-sub-put-on-stack
+sub-put-on-stack c = search needs
 
-add-put-path : tie.Need-add-put-path
-add-put-path c =
+add-put-on-stack : tie.Need-add-put-on-stack
+add-put-on-stack c =
     let s = c .before .before .before .before .before .before .before .before .before in
     omega (arith, c .before .extra-of .ensures, s .pre .0 .paths (s .args .slot) (s .pre .1) .stack (s .pre .2))
 
-put-path-requires : tie.Need-put-path-requires
-put-path-requires c κs = let s = c .before .before .before .before .before .before .before .before .before in (s .pre .0 .links .long, low s)
+put-on-stack-requires : tie.Need-put-on-stack-requires
+put-on-stack-requires c κs = let s = c .before .before .before .before .before .before .before .before .before in (s .pre .0 .links .long, low s)
 
 add-t19 : tie.Need-add-t19
 add-t19 c = search needs
@@ -50,25 +50,25 @@ same-length-2 c = search needs
 
 returns-2 : tie.Need-returns-2
 returns-2 c =
-    let p = c .before .before .put-path in
+    let p = c .before .before .put-on-stack in
     let x = c .before .before .before .before in
     let v = x .before .before .before .before .before in
     let s = v .before .before .before in
-    stack-nearer (here s) (s .pre .2) (λ z. x .before .before .before .before .if1 .left (v .place-of .ensures ∙ z)) (p .kept .0)
-    (rw (x .before .before .node-of .ensures, v .place-of .ensures, x .extra-of .ensures) at (p .ensures))
+    stack-nearer (here s) (s .pre .2) (λ z. x .before .before .before .before .if1 .left (v .distance-of .ensures ∙ z)) (p .kept .0)
+    (rw (x .before .before .node-of .ensures, v .distance-of .ensures, x .extra-of .ensures) at (p .ensures))
 
 pub step-stack-spec : {M : Type 1} → statement M
 step-stack-spec =
     tie.close
     (tie.spec
-    place-of-requires
+    distance-of-requires
     same-length
     returns
     node-of-requires
     extra-of-requires
-    sub-put-path
-    add-put-path
-    put-path-requires
+    sub-put-on-stack
+    add-put-on-stack
+    put-on-stack-requires
     add-t19
     same-length-2
     returns-2)

@@ -1,8 +1,8 @@
 -- `search_passes::search_visit::step_entry` meets its contract: a path at a seen entry is dropped, visit 1,025 ends the search, any other is a visit.
 -- Assumes nothing.
 use native.Mathlib.Omega.{arith}
-use mathlib.Core.Path.{_≡_, ap, sym, subst, _∙_}
-use Prim.Native.Nat.{ℕ, _/_, _+_, _-_}
+use mathlib.Core.Path.{_≡_, sym, subst, _∙_}
+use Prim.Native.Nat.{ℕ, _+_, _-_}
 use Rattle.search_list.specs.Steps.{PathsOK}
 use Rattle.search_list.proofs.TurnLaws.{few, At-entry, entry-low, entry-seen, entry-capped}
 use borrow.Author.Needs.{needs}
@@ -10,25 +10,22 @@ use Rattle.search_passes.proofs.search_visit.step_entry.Statement.{stat
 use Rattle.search_passes.proofs.search_visit.step_entry.Tie as tie
 
 -- The call, from where the entry is read; and that the path is there.
-abbrev start : tie.After-wide → tie.Start
-start x = x .before .before .before .before
+abbrev start : tie.After-entry-of → tie.Start
+start x = x .before .before .before
 
-there : (x : tie.After-wide)
+there : (x : tie.After-entry-of)
     → At-entry (start x .args .work .now) (start x .args .s .depth) (start x .args .slot) (start x .args .s .paths) (start x .args .s .nodes)
-    (x .wide .result / 2)
+    (x .entry-of .result .0)
 there x =
     let p = start x .pre in
     record {
       here = record { ok = p .0; slot = p .1 };
       none = p .2;
-      is = ap (λ (k : ℕ). k / 2) (x .wide .ensures ∙ x .before .place-of .ensures);
+      is = x .entry-of .ensures;
     }
 
-place-of-requires : tie.Need-place-of-requires
-place-of-requires c κs = search needs
-
-wide-requires : tie.Need-wide-requires
-wide-requires c κs = search needs
+entry-of-requires : tie.Need-entry-of-requires
+entry-of-requires c κs = search needs
 
 is-seen-requires : tie.Need-is-seen-requires
 is-seen-requires c κs = (start c .pre .0 .links .long, entry-low (there c))
@@ -80,8 +77,7 @@ pub step-entry-spec : {M : Type 1} → statement M
 step-entry-spec =
     tie.close
     (tie.spec
-    place-of-requires
-    wide-requires
+    entry-of-requires
     is-seen-requires
     sub-next
     drop-path-requires

@@ -1,8 +1,8 @@
 -- `search_passes::search_visit::visit` meets its contract: the path goes to the first unseen parent, or is dropped where there is none.
 -- Assumes nothing.
 use native.Mathlib.Omega.{arith}
-use mathlib.Core.Path.{ap, _∙_}
-use Prim.Native.Nat.{ℕ, _/_}
+use mathlib.Core.Path.{sym, ap, _∙_}
+use Rattle.search_list.specs.State.{seen-at}
 use Rattle.search_list.proofs.TurnLaws.{Here, few, Visiting, visit-low, visit-links, visit-asks, visit-asks-2, visit-up, visit-off}
 use borrow.Author.Needs.{needs}
 use Rattle.search_passes.proofs.search_visit.visit.Statement.{statement}
@@ -14,31 +14,28 @@ here s = record { ok = s .pre .0; slot = s .pre .1 }
 
 -- The call, from where the node is made; and what is known there.
 abbrev start : tie.After-add-node → tie.Start
-start x = x .before .before .before .before .before .before
+start x = x .before .before .before .before .before
 
 visiting : (x : tie.After-add-node)
     → Visiting (start x .args .work .now) (x .add-node .last .0) (start x .args .s .depth) (start x .args .slot) (start x .args .s .paths)
-    (start x .args .s .nodes) (x .before .before .wide .result / 2)
+    (start x .args .s .nodes) (x .before .before .entry-of .result .0)
 visiting x =
     let p = start x .pre in
-    let e = ap (λ (k : ℕ). k / 2) (x .before .before .wide .ensures ∙ x .before .before .before .place-of .ensures) in
+    let e = x .before .before .entry-of .ensures in
     record {
       from = record { here = here (start x); none = p .2; is = e };
-      new = rw e (p .3);
+      new = p .3 ∙ ap (seen-at (start x .args .work .now)) (sym e);
       more = p .4;
       made = x .add-node .ensures;
       len = x .add-node .kept .0;
     }
 
-place-of-requires : tie.Need-place-of-requires
-place-of-requires c κs = search needs
-
-wide-requires : tie.Need-wide-requires
-wide-requires c κs = search needs
+entry-of-requires : tie.Need-entry-of-requires
+entry-of-requires c κs = search needs
 
 add-node-requires : tie.Need-add-node-requires
 add-node-requires c κs =
-    let s = c .before .before .before .before .before in
+    let s = c .before .before .before .before in
     let p = s .pre .0 .paths (s .args .slot) (s .pre .1) in
     ((s .pre .0 .links .long, s .pre .0 .nodes, s .pre .4, omega (arith, few (s .pre .0), s .pre .1)), (p .node, p .entry (s .pre .2)))
 
@@ -49,13 +46,13 @@ first-unseen-requires : tie.Need-first-unseen-requires
 first-unseen-requires c κs = let u = visiting (c .before .before .before .before) in (visit-links u, visit-low u)
 
 count-of-requires : tie.Need-count-of-requires
-count-of-requires c κs = let u = visiting (c .before .before .before .before .before .before) in (visit-links u .long, visit-low u)
+count-of-requires c κs = let u = visiting (c .before .before .before .before .before .before) in (visit-links u .long, visit-low u, visit-links u .counts _ (visit-low u))
 
 go-up-requires : tie.Need-go-up-requires
-go-up-requires c κs = visit-asks (visiting (c .before .before .before .before .before .before .before .before .before)) (rw (c .before .before .count-of .ensures) at (c .before .if1 .taken))
+go-up-requires c κs = visit-asks (visiting (c .before .before .before .before .before .before .before .before .before)) (rw (c .before .before .count-of .ensures .0) at (c .before .if1 .taken))
 
-add-t23 : tie.Need-add-t23
-add-t23 c = search needs
+add-t22 : tie.Need-add-t22
+add-t22 c = search needs
 
 same-length : tie.Need-same-length
 same-length c =
@@ -67,7 +64,7 @@ returns c =
     let g = c .before .before .go-up in
     let f = c .before .before .before .before .before .before .before in
     visit-up (visiting (f .before .before .before .before .before)) (f .first-unseen .ensures) (g .kept .0)
-    (rw (c .before .before .before .before .before .count-of .ensures) at (c .before .before .before .before .if1 .taken)) (g .ensures)
+    (rw (c .before .before .before .before .before .count-of .ensures .0) at (c .before .before .before .before .if1 .taken)) (g .ensures)
 
 go-off-requires : tie.Need-go-off-requires
 go-off-requires c κs = visit-asks-2 (visiting (c .before .before .before .before .before .before .before .before .before))
@@ -82,20 +79,19 @@ returns-2 c =
     let g = c .before .before .go-off in
     let f = c .before .before .before .before .before .before .before in
     visit-off (visiting (f .before .before .before .before .before)) (f .first-unseen .ensures) (g .kept .0)
-    (rw (c .before .before .before .before .before .count-of .ensures) at (c .before .before .before .before .if1 .left)) (g .ensures)
+    (rw (c .before .before .before .before .before .count-of .ensures .0) at (c .before .before .before .before .if1 .left)) (g .ensures)
 
 pub visit-spec : {M : Type 1} → statement M
 visit-spec =
     tie.close
     (tie.spec
-    place-of-requires
-    wide-requires
+    entry-of-requires
     add-node-requires
     add-next
     first-unseen-requires
     count-of-requires
     go-up-requires
-    add-t23
+    add-t22
     same-length
     returns
     go-off-requires

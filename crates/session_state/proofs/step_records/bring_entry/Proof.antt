@@ -21,7 +21,7 @@ same-length : tie.Need-same-length
 same-length c = search needs
 
 returns : tie.Need-returns
-returns c = entry-set (c .before .args .work .now) (c .before .args .entry) (c .if1 .taken)
+returns c = entry-set (c .before .args .work .now) (c .before .args .c .sentinel) (c .if1 .taken)
 
 returns-2 : tie.Need-returns-2
 returns-2 c = ap (λ (x : ℕ). with-entry (c .before .args .work .now) x) (sym (c .if1 .left))

@@ -10,6 +10,9 @@ use Rattle.cache_entries.proofs.table.insert_entry.NewEntry.{inserted}
 use Rattle.cache_entries.proofs.table.insert_entry.insert.Statement.{statement}
 use Rattle.cache_entries.proofs.table.insert_entry.insert.Tie as tie
 
+words-of-requires : tie.Need-words-of-requires
+words-of-requires c κs = search needs
+
 slot-of-requires : tie.Need-slot-of-requires
 slot-of-requires c κs = search needs
 
@@ -103,15 +106,18 @@ same-length c = simp length-set
 returns : tie.Need-returns
 returns c =
     let k = c .before .before .before in
-    let s = k .before .before in
+    let s = k .before .before .before in
     let w = s .args .work .now in
-    rw (c .before .wide .ensures)
-    (inserted w (s .args .left) (s .args .right) (s .args .len) (at w USED) (k .slot-of .result) (s .pre .0) (s .pre .1) (s .pre .2) refl (k .slot-of .ensures))
+    let words = k .before .words-of in
+    rw (c .before .wide .ensures, ← (words .ensures .0), ← (words .ensures .1))
+    (inserted w (words .result .left) (words .result .right) (s .args .len) (at w USED) (k .slot-of .result) (s .pre .0) (s .pre .1)
+    (rw (words .ensures .0, words .ensures .1) (s .pre .2)) refl (k .slot-of .ensures))
 
 pub insert-spec : {M : Type 1} → statement M
 insert-spec =
     tie.close
     (tie.spec
+    words-of-requires
     slot-of-requires
     slice-read-used
     wide-requires

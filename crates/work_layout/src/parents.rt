@@ -1,0 +1,54 @@
+// The parents of the entries of the tree cache, in work: how many an entry has, and each.
+use crate::COUNTS;
+use crate::EntryIndex;
+use crate::MAX_PARENTS;
+use crate::PARENTS;
+ghost use mathlib.Core.Path.{_≡_};
+ghost use mathlib.Core.Bool.{cond};
+ghost use Prim.Native.Nat.{_+_, _*_, _/_, _≤_, _<_};
+ghost use lib.ListN.{length};
+ghost use Rattle.words.specs.Words.{at, WORK};
+ghost use Rattle.work_layout.specs.Layout.{ENTRIES, COUNTS, PARENTS, MAX-PARENTS};
+
+// A parent: its entry, doubled, and 1 more for the right position below it.
+pub struct Parent(pub u32);
+
+// The position below a parent, as a number.
+pub fn position_of(right: bool) -> u32
+    ensures { λ p. ⌜ (p ≡ cond right 1 0) × (p < 2) ⌝ }
+{
+    if right { 1 } else { 0 }
+}
+
+impl Parent {
+    // The parent e, with the left or the right position below it.
+    pub fn new(e: EntryIndex, right: bool) -> Parent
+        requires { ⌜ e .0 < ENTRIES ⌝ }
+        ensures { λ p. ⌜ p .0 ≡ e .0 * 2 + cond right 1 0 ⌝ }
+    {
+        Parent(e.0 * 2 + position_of(right))
+    }
+
+    // Its entry.
+    pub fn entry(self) -> EntryIndex
+        ensures { λ e. ⌜ e .0 ≡ self .0 / 2 ⌝ }
+    {
+        EntryIndex(self.0 / 2)
+    }
+}
+
+// How many parents entry e has.
+pub fn count_of(work: &[u32], e: EntryIndex) -> usize
+    requires { ⌜ (WORK ≤ length (now work)) × (e .0 < ENTRIES) × (at (now work) (COUNTS + e .0) ≤ MAX-PARENTS) ⌝ }
+    ensures { λ n. ⌜ (n ≡ at (now (work .entry)) (COUNTS + e .0)) × (n ≤ MAX-PARENTS) ⌝ }
+{
+    work[COUNTS + e.0 as usize] as usize
+}
+
+// Parent i of entry e.
+pub fn parent_at(work: &[u32], e: EntryIndex, i: usize) -> Parent
+    requires { ⌜ (WORK ≤ length (now work)) × (e .0 < ENTRIES) × (i < MAX-PARENTS) ⌝ }
+    ensures { λ p. ⌜ p .0 ≡ at (now (work .entry)) (PARENTS + e .0 * MAX-PARENTS + i) ⌝ }
+{
+    Parent(work[PARENTS + e.0 as usize * MAX_PARENTS + i])
+}
