@@ -2,7 +2,7 @@
 -- Assumes nothing.
 use Prim.Native.Nat.{ℕ, zero, suc, _+_, _*_, _/_, _%_, _^_, _≤_, _<_}
 use mathlib.Core.Path.{_≡_, refl, sym, ap, _∙_}
-use mathlib.Core.Bool.{Bool, true, false}
+use mathlib.Core.Bool.{Bool, true, false, false≢true}
 use native.Mathlib.Omega.{arith}
 use Rattle.allocator.specs.declared.ObjectType.{ObjectType}
 use Rattle.allocator.specs.declared.ObjectType.the-variants.{Pair, Bytes, SmallAtom, Unknown}
@@ -108,6 +108,21 @@ node-of-listed-atom i l = node-of-parts 1 i l
 pub node-of-small-atom : (v : ℕ) → v < 2 ^ 26 → node-of (handle-of (small-atom v)) ≡ small-atom v
 unfolding handle-of
 node-of-small-atom v l = node-of-parts 2 v l
+
+-- The handle of a pair is its number, and a handle that names a pair is the pair's number.
+pub pair-handle : (i : ℕ) → handle-of (pair i) ≡ i
+unfolding handle-of
+pair-handle i = omega arith
+
+pub is-pair-handle : (h i : ℕ) → node-of h ≡ pair i → h ≡ i
+is-pair-handle h i e = sym (handle-of-node-of h) ∙ ap handle-of e ∙ pair-handle i
+
+-- A node that is a pair is the pair of its index.
+pub pair-of-index : (n : Node) → is-pair n ≡ true → n ≡ pair (index-of n)
+pair-of-index (pair i) e = refl
+pair-of-index (listed-atom i) e = absurd (false≢true e)
+pair-of-index (small-atom v) e = absurd (false≢true e)
+pair-of-index (unknown k i) e = absurd (false≢true e)
 
 pub handle-of-nil : handle-of nil ≡ 134217728
 unfolding handle-of

@@ -2,7 +2,7 @@
 -- Assumes nothing.
 use Prim.Native.Nat.{ℕ, zero, suc, _+_, _-_, _*_, _/_, _^_, _≤_, _<_}
 use mathlib.Core.Path.{_≡_, refl, sym, ap, _∙_}
-use mathlib.Core.Bool.{Bool, true, false, cond, _&&_}
+use mathlib.Core.Bool.{Bool, true, false, cond}
 use mathlib.Core.List.{List, []}
 use mathlib.Core.Option.{Option, some, none}
 use native.Mathlib.Omega.{arith}
@@ -11,7 +11,7 @@ use lib.Dec.{ltb}
 use lib.Pow.{pow-add}
 use lib.ListN.{length}
 use borrow.Author.Tests.{ltb-true, lt-ltb, le-ltb}
-use Rattle.words.specs.Choice.{by-lt}
+use Rattle.words.specs.Choice.{by-lt, both-true, clash}
 use Rattle.words.specs.Lists.{Bytes, same, same-refl, same-eq}
 use Rattle.words.specs.BigEndian.{big-endian, number, length-big-endian, number-big-endian, bytes-big-endian}
 use Rattle.allocator.specs.SmallAtom.{further-bytes, len-for-value, small-bytes, is-small-atom, fits-in-small-atom}
@@ -116,15 +116,11 @@ is-small-small-bytes : (v : ℕ) → v < 2 ^ 26 → is-small-atom (small-bytes v
 unfolding is-small-atom
 is-small-small-bytes v h = rw (number-small-bytes v, lt-ltb v (2 ^ 26) h) (same-refl (small-bytes v))
 
-both : (a b : Bool) → (a && b) ≡ true → (a ≡ true) × (b ≡ true)
-both true b e = (refl, e)
-both false b e = absurd (let z : _≡_ {A = ℕ} 0 1 = cc in omega arith)
-
 pub is-small-true : (bs : List ℕ) → is-small-atom bs ≡ true → (number bs < 2 ^ 26) × (small-bytes (number bs) ≡ bs)
 unfolding is-small-atom
 is-small-true bs e =
     let p : (ltb (number bs) (2 ^ 26) ≡ true) × (same (small-bytes (number bs)) bs ≡ true) =
-    both (ltb (number bs) (2 ^ 26)) (same (small-bytes (number bs)) bs) e in
+    both-true (ltb (number bs) (2 ^ 26)) (same (small-bytes (number bs)) bs) e in
     (ltb-true (number bs) (2 ^ 26) (p .0), same-eq (small-bytes (number bs)) bs (p .1))
 
 -- The bytes of a small atom are seen to be so ..
@@ -139,8 +135,8 @@ fits-some bs v e = go (is-small-atom bs) refl e
   where
     go : (b : Bool) → is-small-atom bs ≡ b → _≡_ {A = Option ℕ} (cond b (some (number bs)) none) (some v) → (v < 2 ^ 26) × (small-bytes v ≡ bs)
     go true q r = let n : number bs ≡ v = cc in rw n at (is-small-true bs q)
-    go false q r = absurd (let z : _≡_ {A = ℕ} 0 1 = cc in omega arith)
+    go false q r = clash cc
 
 -- No listed atom has the bytes of a small one.
 pub listed-not-small : (bs : List ℕ) (v : ℕ) → fits-in-small-atom bs ≡ none → v < 2 ^ 26 → small-bytes v ≡ bs → ⊥
-listed-not-small bs v e h q = let f : fits-in-small-atom (small-bytes v) ≡ some v = fits-small-bytes v h in let z : _≡_ {A = ℕ} 0 1 = cc in omega arith
+listed-not-small bs v e h q = let f : fits-in-small-atom (small-bytes v) ≡ some v = fits-small-bytes v h in clash cc

@@ -9,7 +9,7 @@ use lib.Seq.{drop-cons}
 use borrow.Author.Tests.{lt-ltb, le-ltb, le-leb, lt-leb, eq-eqb, ne-eqb}
 use Rattle.words.specs.BigEndian.{number}
 use Rattle.words.specs.Words.{part}
-use Rattle.words.specs.Choice.{cond-true, cond-false, by-lt}
+use Rattle.words.specs.Choice.{cond-true, cond-false, by-lt, clash}
 use native.Mathlib.Decide.{ℕ-discrete}
 use Rattle.atom.specs.Prefix.{least, mark}
 use Rattle.atom.specs.Parse.{ones, sized, bad-size, one-byte, size-of, decode-size, blob, refused, whole, parse, moved-by, parse-at, blob-of}
@@ -138,7 +138,7 @@ pub record Accepted (w : ℕ) (s : List ℕ) (offset n : ℕ) : Type 0 where
   pub not-single : NotSingle n (drop w s)
 
 bad-not-sized : {X : Type 0} (m o n : ℕ) → bad-size m ≡ sized o n → X
-bad-not-sized m o n e = absurd (let z : _≡_ {A = ℕ} 0 1 = cc in omega arith)
+bad-not-sized m o n e = clash cc
 
 not-one : (n : ℕ) (s : List ℕ) → (n ≡ 1 → ⊥) → NotSingle n s
 not-one n [] h = h

@@ -11,7 +11,7 @@ use lib.Dec.{ltb}
 use lib.Pow.{pow-mono}
 use lib.ListN.{length, getD}
 use borrow.Author.Tests.{lt-ltb, le-ltb}
-use Rattle.words.specs.Choice.{by-lt, cond-true, cond-false}
+use Rattle.words.specs.Choice.{by-lt, cond-true, cond-false, clash}
 use Rattle.words.specs.Words.{tabulate}
 use Rattle.words.proofs.Words.{getD-tabulate}
 use Rattle.atom.specs.Prefix.{size-bits, least, first-width, width, mark, single, prefix-width}
@@ -137,9 +137,9 @@ single-other (b ∷ []) h = absurd (h refl)
 single-other (b ∷ c ∷ bs) h = refl
 
 pub single-length : (atom : List ℕ) → single atom ≡ true → length atom ≡ 1
-single-length [] e = absurd (let z : _≡_ {A = ℕ} 0 1 = cc in omega arith)
+single-length [] e = clash cc
 single-length (b ∷ []) e = refl
-single-length (b ∷ c ∷ bs) e = absurd (let z : _≡_ {A = ℕ} 0 1 = cc in omega arith)
+single-length (b ∷ c ∷ bs) e = clash cc
 
 -- The width of an atom's prefix is at most 5, and its size has at most 34 bits.
 pub record Prefixed (atom : List ℕ) (w : ℕ) : Type 0 where

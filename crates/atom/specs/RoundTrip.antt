@@ -6,13 +6,13 @@ use mathlib.Core.Bool.{Bool, true, false}
 use mathlib.Core.List.{List, [], _∷_, _++_, append-assoc}
 use mathlib.Core.Option.{Option, none, some, Option·none-ne-some, Option·some-injective}
 use native.Mathlib.Omega.{arith}
-use native.Mathlib.Nat.{zero-add, add-mul, mul-le-mul-right, pow-suc, pow-succ', pow-le-pow-right, div-one, div-div-eq-div-mul, div-lt-iff-lt-mul, mul-add-div-right, mod-eq-of-lt}
+use native.Mathlib.Nat.{zero-add, add-mul, mul-le-mul-right, pow-suc, pow-succ', one-le-pow, div-one, div-div-eq-div-mul, div-lt-iff-lt-mul, mul-add-div-right, mod-eq-of-lt}
 use native.Mathlib.Decide.{ℕ-discrete}
 use lib.Seq.{take-at, drop-at, take-add, length-take-le}
 use lib.ListN.{length, getD, take, drop, length-append, length-drop, List·getD-append}
 use lib.Pow.{pow-mono, pow-pos}
 use borrow.Author.Tests.{lt-ltb, le-ltb, ltb-true}
-use Rattle.words.specs.Choice.{by-lt, cond-true, cond-false}
+use Rattle.words.specs.Choice.{by-lt, cond-true, cond-false, clash}
 use Rattle.words.specs.Lists.{Bytes, all-take}
 use Rattle.words.specs.Words.{tabulate}
 use Rattle.words.specs.BigEndian.{big-endian, number, number-after, length-big-endian, number-big-endian, big-endian-number, number-after-bound, number-after-low}
@@ -99,16 +99,13 @@ bits-are w h l =
     same : tabulate 5 (λ k. 2 ^ (7 - suc k) * 256 ^ (suc k - 1)) ≡ tabulate 5 (λ k. 2 ^ size-bits (suc k))
     same = unfold tabulate in refl
 
-pow256-pos : (k : ℕ) → 0 < 256 ^ k
-pow256-pos k = pow-le-pow-right {n = 256} (omega arith) {i = 0} {j = k} (omega arith)
-
 -- The highest bits of the size, which stand in the first byte.
 top-bits : (w n : ℕ) → Carries w n → n / 256 ^ (w - 1) < 2 ^ (7 - w)
-top-bits w n c = div-lt-iff-lt-mul {k = 256 ^ (w - 1)} {x = n} {y = 2 ^ (7 - w)} (pow256-pos (w - 1)) .1 (rw (bits-are w (c .one) (c .five)) at (c .below))
+top-bits w n c = div-lt-iff-lt-mul {k = 256 ^ (w - 1)} {x = n} {y = 2 ^ (7 - w)} (one-le-pow (w - 1) 256 (omega arith)) .1 (rw (bits-are w (c .one) (c .five)) at (c .below))
 
 -- The prefix as a number: its ones, and then the highest bits of the size.
 mark-top : (w n : ℕ) → (mark w + n) / 256 ^ (w - 1) ≡ 256 - 2 ^ (8 - w) + n / 256 ^ (w - 1)
-mark-top w n = mul-add-div-right {m = 256 ^ (w - 1)} (pow256-pos (w - 1)) (256 - 2 ^ (8 - w)) n
+mark-top w n = mul-add-div-right {m = 256 ^ (w - 1)} (one-le-pow (w - 1) 256 (omega arith)) (256 - 2 ^ (8 - w)) n
 
 top-fits : (w n : ℕ) → Carries w n → 256 - 2 ^ (8 - w) + n / 256 ^ (w - 1) < 256
 top-fits w n c =
@@ -134,16 +131,13 @@ prefix-fits : (w n : ℕ) → Carries w n → mark w + n < 256 ^ w
 prefix-fits zero n c = absurd (omega (arith, c .one))
 prefix-fits (suc k) n c =
     let h : mark (suc k) + n < 256 * 256 ^ (suc k - 1) =
-    div-lt-iff-lt-mul {k = 256 ^ (suc k - 1)} {x = mark (suc k) + n} {y = 256} (pow256-pos (suc k - 1)) .0 (rw (mark-top (suc k) n) (top-fits (suc k) n c)) in
+    div-lt-iff-lt-mul {k = 256 ^ (suc k - 1)} {x = mark (suc k) + n} {y = 256} (one-le-pow (suc k - 1) 256 (omega arith)) .0 (rw (mark-top (suc k) n) (top-fits (suc k) n c)) in
     rw (pow-succ' 256 k) (subst (λ (j : ℕ). mark (suc k) + n < 256 * 256 ^ j) pred h)
   where
     pred : suc k - 1 ≡ k
     pred = omega arith
 
 -- ---- what is written is read back
-
-first-of : (s t : List ℕ) → 0 < length s → getD (s ++ t) 0 0 ≡ getD s 0 0
-first-of s t h = List·getD-append s t 0 0 h
 
 parse-cons : (s : List ℕ) → 0 < length s → 0x80 ≤ getD s 0 0 → parse s ≡ whole (decode-size s) (length s)
 parse-cons [] h l = absurd (omega arith)
@@ -171,7 +165,7 @@ module _ (atom rest : List ℕ) (w : ℕ) (other : single atom ≡ false) (c : C
   s-length = simp length-append (omega (arith, pre-length))
 
   first : getD s 0 0 ≡ getD pre 0 0
-  first = ap (λ (l : List ℕ). getD l 0 0) tail ∙ first-of pre (atom ++ rest) (omega (arith, pre-length, c .one))
+  first = ap (λ (l : List ℕ). getD l 0 0) tail ∙ List·getD-append pre (atom ++ rest) 0 0 (omega (arith, pre-length, c .one))
 
   ones-first : ones 8 (getD s 0 0) ≡ w
   ones-first =
@@ -248,9 +242,9 @@ same-place : (s atom bytes : List ℕ) (bytes′ : List ℕ) → bytes′ ≡ by
 same-place s atom bytes bytes′ e r = subst (λ (l : List ℕ). Reads (l ++ s) atom l) e r
 
 read-single : (atom rest : List ℕ) → single atom ≡ true → parse (atom ++ rest) ≡ blob 0 (length atom)
-read-single [] rest e = absurd (let z : _≡_ {A = ℕ} 0 1 = cc in omega arith)
+read-single [] rest e = clash cc
 read-single (b ∷ []) rest e = parse-single b rest (ltb-true b 0x80 e)
-read-single (b ∷ c ∷ bs) rest e = absurd (let z : _≡_ {A = ℕ} 0 1 = cc in omega arith)
+read-single (b ∷ c ∷ bs) rest e = clash cc
 
 encode-single : (atom : List ℕ) → prefix-width atom ≡ some 0 → encode atom ≡ some atom
 encode-single atom i = encode-some atom 0 i ∙ unfold big-endian in refl
@@ -390,13 +384,13 @@ module _ (b : ℕ) (bs : List ℕ) (byte : b < 256) (bytes : Bytes bs) (big : 0x
 
 parsed-encoded : (b : ℕ) (bs : List ℕ) (a e : ℕ) → b < 256 → Bytes bs → 0x80 ≤ b → (z : Size) → decode-size (b ∷ bs) ≡ z → whole z (length (b ∷ bs)) ≡ blob a e
     → encode (blob-of (b ∷ bs) (blob a e)) ≡ some (take e (b ∷ bs))
-parsed-encoded b bs a e byte bytes big (bad-size n) q r = absurd (let z : _≡_ {A = ℕ} 0 1 = cc in omega arith)
+parsed-encoded b bs a e byte bytes big (bad-size n) q r = clash cc
 parsed-encoded b bs a e byte bytes big (sized w n) q r = by-lt (length (b ∷ bs)) (w + n) short long
   where
     short : length (b ∷ bs) < w + n → encode (blob-of (b ∷ bs) (blob a e)) ≡ some (take e (b ∷ bs))
     short h =
         let x : refused 14 ≡ blob a e = sym (cond-true _ _ _ (lt-ltb (length (b ∷ bs)) (w + n) h)) ∙ r in
-        absurd (let z : _≡_ {A = ℕ} 0 1 = cc in omega arith)
+        clash cc
 
     long : w + n ≤ length (b ∷ bs) → encode (blob-of (b ∷ bs) (blob a e)) ≡ some (take e (b ∷ bs))
     long h =
@@ -412,7 +406,7 @@ parsed-encoded b bs a e byte bytes big (sized w n) q r = by-lt (length (b ∷ bs
 pub accepted-encoded : (s : List ℕ) (a e : ℕ) → Bytes s → parse s ≡ blob a e → encode (blob-of s (blob a e)) ≡ some (take e s)
 accepted-encoded [] a e bytes q =
     let x : refused 14 ≡ blob a e = sym parse-nil ∙ q in
-    absurd (let z : _≡_ {A = ℕ} 0 1 = cc in omega arith)
+    clash cc
 accepted-encoded (b ∷ bs) a e bytes q =
     by-lt b 0x80
     (λ h.

@@ -7,17 +7,13 @@ use native.Mathlib.Omega.{arith}
 use native.Mathlib.Numerals.{add-one}
 use native.Mathlib.Nat.{le-antisymm}
 use lib.ListN.{length, getD, take, drop, set, length-set}
-use lib.Seq.{drop-cons, getD-set-same, getD-set-other}
+use lib.Seq.{drop-cons, getD-set-same, getD-set-other, drop-at}
 use Rattle.words.specs.Choice.{by-lt}
 use Rattle.words.specs.Words.{at, part}
 use Rattle.words.specs.BigEndian.{number}
 use Rattle.spec_session.specs.File.{Pair, Step, add, restore}
 use Rattle.spec_session.specs.Places.{AtomsAt, PairsAt, StepsAt}
 use Rattle.file_parts.specs.Loaded.{AtomsThere, AtomPlace, AtomsLoaded, PairsThere, pair-of, PairsLoaded}
-
-drop-none : {A : Type 0} (xs : List A) → drop 0 xs ≡ xs
-drop-none [] = refl
-drop-none (x ∷ xs) = refl
 
 -- ---- two words stored at 2·i and 2·i + 1
 
@@ -51,7 +47,7 @@ loading-atoms input count w a =
       xs = a .atoms;
       long = a .long;
       there = a .there;
-      left = subst (AtomsAt input 7) (sym (drop-none (a .atoms))) (a .there);
+      left = subst (AtomsAt input 7) (sym (drop-at [] (a .atoms) 0 refl)) (a .there);
       places = λ k h. absurd (omega arith);
       others = λ k h. refl;
     }
@@ -136,7 +132,7 @@ loading-pairs input from count w a =
       ps = a .pairs;
       long = a .long;
       there = a .there;
-      left-over = subst (PairsAt input from) (sym (drop-none (a .pairs))) (a .there);
+      left-over = subst (PairsAt input from) (sym (drop-at [] (a .pairs) 0 refl)) (a .there);
       lefts = λ k h. absurd (omega arith);
       rights = λ k h. absurd (omega arith);
       others = λ k h. refl;

@@ -2,17 +2,13 @@
 -- Assumes nothing.
 use Prim.Native.Nat.{ℕ, zero, suc, _+_, _<_}
 use mathlib.Core.Path.{_≡_, refl, sym, ap, subst, _∙_}
-use mathlib.Core.Bool.{true, false}
 use mathlib.Core.List.{List, [], _∷_}
-use mathlib.Core.Option.{Option, none, some}
 use native.Mathlib.Omega.{arith}
 use native.Mathlib.Nat.{add-zero, add-suc, suc-add}
 use lib.ListN.{length}
-use Rattle.allocator.specs.Handle.{node-of}
 use Rattle.file_parts.specs.declared.session_file.Checked.{Checked}
-use Rattle.spec_session.specs.File.{Got, got, refused, File, Pair, named}
-use Rattle.spec_session.specs.Sentinel.{sentinel-word}
-use Rattle.spec_session.specs.Places.{PairNamed, PairsNamed, SentinelNamed}
+use Rattle.spec_session.specs.File.{Got, got, refused, File, Pair}
+use Rattle.spec_session.specs.Places.{PairNamed, PairsNamed}
 use Rattle.file_parts.specs.Checked.{Passed, Checks}
 use Rattle.file_parts.specs.Loaded.{AtomsThere, PairsThere, pair-of}
 
@@ -47,13 +43,3 @@ pub pair-named : (a i : ℕ) (ps : List Pair) → PairsNamed a i ps → (k : ℕ
 pair-named a i [] h k l = absurd (omega arith)
 pair-named a i (p ∷ ps) h zero l = subst (λ (n : ℕ). PairNamed a n p) (sym (add-zero i)) (h .0)
 pair-named a i (p ∷ ps) h (suc k) l = subst (λ (n : ℕ). PairNamed a n (pair-of ps k)) (suc-add i k ∙ sym (add-suc i k)) (pair-named a (suc i) ps (h .1) k (omega arith))
-
--- No sentinel's handle is `ffffffff`.
-no-node : (a p : ℕ) → named a p (node-of 0xffffffff) ≡ false
-unfolding node-of
-no-node a p = refl
-
-pub sentinel-none : (a p : ℕ) (z : Option ℕ) → SentinelNamed a p z → sentinel-word z ≡ 0xffffffff → z ≡ none
-sentinel-none a p none h e = refl
-sentinel-none a p (some n) h e =
-    absurd (let q : true ≡ false = sym h ∙ ap (λ (k : ℕ). named a p (node-of k)) e ∙ no-node a p in let z : _≡_ {A = ℕ} 0 1 = cc in omega arith)

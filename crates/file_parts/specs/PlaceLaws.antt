@@ -8,7 +8,7 @@ use native.Mathlib.Omega.{arith}
 use native.Mathlib.Numerals.{add-one}
 use lib.Dec.{leb}
 use lib.ListN.{length, drop, length-append, drop-of-length-le}
-use lib.Seq.{drop-cons}
+use lib.Seq.{drop-cons, drop-at}
 use borrow.Author.Tests.{leb-true}
 use Rattle.words.specs.Choice.{by-lt}
 use Rattle.words.specs.Lists.{All, same}
@@ -24,7 +24,7 @@ onward done x more xs e = e ∙ append-assoc done (x ∷ []) more
 one-longer : {A : Type 0} (done : List A) (x : A) → length (done ++ x ∷ []) ≡ suc (length done)
 one-longer done x = length-append done (x ∷ []) ∙ add-one (length done)
 
-size-low : (x : Step) → 3 ≤ step-size x
+pub size-low : (x : Step) → 3 ≤ step-size x
 size-low (add h) = omega arith
 size-low (restore k) = omega arith
 
@@ -126,10 +126,6 @@ module _ (input : List ℕ) where
       (ap (steps n a p most (done ++ t .first ∷ [])) (sym (s .rest-is)) ∙ t .then-is)))
       (λ h. steps-done a p most at done xs r h (none-left n a p most done at h ∙ e))
 
-drop-none : (r : List ℕ) → drop 0 r ≡ r
-drop-none [] = refl
-drop-none (x ∷ r) = refl
-
 -- The contents of a file that was read, and its atoms.
 pub record ContentsRead (input : List ℕ) (f : File) : Type 0 where
   pub atoms-there : AtomsAt input 7 (f .atoms)
@@ -152,10 +148,10 @@ module _ (input : List ℕ) (na : ℕ) (xs : List (List ℕ)) (np : ℕ) (ps : L
   atoms-of = atoms-read input na 0 7 [] xs r₂ (ap (atoms version-1 na 0 []) (sym (count-at input 5 1024 na r₁ a .1)) ∙ b)
 
   pairs-of : PairsRead r₃ (length xs) 0 np [] ps
-  pairs-of = pairs-read r₃ (length xs) np 0 [] ps r₄ (ap (pairs (length xs) np []) (drop-none r₃) ∙ d)
+  pairs-of = pairs-read r₃ (length xs) np 0 [] ps r₄ (ap (pairs (length xs) np []) (drop-at [] r₃ 0 refl) ∙ d)
 
   steps-of : StepsRead r₅ (length xs) (length ps) 1024 0 [] ss
-  steps-of = steps-read r₅ (length r₅) (length xs) (length ps) 1024 0 [] ss r₆ (omega arith) (ap (steps (length r₅) (length xs) (length ps) 1024 []) (drop-none r₅) ∙ g)
+  steps-of = steps-read r₅ (length r₅) (length xs) (length ps) 1024 0 [] ss r₆ (omega arith) (ap (steps (length r₅) (length xs) (length ps) 1024 []) (drop-at [] r₅ 0 refl) ∙ g)
 
   long-atoms : length xs ≡ na
   long-atoms = ap length (atoms-of .is) ∙ atoms-of .long
@@ -167,7 +163,7 @@ module _ (input : List ℕ) (na : ℕ) (xs : List (List ℕ)) (np : ℕ) (ps : L
   contents =
       record {
         few-atoms = omega (arith, long-atoms, count-at input 5 1024 na r₁ a .0);
-        few-pairs = omega (arith, long-pairs, count-at r₂ 0 1024 np r₃ (ap (count 2 1024) (drop-none r₂) ∙ c) .0);
+        few-pairs = omega (arith, long-pairs, count-at r₂ 0 1024 np r₃ (ap (count 2 1024) (drop-at [] r₂ 0 refl) ∙ c) .0);
         few-steps = steps-of .few (omega arith);
         atoms-listed = subst (All ListedAtom) (sym (atoms-of .is)) (atoms-of .listed);
         pairs-named = subst (PairsNamed (length xs) 0) (sym (pairs-of .is)) (pairs-of .names);

@@ -1,9 +1,8 @@
--- Laws of the first atom with the same bytes: it is no later than the atom itself, it is its own first one, and two atoms have the same first one
--- just where they have the same bytes.
+-- Laws of the first atom with the same bytes: it is no later than the atom itself, it is its own first one, and later atoms do not change it.
 -- Assumes nothing.
 use Prim.Native.Nat.{ℕ, zero, suc, _+_, _≤_, _<_}
 use mathlib.Core.Path.{_≡_, refl, sym, ap, _∙_}
-use mathlib.Core.Bool.{Bool, true, false, cond}
+use mathlib.Core.Bool.{Bool, true, false, cond, false≢true}
 use mathlib.Core.List.{List, [], _∷_}
 use native.Mathlib.Omega.{arith}
 use native.Mathlib.Nat.{le-antisymm, not-suc-le-zero, le-of-suc-le-suc}
@@ -12,14 +11,10 @@ use Rattle.words.specs.Choice.{by-lt}
 use Rattle.words.specs.Lists.{same, same-refl, same-eq}
 use Rattle.words.specs.Words.{at, tabulate}
 use Rattle.words.proofs.Words.{length-tabulate, getD-tabulate, tabulate-same}
-use Rattle.work_layout.specs.Layout.{FIRST}
 use Rattle.cache_entries.specs.Meaning.{first-same}
 use Rattle.file_tables.specs.Chains.{first-of}
 
 -- ---- of a list
-
-pub not-true : _≡_ {A = Bool} false true → ⊥
-not-true q = let z : _≡_ {A = ℕ} 0 1 = cc in omega arith
 
 module _ (x : List ℕ) where
   pub first-le : (xs : List (List ℕ)) → first-same x xs ≤ length xs
@@ -48,7 +43,7 @@ module _ (x : List ℕ) where
       go : (t : Bool) → same a x ≡ t → (k : ℕ) → k < cond t 0 (suc (first-same x xs)) → getD (a ∷ xs) k [] ≡ x
           → ((j : ℕ) → j < first-same x xs → getD xs j [] ≡ x → ⊥) → ⊥
       go true q k l p f = not-suc-le-zero l
-      go false q zero l p f = not-true (sym q ∙ ap (λ (y : List ℕ). same y x) p ∙ same-refl x)
+      go false q zero l p f = false≢true (sym q ∙ ap (λ (y : List ℕ). same y x) p ∙ same-refl x)
       go false q (suc k) l p f = f k (le-of-suc-le-suc l) p
 
   pub first-is : (xs : List (List ℕ)) (j : ℕ) → j ≤ length xs → (j < length xs → getD xs j [] ≡ x) → ((k : ℕ) → k < j → getD xs k [] ≡ x → ⊥)
@@ -56,41 +51,6 @@ module _ (x : List ℕ) where
   first-is xs j l has none =
       by-lt (first-same x xs) j (λ m. absurd (none (first-same x xs) m (first-has xs (omega arith))))
       (λ m. by-lt j (first-same x xs) (λ n. absurd (first-before xs j n (has (omega (arith, first-le xs))))) (λ n. le-antisymm n m))
-
-module _ (xs : List (List ℕ)) where
-  abbrev first : ℕ → ℕ
-  first i = first-same (getD xs i []) xs
-
-  pub first-low : (i : ℕ) → i < length xs → first i ≤ i
-  first-low i l = by-lt i (first i) (λ m. absurd (first-before (getD xs i []) xs i m refl)) (λ m. m)
-
-  pub first-bytes : (i : ℕ) → i < length xs → getD xs (first i) [] ≡ getD xs i []
-  first-bytes i l = first-has (getD xs i []) xs (omega (arith, first-low i l))
-
-  pub first-first : (i : ℕ) → i < length xs → first (first i) ≡ first i
-  first-first i l = ap (λ (x : List ℕ). first-same x xs) (first-bytes i l)
-
-  -- Two atoms with the same first one have the same bytes, and conversely.
-  pub first-same-bytes : (i j : ℕ) → i < length xs → j < length xs → first i ≡ first j → getD xs i [] ≡ getD xs j []
-  first-same-bytes i j l m e = sym (first-bytes i l) ∙ ap (λ (k : ℕ). getD xs k []) e ∙ first-bytes j m
-
-  pub same-bytes-first : (i j : ℕ) → getD xs i [] ≡ getD xs j [] → first i ≡ first j
-  same-bytes-first i j e = ap (λ (x : List ℕ). first-same x xs) e
-
-  -- The same of words that hold the first ones, as the tables do.
-  module _ (w : List ℕ) (firsts : (i : ℕ) → i < length xs → at w (FIRST + i) ≡ first i) where
-    pub firsts-low : (i : ℕ) → i < length xs → at w (FIRST + i) ≤ i
-    firsts-low i l = rw (firsts i l) (first-low i l)
-
-    pub firsts-first : (i : ℕ) → i < length xs → at w (FIRST + at w (FIRST + i)) ≡ at w (FIRST + i)
-    firsts-first i l =
-        ap (λ (k : ℕ). at w (FIRST + k)) (firsts i l) ∙ firsts (first i) (omega (arith, first-low i l)) ∙ first-first i l ∙ sym (firsts i l)
-
-    pub firsts-same-bytes : (i j : ℕ) → i < length xs → j < length xs → at w (FIRST + i) ≡ at w (FIRST + j) → getD xs i [] ≡ getD xs j []
-    firsts-same-bytes i j l m e = first-same-bytes i j l m (sym (firsts i l) ∙ e ∙ firsts j m)
-
-    pub same-bytes-firsts : (i j : ℕ) → i < length xs → j < length xs → getD xs i [] ≡ getD xs j [] → at w (FIRST + i) ≡ at w (FIRST + j)
-    same-bytes-firsts i j l m e = firsts i l ∙ same-bytes-first i j e ∙ sym (firsts j m)
 
 -- ---- of atoms by number
 

@@ -2,7 +2,7 @@
 -- Assumes nothing.
 use Prim.Native.Nat.{ℕ, suc, _+_, _-_, _≤_, _<_}
 use mathlib.Core.Path.{_≡_, sym, ap, _∙_}
-use mathlib.Core.Bool.{true, false}
+use mathlib.Core.Bool.{true, false, false≢true}
 use mathlib.Core.List.{List}
 use native.Mathlib.Omega.{arith}
 use native.Mathlib.Nat.{le-antisymm}
@@ -16,7 +16,7 @@ use Rattle.work_layout.specs.Prev.{prev-le, prev-prev, prev-slot, prev-above}
 use Rattle.file_tables.specs.Listed.{slot-of}
 use Rattle.file_tables.proofs.listed_atoms.Slots.{slot-low}
 use Rattle.file_tables.specs.Chains.{first-of, chain-of, Loading}
-use Rattle.file_tables.proofs.First.{not-true, first-of-le, first-of-bytes, first-of-equal, first-of-first}
+use Rattle.file_tables.proofs.First.{first-of-le, first-of-bytes, first-of-equal, first-of-first}
 use Rattle.file_tables.proofs.Chains.{chain-first, chain-is-first}
 
 -- A lookup of atom i in chain s at h: no first atom from h on has its bytes.
@@ -78,5 +78,5 @@ module _ (b : ℕ → List ℕ) (w : List ℕ) (i s : ℕ) (L : Loading b w i) (
         where
           go : (j : ℕ) → prev (chain-of b) s (h - 1) ≤ j → j < i → Dec (j < h - 1) → Dec (j ≡ h - 1) → first-of b j ≡ j → b j ≡ b i → ⊥
           go j a l (yes m) _ f e = between (h - 1) j a m f e
-          go j a l (no m) (yes p) f e = not-true (sym d ∙ ap (λ (y : List ℕ). same y (b i)) (ap b (sym p) ∙ e) ∙ same-refl (b i))
+          go j a l (no m) (yes p) f e = false≢true (sym d ∙ ap (λ (y : List ℕ). same y (b i)) (ap b (sym p) ∙ e) ∙ same-refl (b i))
           go j a l (no m) (no p) f e = k .passed j (omega arith) l f e

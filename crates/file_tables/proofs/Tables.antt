@@ -10,7 +10,7 @@ use Rattle.words.proofs.Words.{length-tabulate, getD-tabulate}
 use Rattle.atom.specs.Write.{serialized-length}
 use Rattle.work_layout.specs.Layout.{FIRST, ATOM-LENGTHS}
 use Rattle.cache_entries.specs.Meaning.{first-same}
-use Rattle.file_tables.specs.Listed.{atom-bytes}
+use Rattle.work_layout.specs.Rows.{atom-bytes}
 use Rattle.file_tables.specs.Load.{atoms, Loaded}
 
 module _ (file w w′ : List ℕ) (xs : List (List ℕ)) (are : (i : ℕ) → i < length xs → atom-bytes file w i ≡ getD xs i []) where

@@ -12,7 +12,8 @@ use Rattle.atom.specs.Write.{serialized-length}
 use Rattle.work_layout.specs.Layout.{ATOMS, FIRST, ATOM-LENGTHS, ATOM-HEADS, ATOM-NEXT}
 use Rattle.work_layout.specs.Rows.{prev}
 use Rattle.work_layout.specs.Prev.{prev-same, prev-here, prev-past}
-use Rattle.file_tables.specs.Listed.{atom-bytes, Inside, slot-of}
+use Rattle.work_layout.specs.Rows.{atom-bytes}
+use Rattle.file_tables.specs.Listed.{Inside, slot-of}
 use Rattle.file_tables.proofs.listed_atoms.Slots.{slot-low}
 use Rattle.file_tables.specs.Load.{Ready, Kept, Loaded}
 use Rattle.file_tables.specs.Chains.{first-of, chain-of, Loading}

@@ -7,7 +7,8 @@ use Rattle.words.specs.Words.{at, tabulate, WORK}
 use Rattle.atom.specs.Write.{serialized-length}
 use Rattle.work_layout.specs.Layout.{FIRST, ATOM-LENGTHS, ATOM-HEADS, ATOM-COUNT}
 use Rattle.cache_entries.specs.Meaning.{first-same}
-use Rattle.file_tables.specs.Listed.{atom-bytes, Inside}
+use Rattle.work_layout.specs.Rows.{atom-bytes}
+use Rattle.file_tables.specs.Listed.{Inside}
 
 -- The first n listed atoms.
 abbrev pub atoms : (file w : List ℕ) → ℕ → List (List ℕ)

@@ -5,7 +5,8 @@ use words::wide;
 ghost use mathlib.Core.Path.{_≡_};
 ghost use Prim.Native.Nat.{ℕ, _+_, _≤_, _<_};
 ghost use lib.ListN.{length};
-ghost use Rattle.file_tables.specs.Listed.{atom-bytes, Inside, slot-of};
+ghost use Rattle.work_layout.specs.Rows.{atom-bytes};
+ghost use Rattle.file_tables.specs.Listed.{Inside, slot-of};
 ghost use Rattle.file_tables.specs.Load.{Ready, Kept, Loaded};
 ghost use Rattle.file_tables.specs.Chains.{first-of, Loading};
 

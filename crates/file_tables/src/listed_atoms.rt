@@ -6,7 +6,8 @@ ghost use lib.ListN.{length};
 ghost use Rattle.words.specs.Words.{WORK};
 ghost use Rattle.words.specs.Lists.{same};
 ghost use Rattle.atom.specs.Write.{serialized-length};
-ghost use Rattle.file_tables.specs.Listed.{start-of, end-of, atom-bytes, Inside, slot-of};
+ghost use Rattle.work_layout.specs.Rows.{start-of, end-of, atom-bytes};
+ghost use Rattle.file_tables.specs.Listed.{Inside, slot-of};
 
 // A byte as a word.
 fn word(x: u8) -> u32

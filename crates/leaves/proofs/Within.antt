@@ -9,6 +9,7 @@ use native.Mathlib.Omega.{arith}
 use borrow.Author.Tests.{ltb-true, ltb-false}
 use lib.Dec.{ltb}
 use lib.ListN.{length, length-take}
+use Rattle.words.specs.Choice.{clash}
 use Rattle.atom.specs.Write.{Written, next, full, too-long, put}
 use Rattle.atom.specs.WriteLaws.{put-none, put-full, put-room}
 use Rattle.atom_encode.specs.Answers.{written}
@@ -25,15 +26,13 @@ done-within store p store′ n f = omega (arith, length-take n store′, ap leng
 pub put-within : (out : List ℕ) (p : ℕ) (bytes : Option (List ℕ)) (n : ℕ) → put out p bytes .answer ≡ next n → n ≤ length out
 put-within out p none n e =
     let a : too-long ≡ next n = sym (ap (λ (w : Written). w .answer) (put-none out p)) ∙ e in
-    let z : _≡_ {A = ℕ} 0 1 = cc in
-    absurd (omega arith)
+    clash cc
 put-within out p (some bytes) n e = go (ltb (length out) (p + length bytes)) refl
   where
     go : (b : Bool) → ltb (length out) (p + length bytes) ≡ b → n ≤ length out
     go true q =
         let a : full ≡ next n = sym (ap (λ (w : Written). w .answer) (put-full out p bytes (ltb-true _ _ q))) ∙ e in
-        let z : _≡_ {A = ℕ} 0 1 = cc in
-        absurd (omega arith)
+        clash cc
     go false q =
         let a : next (p + length bytes) ≡ next n = sym (ap (λ (w : Written). w .answer) (put-room out p bytes (ltb-false _ _ q))) ∙ e in
         let z : p + length bytes ≡ n = cc in

@@ -1,6 +1,6 @@
 -- Laws of the reading call: cleared slices are a fresh store, and what was read gives the answer and the slices that the definition says.
 -- Assumes nothing.
-use Prim.Native.Nat.{ℕ, zero, suc, _-_, _*_, _/_, _≤_, _<_}
+use Prim.Native.Nat.{ℕ, _-_, _*_, _/_, _≤_, _<_}
 use mathlib.Core.Path.{_≡_, refl, sym, ap, subst, _∙_}
 use mathlib.Core.Bool.{Bool, true, false, cond, _&&_}
 use mathlib.Core.List.{List, _++_}
@@ -9,6 +9,8 @@ use borrow.Author.Tests.{leb-true, le-leb, lt-leb}
 use lib.Dec.{leb}
 use lib.ListN.{length, take, drop, replicate, length-replicate, take-append-drop}
 use lib.Seq.{length-take-le}
+use Rattle.read_store.proofs.reader_stacks.Stacks.{length-values}
+use Rattle.words.specs.Choice.{both-true}
 use Rattle.words.specs.Words.{at, WORK}
 use Rattle.words.specs.Lists.{Bytes}
 use Rattle.spec_reading.specs.Format.{Read}
@@ -28,15 +30,6 @@ use Rattle.read_call.specs.Outcome.{read-result-of, Counted, ended}
 
 -- ---- a fresh store
 
-both-left : (x y : Bool) → x && y ≡ true → x ≡ true
-both-left true y e = refl
-both-left false y e = e
-
-both-right : (x y : Bool) → x && y ≡ true → y ≡ true
-both-right true y e = e
-both-right false true e = refl
-both-right false false e = e
-
 -- Question 1 was answered: the four lengths.
 record Long (w p a b : List ℕ) : Type 0 where
   work : WORK ≤ length w
@@ -46,13 +39,14 @@ record Long (w p a b : List ℕ) : Type 0 where
 
 long : (w p a b : List ℕ) → long-enough (slices w p a b) ≡ true → Long w p a b
 long w p a b e =
-    let f = both-right (leb WORK (length w)) (leb 262144 (length p) && (leb 131072 (length a) && leb 65536 (length b))) e in
-    let g = both-right (leb 262144 (length p)) (leb 131072 (length a) && leb 65536 (length b)) f in
+    let f = both-true (leb WORK (length w)) (leb 262144 (length p) && (leb 131072 (length a) && leb 65536 (length b))) e in
+    let g = both-true (leb 262144 (length p)) (leb 131072 (length a) && leb 65536 (length b)) (f .1) in
+    let h = both-true (leb 131072 (length a)) (leb 65536 (length b)) (g .1) in
     record {
-      work = leb-true WORK (length w) (both-left (leb WORK (length w)) (leb 262144 (length p) && (leb 131072 (length a) && leb 65536 (length b))) e);
-      pairs = leb-true 262144 (length p) (both-left (leb 262144 (length p)) (leb 131072 (length a) && leb 65536 (length b)) f);
-      atoms = leb-true 131072 (length a) (both-left (leb 131072 (length a)) (leb 65536 (length b)) g);
-      bytes = leb-true 65536 (length b) (both-right (leb 131072 (length a)) (leb 65536 (length b)) g);
+      work = leb-true WORK (length w) (f .0);
+      pairs = leb-true 262144 (length p) (g .0);
+      atoms = leb-true 131072 (length a) (h .0);
+      bytes = leb-true 65536 (length b) (h .1);
     }
 
 zeroed-length : (l l′ : List ℕ) → l′ ≡ zeroed l → length l′ ≡ length l
@@ -85,11 +79,6 @@ lent-start input w p a b p′ a′ b′ e short ep ea eb =
 
 -- ---- what was read
 
-values-length : (w : List ℕ) (n : ℕ) → length (values-of w n) ≡ n
-unfolding values-of
-values-length w zero = refl
-values-length w (suc n) = ap suc (values-length w n)
-
 -- Used words and the zeros after them are the whole slice; l is the slice at entry.
 filled-whole : (l l′ : List ℕ) (n : ℕ) → length l′ ≡ length l → n ≤ length l′ → drop n l′ ≡ replicate (length l′ - n) 0 → l′ ≡ filled l (take n l′)
 filled-whole l l′ n e i z =
@@ -120,7 +109,7 @@ module _ (input w p a b : List ℕ) (r : Reader) (h : Ends input w p a b r) wher
       }
 
   one-value : r .values ≡ 1
-  one-value = sym (values-length w (r .values)) ∙ h .sound .fits
+  one-value = sym (length-values w (r .values)) ∙ h .sound .fits
 
   root : at w VALUES ≡ root-of (values-of w (r .values))
   unfolding values-of

@@ -8,6 +8,7 @@ use native.Mathlib.Omega.{arith}
 use native.Mathlib.Numerals.{add-one}
 use lib.ListN.{length, take, drop, set}
 use lib.Seq.{paste, take-paste, drop-paste, sets-eq, length-take-le, take-length}
+use Rattle.words.specs.Choice.{clash}
 use Rattle.allocator.specs.Handle.{handle-of, listed-atom, small-atom}
 use Rattle.allocator.specs.SmallAtom.{fits-in-small-atom, fits-answer}
 use Rattle.allocator.specs.declared.FitsInSmallAtom.the-variants.{Small, Listed}
@@ -41,10 +42,10 @@ half d l n h e =
 -- the option that an answer stands for
 pub answered-small : (o : Option ℕ) (v : ℕ) → fits-answer o ≡ Small v → o ≡ some v
 answered-small (some u) v e = let f : u ≡ v = cc in ap some f
-answered-small none v e = absurd (let z : _≡_ {A = ℕ} 0 1 = cc in omega arith)
+answered-small none v e = clash cc
 
 pub answered-listed : (o : Option ℕ) → fits-answer o ≡ Listed → o ≡ none
-answered-listed (some u) e = absurd (let z : _≡_ {A = ℕ} 0 1 = cc in omega arith)
+answered-listed (some u) e = clash cc
 answered-listed none e = refl
 
 pub small-stored : (a b : List ℕ) (n m : ℕ) (blob : List ℕ) (v node : ℕ) → fits-in-small-atom blob ≡ some v → node ≡ handle-of (small-atom v)

@@ -8,6 +8,7 @@ use native.Mathlib.Omega.{arith}
 use lib.Dec.{leb}
 use lib.ListN.{length}
 use borrow.Author.Tests.{leb-true}
+use Rattle.words.specs.Choice.{clash}
 use Rattle.words.specs.Words.{WORK}
 use Rattle.spec_session.specs.File.{Got, File, refused, version-1, file}
 use Rattle.file_parts.specs.Checked.{Passed, Checks}
@@ -33,8 +34,8 @@ lengths w ws cs e = go (leb WORK w) refl (leb 1024 ws) refl e
   where
     go : (a : Bool) → leb WORK w ≡ a → (b : Bool) → leb 1024 ws ≡ b → a && (b && leb 16 cs) ≡ true → Long w ws cs
     go true p true q r = record { work = leb-true WORK w p; words = leb-true 1024 ws q; records = leb-true 16 cs r }
-    go true p false q r = absurd (let z : _≡_ {A = ℕ} 0 1 = cc in omega arith)
-    go false p b q r = absurd (let z : _≡_ {A = ℕ} 0 1 = cc in omega arith)
+    go true p false q r = clash cc
+    go false p b q r = clash cc
 
 -- ---- questions 1 to 8
 

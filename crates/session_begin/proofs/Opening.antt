@@ -16,7 +16,7 @@ use Rattle.file_parts.specs.Checked.{Passed}
 use Rattle.file_parts.specs.Loaded.{AtomPlace, AtomsLoaded, PairsLoaded}
 use Rattle.file_parts.specs.declared.session_file.Checked.{Checked}
 use Rattle.work_layout.specs.Layout.{ATOMS, PAIRS, FIRST, ATOM-LENGTHS, ATOM-HEADS, ATOM-COUNT, PAIR-COUNT, SENTINEL, OPEN}
-use Rattle.file_tables.specs.Listed.{atom-bytes}
+use Rattle.work_layout.specs.Rows.{atom-bytes}
 use Rattle.file_tables.specs.Load.{Ready, Loaded}
 use Rattle.file_tables.proofs.Tables.{table-firsts, table-lengths}
 use Rattle.session_begin.specs.Opened.{TablesClear, Placed, Opened}
@@ -124,6 +124,10 @@ module _ {input : List ℕ} {f : File} {c : Checked} (p : Passed input f c) {w :
     unfolding atom-bytes
     bytes-are i l = pl .atoms i l .is
 
+    atom-same : (i : ℕ) → i < 1024 → atom-bytes input last i ≡ atom-bytes input w i
+    unfolding atom-bytes
+    atom-same i l = rw (low (ATOMS + 2 * i) (omega arith), low (ATOMS + 2 * i + 1) (omega arith)) refl
+
     loaded : Loaded input w w₁ (length (f .atoms))
     loaded = subst (λ (m : ℕ). Loaded input w w₁ m) (e ∙ p .atoms-are) ld
 
@@ -155,6 +159,6 @@ module _ {input : List ℕ} {f : File} {c : Checked} (p : Passed input f c) {w :
                 inside = λ i l.
                     let m : i < length (f .atoms) = omega (arith, count) in omega (arith, pl .atoms i m .inside, low (ATOMS + 2 * i + 1) (omega arith));
               };
-          atoms-there = record { bytes = λ i l. rw (low (ATOMS + 2 * i) (omega arith), low (ATOMS + 2 * i + 1) (omega arith)) (pl .atoms i l .is) };
+          atoms-there = record { bytes = λ i l. atom-same i (omega arith) ∙ bytes-are i l };
           zeros = λ k l b. later k l ∙ ld .kept .high k (omega arith) ∙ pl .zeros k (omega arith) b;
         }

@@ -8,6 +8,7 @@ use mathlib.Core.Option.{Option}
 use native.Mathlib.Omega.{arith}
 use native.Mathlib.Nat.{zero-div}
 use lib.ListN.{length}
+use Rattle.words.specs.Choice.{clash}
 use Rattle.words.specs.Words.{at, WORK}
 use Rattle.path.specs.Bytes.{odd}
 use Rattle.spec_session.specs.File.{File}
@@ -100,7 +101,7 @@ module _ (input : List ℕ) (f : File) (c : Checked) (p : Passed input f c) (w w
         history =
             record {
               long = refl;
-              befores = λ k u e. absurd (let z : _≡_ {A = ℕ} 0 1 = cc in omega arith);
+              befores = λ k u e. clash cc;
               sizes = λ k l. absurd (omega arith);
               ordered = λ j k q l. absurd (omega arith);
             };

@@ -1,4 +1,3 @@
-pub mod Frames
 pub mod Slots
 pub mod Runs
 pub mod States

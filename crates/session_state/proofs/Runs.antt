@@ -10,6 +10,7 @@ use lib.Dec.{ltb}
 use lib.ListN.{length, set, take}
 use lib.Seq.{take-suc-set}
 use borrow.Author.Tests.{lt-ltb, le-ltb}
+use Rattle.words.specs.Choice.{clash}
 use Rattle.path.specs.Measure.{counted}
 use Rattle.spec_session.specs.File.{File, Step, add, restore}
 use Rattle.spec_session.specs.Unfold.{unfolded}
@@ -18,7 +19,7 @@ use Rattle.spec_session.specs.Writer.{Todo, parse, Outcome, Session, settle, ad
 use Rattle.spec_session.specs.Steps.{UndoState, undo-state, room-in, restored, Run, finished-bit, word-of, stop-at, with-word, after-add, unless-full, run-steps}
 use Rattle.spec_session.specs.FindPath.{find-in}
 use Rattle.spec_session.specs.Trees.{nth}
-use Rattle.session_state.specs.Stored.{bit}
+use Rattle.path.specs.Bytes.{bit}
 use Rattle.session_state.specs.State.{after-words, waits}
 
 module _ (space : ℕ) (f : File) (past : List UndoState) (s : Session) where
@@ -33,7 +34,7 @@ module _ (space : ℕ) (f : File) (past : List UndoState) (s : Session) where
     where
       go : (o : Option (List Todo)) → o ≡ none → (b : Bool) (r : Run) → unless-full o b s r ≡ stop-at 9 s
       go none q b r = refl
-      go (some k) q b r = absurd (let z : _≡_ {A = ℕ} 0 1 = cc in omega arith)
+      go (some k) q b r = clash cc
 
   -- Question 10.
   pub run-full : (h : ℕ) (steps : List Step) (k : List Todo) → s .waiting ≡ some k → 16 ≤ length past → run-steps counted space f (add h ∷ steps) past s ≡ stop-at 10 s
@@ -41,9 +42,9 @@ module _ (space : ℕ) (f : File) (past : List UndoState) (s : Session) where
   run-full h steps k e l = go (s .waiting) e (ltb 15 (length past)) (lt-ltb 15 (length past) (omega arith)) _
     where
       go : (o : Option (List Todo)) → o ≡ some k → (b : Bool) → b ≡ true → (r : Run) → unless-full o b s r ≡ stop-at 10 s
-      go none q b z r = absurd (let z : _≡_ {A = ℕ} 0 1 = cc in omega arith)
+      go none q b z r = clash cc
       go (some j) q true z r = refl
-      go (some j) q false z r = absurd (let z : _≡_ {A = ℕ} 0 1 = cc in omega arith)
+      go (some j) q false z r = clash cc
 
   -- An add at an open place.
   pub run-add : (h : ℕ) (steps : List Step) (k : List Todo) (o : Outcome) → s .waiting ≡ some k → length past ≤ 15
@@ -55,8 +56,8 @@ module _ (space : ℕ) (f : File) (past : List UndoState) (s : Session) where
     where
       go : (p : Option (List Todo)) → p ≡ some k → (b : Bool) → b ≡ false → (next : Session → Run)
           → unless-full p b s (after-add (add-at (find-in counted) (room-in space) (unfolded f h) s p) next) ≡ after-add (settle s (update (unfolded f h) (s .cache)) o) next
-      go none z b y next = absurd (let z : _≡_ {A = ℕ} 0 1 = cc in omega arith)
-      go (some j) z true y next = absurd (let z : _≡_ {A = ℕ} 0 1 = cc in omega arith)
+      go none z b y next = clash cc
+      go (some j) z true y next = clash cc
       go (some j) z false y next =
           let same : j ≡ k = cc in
           ap (λ (x : Outcome). after-add (settle s (update (unfolded f h) (s .cache)) x) next)

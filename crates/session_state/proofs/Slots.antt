@@ -2,13 +2,13 @@
 -- Assumes nothing.
 use Prim.Native.Nat.{ℕ, zero, suc, _≤_, _<_}
 use mathlib.Core.Path.{_≡_, refl, sym, ap, _∙_}
-use mathlib.Core.Logic.{_⊎_, inl, inr}
 use mathlib.Core.Bool.{cond}
-use mathlib.Core.List.{List, [], _∷_, _++_}
+use mathlib.Core.List.{List, [], _∷_}
 use mathlib.Core.Option.{none, some}
 use native.Mathlib.Omega.{arith}
 use lib.Dec.{ltb}
-use lib.ListN.{length, getD, set, take}
+use lib.ListN.{length, take}
+use Rattle.words.specs.Choice.{clash}
 use Rattle.file_parts.specs.declared.session_file.NextStep.{NextStep}
 use Rattle.file_parts.specs.declared.session_file.NextStep.the-variants as next-step
 use Rattle.spec_session.specs.File.{Step}
@@ -34,7 +34,7 @@ slot-told input at adds k r q P h e m ss s = m ∙ ap (λ (x : NextStep). slot-o
 -- ---- lists read by number
 
 pub nth-low : {A : Type 0} (xs : List A) (k : ℕ) (x : A) → nth xs k ≡ some x → k < length xs
-nth-low [] k x e = absurd (let z : _≡_ {A = ℕ} 0 1 = cc in omega arith)
+nth-low [] k x e = clash cc
 nth-low (y ∷ xs) zero x e = omega arith
 nth-low (y ∷ xs) (suc k) x e = omega (arith, nth-low xs k x e)
 
@@ -53,38 +53,9 @@ nth-none [] k l = refl
 nth-none (x ∷ xs) zero l = absurd (omega arith)
 nth-none (x ∷ xs) (suc k) l = nth-none xs k (omega arith)
 
--- The last member, or one before it.
-pub nth-snoc : {A : Type 0} (xs : List A) (y : A) (k : ℕ) (x : A) → nth (xs ++ y ∷ []) k ≡ some x → (nth xs k ≡ some x) ⊎ ((k ≡ length xs) × (y ≡ x))
-nth-snoc [] y zero x e = inr (refl, cc)
-nth-snoc [] y (suc k) x e = absurd (let z : _≡_ {A = ℕ} 0 1 = cc in omega arith)
-nth-snoc (z ∷ xs) y zero x e = inl e
-nth-snoc (z ∷ xs) y (suc k) x e = go (nth-snoc xs y k x e)
-  where
-    go : (nth xs k ≡ some x) ⊎ ((k ≡ length xs) × (y ≡ x)) → (nth xs k ≡ some x) ⊎ ((suc k ≡ suc (length xs)) × (y ≡ x))
-    go (inl h) = inl h
-    go (inr h) = inr (omega (arith, h .0), h .1)
-
 pub nth-take : {A : Type 0} (n : ℕ) (xs : List A) (k : ℕ) (x : A) → nth (take n xs) k ≡ some x → (k < n) × (nth xs k ≡ some x)
-nth-take zero [] k x e = absurd (let z : _≡_ {A = ℕ} 0 1 = cc in omega arith)
-nth-take zero (y ∷ xs) k x e = absurd (let z : _≡_ {A = ℕ} 0 1 = cc in omega arith)
-nth-take (suc n) [] k x e = absurd (let z : _≡_ {A = ℕ} 0 1 = cc in omega arith)
+nth-take zero [] k x e = clash cc
+nth-take zero (y ∷ xs) k x e = clash cc
+nth-take (suc n) [] k x e = clash cc
 nth-take (suc n) (y ∷ xs) zero x e = (omega arith, e)
 nth-take (suc n) (y ∷ xs) (suc k) x e = let r = nth-take n xs k x e in (omega (arith, r .0), r .1)
-
-pub set-here : {A : Type 0} (xs : List A) (k : ℕ) (v d : A) → k < length xs → getD (set xs k v) k d ≡ v
-set-here [] k v d l = absurd (omega arith)
-set-here (x ∷ xs) zero v d l = refl
-set-here (x ∷ xs) (suc k) v d l = set-here xs k v d (omega arith)
-
-pub set-there : {A : Type 0} (xs : List A) (k j : ℕ) (v d : A) → (j ≡ k → ⊥) → getD (set xs k v) j d ≡ getD xs j d
-set-there [] k j v d n = refl
-set-there (x ∷ xs) zero zero v d n = absurd (n refl)
-set-there (x ∷ xs) zero (suc j) v d n = refl
-set-there (x ∷ xs) (suc k) zero v d n = refl
-set-there (x ∷ xs) (suc k) (suc j) v d n = set-there xs k j v d (λ e. n (omega (arith, e)))
-
--- A member that is stored where it stands.
-pub set-same : {A : Type 0} (xs : List A) (k : ℕ) (v d : A) → k < length xs → getD xs k d ≡ v → set xs k v ≡ xs
-set-same [] k v d l e = refl
-set-same (x ∷ xs) zero v d l e = rw e refl
-set-same (x ∷ xs) (suc k) v d l e = ap (λ (ys : List _). x ∷ ys) (set-same xs k v d (omega arith) e)

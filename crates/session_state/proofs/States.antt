@@ -1,14 +1,15 @@
 -- What stays of a state, of the states before the adds, and of the run, where other words change.
 -- Assumes nothing.
-use Prim.Native.Nat.{ℕ, zero, suc, _+_, _*_, _≤_, _<_}
-use mathlib.Core.Path.{_≡_, refl, sym, ap, subst, _∙_}
+use Prim.Native.Nat.{ℕ, _+_, _*_, _≤_, _<_}
+use mathlib.Core.Path.{_≡_, sym, ap, subst, _∙_}
 use mathlib.Core.Logic.{_⊎_, inl, inr}
 use mathlib.Core.Bool.{Bool, false}
 use mathlib.Core.List.{List, [], _∷_, _++_}
 use mathlib.Core.Option.{some}
 use native.Mathlib.Omega.{arith}
 use lib.ListN.{length, getD, set, take, length-append, length-set}
-use lib.Seq.{take-take}
+use lib.Seq.{take-take, getD-set-same, getD-set-other, length-take-le}
+use Rattle.spec_session.specs.Coherence.{nth-snoc}
 use Rattle.words.specs.Words.{at}
 use Rattle.words.specs.Lists.{All}
 use Rattle.words.specs.Choice.{by-lt}
@@ -24,10 +25,10 @@ use Rattle.work_layout.specs.Layout.{OPEN, USED, COPIES, COPY}
 use Rattle.cache_undo.specs.undo_state.Contracts.{copied-open, copied-stack, copied-marks}
 use Rattle.write_place.specs.State.{todo-of}
 use Rattle.session_state.specs.declared.progress.Progress.{Progress}
-use Rattle.session_state.specs.Stored.{bit}
+use Rattle.path.specs.Bytes.{bit}
 use Rattle.session_state.specs.Moves.{noted-at}
 use Rattle.session_state.specs.State.{whole-run, after-words, At, Before, size-at, History, Stocked, Underway}
-use Rattle.session_state.proofs.Slots.{nth-low, nth-snoc, nth-take, set-here, set-there}
+use Rattle.session_state.proofs.Slots.{nth-low, nth-take}
 use Rattle.session_state.proofs.Runs.{finished-word, word-noted}
 
 -- ---- the output
@@ -86,17 +87,11 @@ module _ (out out′ : List ℕ) (long : length out′ ≡ length out) where
       pub history-back : (m : ℕ) → m < n → History f w′ out′ rows (size-at rows m) m (take m past)
       history-back m l =
           record {
-            long = taken m past (omega (arith, h .long));
+            long = length-take-le m past (omega (arith, h .long));
             befores = λ k u e. history-kept k u (nth-take m past k u e .1);
             sizes = λ k q. h .ordered k m q l;
             ordered = λ j k q r. h .ordered j k q (omega arith);
           }
-        where
-          taken : (m : ℕ) (xs : List UndoState) → m ≤ length xs → length (take m xs) ≡ m
-          taken zero [] q = refl
-          taken zero (x ∷ xs) q = refl
-          taken (suc m) [] q = absurd (omega arith)
-          taken (suc m) (x ∷ xs) q = ap suc (taken m xs (omega arith))
 
       -- One add more, with its record r and the state u before it.
       pub history-more : (r : Checkpoint) (u : UndoState) (size′ : ℕ) → n < length rows → r .size ≤ size′ → size ≤ r .size → Before f w′ out′ n r u
@@ -110,18 +105,18 @@ module _ (out out′ : List ℕ) (long : length out′ ≡ length out) where
           }
         where
           here : getD (set rows n r) n blank ≡ r
-          here = set-here rows n r blank low-n
+          here = getD-set-same rows n r blank low-n
 
           there : (k : ℕ) → k < n → getD (set rows n r) k blank ≡ getD rows k blank
-          there k l = set-there rows n k r blank (λ e. omega (arith, e))
+          there k l = getD-set-other rows n k r blank (λ e. omega (arith, e))
 
-          go : (k : ℕ) (v : UndoState) → (nth past k ≡ some v) ⊎ ((k ≡ length past) × (u ≡ v)) → Before f w′ out′ k (getD (set rows n r) k blank) v
+          go : (k : ℕ) (v : UndoState) → (nth past k ≡ some v) ⊎ ((k ≡ length past) × (v ≡ u)) → Before f w′ out′ k (getD (set rows n r) k blank) v
           go k v (inl e) =
               subst (λ (x : Checkpoint). Before f w′ out′ k x v) (sym (there k (omega (arith, nth-low past k v e, h .long)))) (history-kept k v e)
           go k v (inr e) =
               let q : n ≡ k = sym (e .0 ∙ h .long) in
               subst (λ (j : ℕ). Before f w′ out′ j (getD (set rows n r) j blank) v) q
-              (subst (λ (x : Checkpoint). Before f w′ out′ n x v) (sym here) (subst (λ (x : UndoState). Before f w′ out′ n r x) (e .1) b))
+              (subst (λ (x : Checkpoint). Before f w′ out′ n x v) (sym here) (subst (λ (x : UndoState). Before f w′ out′ n r x) (sym (e .1)) b))
 
           size-there : (k : ℕ) → k < n → size-at (set rows n r) k ≡ size-at rows k
           size-there k l = ap (λ (x : Checkpoint). x .size) (there k l)

@@ -23,7 +23,7 @@ use Rattle.cache_undo.specs.undo_state.Contracts.{copied-open, copied-stack, co
 use Rattle.cache_entries.specs.Meaning.{Tables, unmapped}
 use Rattle.write_place.specs.State.{AtomPlaces, AtomsThere, todo-of, Running, Writes}
 use Rattle.session_state.specs.declared.progress.Progress.{Progress}
-use Rattle.session_state.specs.Stored.{bit}
+use Rattle.path.specs.Bytes.{bit}
 
 -- ---- the file of the bytes, and its whole run
 

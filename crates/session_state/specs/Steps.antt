@@ -11,7 +11,7 @@ use Rattle.file_parts.specs.Loaded.{FirstStep}
 use Rattle.file_parts.specs.declared.session_file.NextStep.{NextStep}
 use Rattle.session_state.specs.declared.progress.Progress.{Progress}
 use Rattle.session_state.specs.declared.progress.StepAnswer.{StepAnswer}
-use Rattle.session_state.specs.Stored.{bit}
+use Rattle.path.specs.Bytes.{bit}
 use Rattle.session_state.specs.State.{Underway, Stands, slot-for}
 
 -- The step at a place of the file.

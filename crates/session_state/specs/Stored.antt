@@ -1,17 +1,11 @@
 -- What is stored of a session's state, and brought back: the bit of a step's word, the checkpoint record, and the sentinel's entry of a record.
 use Prim.Native.Nat.{ℕ, zero, suc}
-use mathlib.Core.Bool.{Bool, true, false}
 use mathlib.Core.List.{List}
 use lib.ListN.{set}
 use Rattle.words.specs.Words.{at}
 use Rattle.session_state.specs.declared.checkpoints.Checkpoint.{Checkpoint}
 use Rattle.work_layout.specs.Layout.{SENTINEL-ENTRY}
 use Rattle.session_state.specs.declared.progress.Progress.{Progress}
-
--- 1 where the session is finished.
-abbrev pub bit : Bool → ℕ
-bit true = 1
-bit false = 0
 
 -- The record of a state: open pairs, depth, size, and one more than the sentinel's entry, or 0.
 abbrev pub record-of : List ℕ → Progress → Checkpoint

@@ -8,7 +8,8 @@ ghost use lib.Dec.{ltb};
 ghost use lib.ListN.{length, set};
 ghost use Rattle.words.specs.Words.{WORK};
 ghost use Rattle.session_state.specs.Moves.{noted-at};
-ghost use Rattle.session_state.specs.Stored.{bit, record-of, with-entry};
+ghost use Rattle.path.specs.Bytes.{bit};
+ghost use Rattle.session_state.specs.Stored.{record-of, with-entry};
 ghost use Rattle.session_state.specs.Questions.{question-of};
 
 // The most adds on the present history.

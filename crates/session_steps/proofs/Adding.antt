@@ -4,14 +4,14 @@ use Prim.Native.Nat.{ℕ, suc, _+_, _*_, _≤_, _<_}
 use mathlib.Core.Path.{_≡_, refl, sym, ap, subst, _∙_}
 use mathlib.Core.Bool.{Bool, true, false}
 use mathlib.Core.List.{List, [], _∷_, _++_}
-use mathlib.Core.Option.{Option, none, some}
+use mathlib.Core.Option.{none, some}
 use native.Mathlib.Omega.{arith}
 use lib.Dec.{ltb}
 use lib.ListN.{length, set, take, length-set}
 use borrow.Author.Tests.{lt-ltb}
 use Rattle.words.specs.Words.{at}
 use Rattle.words.specs.Lists.{All}
-use Rattle.words.specs.Choice.{cond-true}
+use Rattle.words.specs.Choice.{cond-true, clash}
 use Rattle.session_state.specs.declared.checkpoints.Checkpoint.{Checkpoint}
 use Rattle.path.specs.Measure.{counted}
 use Rattle.allocator.specs.Handle.{node-of}
@@ -38,11 +38,12 @@ use Rattle.write_loop.proofs.write_turn.Frames.{todo-same, rights-same, pairs-f
 use Rattle.write_place.specs.declared.Outcome.{Outcome}
 use Rattle.write_place.specs.declared.Outcome.the-variants as outcome
 use Rattle.session_state.specs.declared.progress.Progress.{Progress}
-use Rattle.session_state.specs.Stored.{bit, record-of}
+use Rattle.path.specs.Bytes.{bit}
+use Rattle.session_state.specs.Stored.{record-of}
 use Rattle.session_state.specs.Moves.{noted-at, after-outcome}
 use Rattle.session_state.specs.State.{whole-run, after-words, waits, At, Before, History, Stocked, Underway, Ended, slot-for}
 use Rattle.session_steps.specs.Contracts.{Adding, Added}
-use Rattle.session_state.proofs.Frames.{places-kept, atoms-kept, whole-kept, holds-kept, unmapped-kept, all-counts-kept}
+use Rattle.write_place.proofs.Frames.{places-kept, atoms-kept, whole-kept, holds-kept, unmapped-kept, all-counts-kept}
 use Rattle.session_state.proofs.Runs.{run-add, words-ended}
 use Rattle.session_state.proofs.States.{at-kept, history-more, go-on}
 
@@ -163,13 +164,10 @@ module _ {input w out : List ℕ} {p : Progress} {h : ℕ} (ad : Adding input w 
           bytes-are = v .bytes-are;
         }
       where
-        entry : entry-or-none (at w₁ SENTINEL-ENTRY) ≡ c .sentinel-entry
-        entry = ap entry-or-none (same₁ SENTINEL-ENTRY (omega arith)) ∙ sym (v .cache .sentinel-entry)
-
         holds₁ : Holds f w₁ c
         holds₁ =
-            subst (λ (o : Option ℕ). Holds f w₁ (record { entries = c .entries; mapped = c .mapped; sentinel-entry = o })) entry
-            (holds-kept w w₁ len₁ low₁ maps₁ cache₁ (ad .running .stands .whole) f c t (v .cache))
+            holds-kept w w₁ len₁ low₁ maps₁ cache₁ (ad .running .stands .whole) f c (c .sentinel-entry) t (v .cache)
+            (v .cache .sentinel-entry ∙ ap entry-or-none (sym (same₁ SENTINEL-ENTRY (omega arith))))
 
 -- ---- what an add leaves
 
@@ -337,11 +335,11 @@ module _ {input : List ℕ} {f : File} {w words : List ℕ} {rows : List Checkpo
   on (outcome.Stopped pl) ends writes longer to d words′ ws =
       go-on input f w′ words words′ rows′ out′ (after-outcome p (outcome.Stopped pl)) next rest past′ (session-after (outcome.Stopped pl))
       (record { running = ends; writes = writes; waiting = refl }) stocked (history (pl .size) longer) (omega arith) there named-rest few-rest many (u .many-words) to ws
-  on (outcome.Refused n pl) ends writes longer to d words′ ws = absurd (let z : _≡_ {A = ℕ} 0 1 = cc in omega arith)
+  on (outcome.Refused n pl) ends writes longer to d words′ ws = clash cc
 
   off : (o : Outcome) → WritesTo o → RunTo o → after-outcome p o .done ≡ true → Ended f words out′ (after-outcome p o)
-  off (outcome.Done pl) writes to d = absurd (let z : _≡_ {A = ℕ} 0 1 = cc in omega arith)
-  off (outcome.Stopped pl) writes to d = absurd (let z : _≡_ {A = ℕ} 0 1 = cc in omega arith)
+  off (outcome.Done pl) writes to d = clash cc
+  off (outcome.Stopped pl) writes to d = clash cc
   off (outcome.Refused n pl) writes to d =
       record {
         session = session-after (outcome.Refused n pl);

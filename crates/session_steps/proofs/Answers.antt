@@ -8,6 +8,7 @@ use native.Mathlib.Omega.{arith}
 use lib.Dec.{ltb}
 use lib.ListN.{length, set}
 use borrow.Author.Tests.{ltb-true, ltb-false}
+use Rattle.words.specs.Choice.{clash}
 use Rattle.session_state.specs.declared.checkpoints.Checkpoint.{Checkpoint}
 use Rattle.path.specs.Measure.{counted}
 use Rattle.allocator.specs.declared.NodePtr.{NodePtr}
@@ -20,7 +21,8 @@ use Rattle.write_place.specs.declared.Outcome.{Outcome}
 use Rattle.write_place.specs.declared.Outcome.the-variants as outcome
 use Rattle.session_state.specs.declared.progress.Progress.{Progress}
 use Rattle.session_state.specs.declared.progress.StepAnswer.{StepAnswer}
-use Rattle.session_state.specs.Stored.{bit, record-of}
+use Rattle.path.specs.Bytes.{bit}
+use Rattle.session_state.specs.Stored.{record-of}
 use Rattle.session_state.specs.Moves.{noted-at, after-outcome, stopped-at}
 use Rattle.session_state.specs.Questions.{question-of}
 use Rattle.session_state.specs.State.{waits, Underway, slot-for}
@@ -94,7 +96,7 @@ module _ {input : List ℕ} {f : File} {w words out : List ℕ} {p : Progress} {
         fits : (o : Outcome) → Fine w′ out′ (ended-at o) → after-outcome p o .done ≡ false → after-outcome p o .size ≤ 65535
         fits (outcome.Done pl) r d = omega (arith, r .0 .fits, r .0 .short)
         fits (outcome.Stopped pl) r d = omega (arith, r .fits, r .short)
-        fits (outcome.Refused n pl) r d = absurd (let z : _≡_ {A = ℕ} 0 1 = cc in omega arith)
+        fits (outcome.Refused n pl) r d = clash cc
 
         pub note-asks : q .done ≡ false → (q .steps < length words) × (q .size ≤ 65535) × (q .steps < 1024)
         note-asks d =

@@ -7,10 +7,11 @@ use mathlib.Core.List.{List, [], _∷_, _++_}
 use mathlib.Core.Option.{Option, none, some, Option·none-ne-some, Option·some-injective}
 use native.Mathlib.Omega.{arith}
 use lib.Dec.{eqb, ltb}
-use lib.ListN.{length, getD, set, take, length-append, length-set, length-drop}
+use lib.ListN.{length, set, take, length-append, length-set, length-drop}
 use borrow.Author.Tests.{eqb-true, eqb-false, eq-eqb, ne-eqb, ltb-true, ltb-false}
+use Rattle.allocator.specs.HandleLaws.{pair-handle}
 use Rattle.words.specs.Choice.{by-cond, by-lt}
-use Rattle.words.specs.Lists.{All, all-append, all-drop, all-take, all-map}
+use Rattle.words.specs.Lists.{All, all-append, all-drop, all-take, all-map, all-or}
 use Rattle.path.specs.Bytes.{bit}
 use Rattle.allocator.specs.Handle.{Node, pair, listed-atom, small-atom, unknown, node-of, handle-of}
 use Rattle.spec_session.specs.File.{File, Pair, Step, add, restore}
@@ -392,16 +393,6 @@ enter-grown n t (node h x y) c l u b =
     known-grown t n h c (join-pair h (enter x c .1) (enter y (enter x c .0))) b (lookup h (c .mapped)) refl
     (λ ab. link-grown t n h _ _ _ c (enter x c .0) (enter y (enter x c .0) .0) _ _ (u .0) l ab L R (found-grown h n (enter y (enter x c .0) .0) _ _ (R .bounded)))
 
--- ---- room for what a tree still adds
-
--- A pair's own handle is free beside those that are free below it.
-pub free-under : (t h : ℕ) (ms : List (ℕ × ℕ)) → h < t → Absent h ms → 1 + free h ms ≤ free t ms
-free-under zero h ms l a = absurd (omega arith)
-free-under (suc t) h ms l a =
-    by-lt h t
-    (λ k. omega (arith, free-under t h ms k a))
-    (λ k. let alike : t ≡ h = omega arith in rw (alike, lookup-absent h ms a) (omega arith))
-
 -- ---- an add
 
 -- The sentinel's parents, and all parents without them.
@@ -484,18 +475,9 @@ under-mono n m l hole u = tt
 under-mono n m l (leaf h bytes) u = tt
 under-mono n m l (node h x y) u = (omega (arith, u .0), u .1, u .2)
 
-under-at : (n i : ℕ) (rows : List Unfolded) (h : ℕ) → All (Under n) rows → Under n (getD rows i (leaf h []))
-under-at n i [] h k = tt
-under-at n zero (u ∷ rows) h k = k .0
-under-at n (suc i) (u ∷ rows) h k = under-at n i rows h (k .1)
-
-pair-handle : (i : ℕ) → handle-of (pair i) ≡ i
-unfolding handle-of
-pair-handle i = omega arith
-
 module _ (f : File) where
   named-under : (n : ℕ) (rows : List Unfolded) (h : ℕ) (m : Node) → All (Under n) rows → Under n (named-by f rows h m)
-  named-under n rows h (pair i) k = under-at n i rows h k
+  named-under n rows h (pair i) k = all-or (Under n) rows (leaf h []) i k tt
   named-under n rows h (listed-atom i) k = tt
   named-under n rows h (small-atom v) k = tt
   named-under n rows h (unknown j i) k = tt
@@ -700,11 +682,6 @@ abbrev pub adds : List Step → ℕ
 adds [] = 0
 adds (add h ∷ steps) = suc (adds steps)
 adds (restore i ∷ steps) = adds steps
-
-pub adds-few : (steps : List Step) → adds steps ≤ length steps
-adds-few [] = omega arith
-adds-few (add h ∷ steps) = omega (arith, adds-few steps)
-adds-few (restore i ∷ steps) = omega (arith, adds-few steps)
 
 -- A session after so many adds that those left make at most m together, in a file with n pairs.
 pub record Underway (n m : ℕ) (steps : List Step) (past : List UndoState) (s : Session) : Type 0 where

@@ -10,6 +10,7 @@ use lib.Dec.{eqb}
 use lib.ListN.{length, length-append}
 use lib.Seq.{drop-at}
 use borrow.Author.Tests.{eqb-true}
+use Rattle.words.specs.Choice.{clash}
 use Rattle.words.specs.Lists.{All}
 use Rattle.atom.specs.Prefix.{encode}
 use Rattle.atom.specs.Parse.{Parse, blob, refused, ones, size-of, parse}
@@ -47,7 +48,7 @@ unfolding parse size-of ones
 parse-fe s = refl
 
 not-both : (n start end : ℕ) (p : Parse) → p ≡ refused n → p ≡ blob start end → ⊥
-not-both n start end p e f = let z : _≡_ {A = ℕ} 0 1 = cc in omega arith
+not-both n start end p e f = clash cc
 
 next-atom : (s : List ℕ) (start end : ℕ) → parse s ≡ blob start end → (ops : List ParseOp) (v : Plain)
     → next-item plain-values s ops v ≡ read-atom plain-values (blob start end) s ops v

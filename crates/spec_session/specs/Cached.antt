@@ -10,6 +10,7 @@ use native.Mathlib.Omega.{arith}
 use lib.Dec.{eqb, ltb}
 use lib.ListN.{length, set, drop}
 use borrow.Author.Tests.{eqb-true, eq-eqb}
+use Rattle.words.specs.Choice.{clash}
 use Rattle.spec_reading.specs.Tree.{Tree, atom, cons, pick}
 use Rattle.spec_session.specs.Cache.{sentinel-key, atom-key, pair-key, Key, Parent, Entry, same-key, later, find-key, lookup, adjust, parents-at, length-at, add-parent, move-parents, new-entry}
 use Rattle.words.specs.Lists.{same-eq}
@@ -175,7 +176,7 @@ good-len T (suc e) (x ∷ es) (w ∷ vs) v h q = good-len T e es vs v (h .2) q
 
 pub good-find : (T : List Tree) (k : Key) (es : List Entry) (vs : List Tree) (e : ℕ) → Good T es vs → find-key k es ≡ some e
     → (v : Tree) × (nth vs e ≡ some v) × KeyOK T v k
-good-find T k [] [] e h q = let z : _≡_ {A = ℕ} 0 1 = cc in absurd (omega arith)
+good-find T k [] [] e h q = clash cc
 good-find T k [] (w ∷ vs) e h q = absurd h
 good-find T k (x ∷ es) [] e h q = absurd h
 good-find T k (x ∷ es) (w ∷ vs) e h q = go (same-key k (x .key)) refl (find-key k es) refl q (λ i. good-find T k es vs i (h .2))
@@ -186,7 +187,7 @@ good-find T k (x ∷ es) (w ∷ vs) e h q = go (same-key k (x .key)) refl (find-
     go true s o f q ih =
         let z : e ≡ 0 = cc in
         rw z (w, refl, rw (same-key-ok k (x .key) s) (h .0))
-    go false s none f q ih = let z : _≡_ {A = ℕ} 0 1 = cc in absurd (omega arith)
+    go false s none f q ih = clash cc
     go false s (some i) f q ih =
         let z : e ≡ suc i = cc in
         rw z (ih i f)

@@ -3,8 +3,9 @@ use mathlib.Core.Path.{_≡_, refl, ap, _∙_}
 use mathlib.Core.List.{List, [], _∷_}
 use mathlib.Core.Option.{Option, none, some, bind}
 use mathlib.Core.Bool.{Bool, true, false}
-use Prim.Native.Nat.{ℕ, _+_}
+use Prim.Native.Nat.{_+_}
 use native.Mathlib.Omega.{arith}
+use Rattle.words.specs.Choice.{clash}
 use Rattle.spec_reading.specs.Tree.{Tree, place, atom, cons, pick, follow, as-list}
 use Rattle.spec_session.specs.Premises.{opens}
 use Rattle.spec_session.specs.Items.{cons-item, atom-item, reference-item, Item, Op, want, make, Reading, collapse, step-read, feed, whole, read-items}
@@ -16,8 +17,8 @@ pick-closed true l r z = omega arith
 
 follow-closed : (path : List Bool) (p v : Tree) → opens p ≡ 0 → follow path p ≡ some v → opens v ≡ 0
 follow-closed [] p v z e = let alike : p ≡ v = cc in rw alike at z
-follow-closed (b ∷ path) place v z e = let q : _≡_ {A = ℕ} 0 1 = cc in absurd (omega arith)
-follow-closed (b ∷ path) (atom bs) v z e = let q : _≡_ {A = ℕ} 0 1 = cc in absurd (omega arith)
+follow-closed (b ∷ path) place v z e = clash cc
+follow-closed (b ∷ path) (atom bs) v z e = clash cc
 follow-closed (b ∷ path) (cons l r) v z e = follow-closed path (pick b l r) v (pick-closed b l r z) e
 
 list-opens : (vs : List Tree) → opens (as-list vs) ≡ sum-opens vs
@@ -62,11 +63,11 @@ unfolding bind
 read-closed is v e = go (feed is (want ∷ [], [])) (feed-closed is (want ∷ [], []) refl) e
   where
     last : (k : List Op) (vs : List Tree) → sum-opens vs ≡ 0 → whole k vs ≡ some v → opens v ≡ 0
-    last (o ∷ k) vs z e = let q : _≡_ {A = ℕ} 0 1 = cc in absurd (omega arith)
-    last [] [] z e = let q : _≡_ {A = ℕ} 0 1 = cc in absurd (omega arith)
+    last (o ∷ k) vs z e = clash cc
+    last [] [] z e = clash cc
     last [] (u ∷ []) z e = let alike : u ≡ v = cc in omega (arith, ap opens alike)
-    last [] (u ∷ a ∷ vs) z e = let q : _≡_ {A = ℕ} 0 1 = cc in absurd (omega arith)
+    last [] (u ∷ a ∷ vs) z e = clash cc
 
     go : (o : Option Reading) → Clear o → bind o (λ r. whole (r .0) (r .1)) ≡ some v → opens v ≡ 0
-    go none c e = let q : _≡_ {A = ℕ} 0 1 = cc in absurd (omega arith)
+    go none c e = clash cc
     go (some r) c e = last (r .0) (r .1) c e

@@ -7,13 +7,16 @@ use mathlib.Core.Bool.{Bool, true, false, cond}
 use Prim.Native.Nat.{ℕ, zero, suc, _/_, _%_, _^_}
 use native.Mathlib.Omega.{arith}
 use lib.ListN.{length, getD}
+use Rattle.allocator.specs.HandleLaws.{pair-handle}
+use Rattle.words.specs.Choice.{clash}
 use Rattle.spec_session.specs.Unfold.{Unfolded, hole, leaf, node, is-sentinel, unfold-with, unfold-pairs, unfolded, named-by}
 use Rattle.allocator.specs.Handle.{pair, node-of-kind, node-of, handle-of}
 use Rattle.spec_session.specs.File.{File, Pair}
 use Rattle.spec_session.specs.Trees.{nth, nth-append}
 use Rattle.spec_session.specs.ReadBack.{Coherent, AllCoherent}
 
-nth-snoc : (l : List Unfolded) (x : Unfolded) (i : ℕ) (u : Unfolded) → nth (l ++ x ∷ []) i ≡ some u → (nth l i ≡ some u) ⊎ ((i ≡ length l) × (u ≡ x))
+-- The last member, or one before it.
+pub nth-snoc : {A : Type 0} (l : List A) (x : A) (i : ℕ) (u : A) → nth (l ++ x ∷ []) i ≡ some u → (nth l i ≡ some u) ⊎ ((i ≡ length l) × (u ≡ x))
 nth-snoc [] x zero u h = inr (refl, cc)
 nth-snoc [] x (suc i) u h = inl h
 nth-snoc (y ∷ l) x zero u h = inl h
@@ -32,10 +35,6 @@ getD-none : (l : List Unfolded) (i : ℕ) (d : Unfolded) → nth l i ≡ none �
 getD-none [] i d e = refl
 getD-none (x ∷ l) zero d e = cc
 getD-none (x ∷ l) (suc i) d e = getD-none l i d e
-
-pair-handle : (i : ℕ) → handle-of (pair i) ≡ i
-unfolding handle-of
-pair-handle i = omega arith
 
 module _ (f : File) (table : List Unfolded) where
   -- The unfolding by the whole table.
@@ -109,7 +108,7 @@ pub tree-coherent : (f : File) (h : ℕ) → Coherent (unfolded f) (unfolded f h
 unfolding unfolded
 tree-coherent f h =
     let table : List Unfolded = unfold-pairs f (f .pairs) [] in
-    named-ok f table table (λ i u e. e) (table-ok f table (f .pairs) [] refl (λ i u e. let z : _≡_ {A = ℕ} 0 1 = cc in absurd (omega arith))) h
+    named-ok f table table (λ i u e. e) (table-ok f table (f .pairs) [] refl (λ i u e. clash cc)) h
 
 pub trees-coherent : (f : File) (hs : List ℕ) → AllCoherent (unfolded f) (map (unfolded f) hs)
 trees-coherent f [] = tt

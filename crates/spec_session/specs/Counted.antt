@@ -1,6 +1,6 @@
 -- 01's measure of a path never counts less than the path's atom takes.
 -- Assumes nothing.
-use Prim.Native.Nat.{ℕ, zero, suc, _+_, _/_, _%_, _^_, _≤_, _<_}
+use Prim.Native.Nat.{ℕ, _+_, _%_, _^_, _≤_, _<_}
 use mathlib.Core.Path.{_≡_, refl, sym, ap, _∙_}
 use mathlib.Core.Bool.{Bool, true, false, cond, _&&_}
 use mathlib.Core.List.{List, [], _∷_, _++_}
@@ -8,25 +8,16 @@ use mathlib.Core.Option.{Option, none, some}
 use native.Mathlib.Omega.{arith}
 use lib.Dec.{eqb, ltb, leb}
 use lib.ListN.{length, getD, length-append}
-use lib.Seq.{take-all}
 use borrow.Author.Tests.{ltb-true, ltb-false, eqb-true, eq-eqb, le-leb}
 use Rattle.words.specs.Choice.{by-cond, by-lt}
 use Rattle.atom.specs.Prefix.{size-bits, width, single}
 use Rattle.atom.specs.Write.{serialized-length}
 use Rattle.atom.specs.PrefixLaws.{Carries, width-carries, carries-most, single-one, single-length}
 use Rattle.atom.specs.WriteLaws.{width-of-single, width-of-none, width-of-sized, length-some, length-none}
-use Rattle.path.specs.Bytes.{value, octets, path-bytes}
-use Rattle.path.specs.BytesLaws.{length-path-bytes}
+use Rattle.path.specs.Bytes.{value, path-bytes}
+use Rattle.path.specs.BytesLaws.{length-path-bytes, value-below, one-octet}
 use Rattle.path.specs.Measure.{counted-bytes, counted}
 use Rattle.spec_session.specs.FindPathLaws.{Covers}
-
--- Bits of so many places make a number below that power of two; seven stand in for fewer.
-value-below : (bs : List Bool) (k : ℕ) → length bs ≤ k → value bs < 2 ^ k
-value-below [] zero h = omega arith
-value-below [] (suc k) h = omega (arith, value-below [] k (omega arith))
-value-below (b ∷ bs) zero h = absurd (omega arith)
-value-below (true ∷ bs) (suc k) h = omega (arith, value-below bs k (omega arith))
-value-below (false ∷ bs) (suc k) h = omega (arith, value-below bs k (omega arith))
 
 -- Two bytes or more: a prefix of w bytes is counted at w bytes at least.
 counted-wide : (full : Bool) (n w : ℕ) → Carries w n → 2 ≤ n → w + n ≤ counted-bytes full n
@@ -64,10 +55,7 @@ module _ (s : List Bool) where
 
   -- A path of at most eight bits is one byte, their number.
   byte-is : length bits ≤ 8 → getD (path-bytes bits) 0 0 ≡ value bits
-  unfolding path-bytes octets
-  byte-is h =
-      let one : (length bits + 7) / 8 ≡ 1 = omega (arith, some-bits) in
-      rw (one, take-all 8 bits h)
+  byte-is h = ap (λ (l : List ℕ). getD l 0 0) (one-octet bits some-bits h)
 
   -- Where the one byte takes a prefix, the bits fill it.
   fills : n ≡ 1 → single (path-bytes bits) ≡ false → full ≡ true
@@ -75,7 +63,7 @@ module _ (s : List Bool) where
       let high : 128 ≤ getD (path-bytes bits) 0 0 = ltb-false (getD (path-bytes bits) 0 0) 128 (sym (single-one (path-bytes bits) one) ∙ e) in
       let few : length bits ≤ 8 = omega (arith, one, length-path-bytes bits) in
       let eight : length bits ≡ 8 =
-      by-lt (length bits) 8 (λ l. absurd (omega (arith, high, byte-is few, value-below bits 7 (omega arith)))) (λ g. omega arith) in
+      by-lt (length bits) 8 (λ l. absurd (omega (arith, high, byte-is few, value-below 7 bits (omega arith)))) (λ g. omega arith) in
       rw (eq-eqb (length bits % 8) 0 (omega (arith, eight)), le-leb 80 (getD (path-bytes bits) 0 0) (omega (arith, high)))
 
   sized : (w : ℕ) → single (path-bytes bits) ≡ false → width n ≡ some w → serialized-length (path-bytes bits) ≤ counted bits

@@ -1,50 +1,29 @@
 -- The atoms of a session file's trees are bytes, and short enough for a prefix.
 -- Assumes nothing.
-use Prim.Native.Nat.{ℕ, zero, suc, _+_, _/_, _%_, _^_, _≤_, _<_}
-use mathlib.Core.Path.{_≡_, refl, subst}
-use mathlib.Core.Bool.{Bool, true, false, cond}
+use Prim.Native.Nat.{ℕ, zero, suc, _+_, _/_, _%_, _^_, _<_}
+use mathlib.Core.Path.{_≡_, subst}
 use mathlib.Core.List.{List, [], _∷_, _++_, map}
 use native.Mathlib.Omega.{arith}
-use lib.Dec.{ltb, leb}
-use lib.ListN.{length, getD, take, drop, length-take, length-drop}
-use Rattle.words.specs.Lists.{All, all-append, all-take, all-drop, same}
-use Rattle.words.specs.BigEndian.{length-big-endian}
+use lib.Dec.{leb}
+use lib.ListN.{length, take, drop, length-take, length-drop}
+use Rattle.spec_session.specs.FileLaws.{then-of, asked-of, got-value, got-rest}
+use Rattle.words.specs.Lists.{All, all-append, all-take, all-drop, same, all-or}
 use Rattle.words.specs.Choice.{by-cond}
 use Rattle.allocator.specs.Handle.{pair, node-of, node-of-kind, handle-of}
-use Rattle.allocator.specs.SmallAtom.{further-bytes, len-for-value, small-bytes, fits-in-small-atom}
-use Rattle.allocator.specs.SmallAtomLaws.{bytes-small-bytes}
-use Rattle.spec_session.specs.File.{File, Pair, Limits, Got, got, refused, and-then, asked, bytes-of, field, count, listed, atom, atoms, pairs, sentinel, steps, mark, after-mark, file}
+use Rattle.allocator.specs.SmallAtom.{small-bytes, fits-in-small-atom}
+use Rattle.allocator.specs.SmallAtomLaws.{bytes-small-bytes, len-at-most, length-small-bytes}
+use Rattle.spec_session.specs.File.{File, Pair, Limits, Got, got, and-then, asked, bytes-of, field, count, listed, atom, atoms, pairs, sentinel, steps, mark, after-mark, file}
 use Rattle.spec_session.specs.Unfold.{Unfolded, hole, leaf, node, is-sentinel, named-by, unfold-with, unfold-pairs, unfolded}
 use Rattle.spec_session.specs.Kept.{Leaves}
 use Rattle.spec_session.specs.Formed.{Atom}
 
 -- ---- a handle unfolded
 
-further-low : (n v : ℕ) → further-bytes n v ≤ n
-unfolding further-bytes
-further-low zero v = omega arith
-further-low (suc n) v = go (ltb v 128) (further-low n (v / 256))
-  where
-    go : (b : Bool) → further-bytes n (v / 256) ≤ n → cond {A = Unit {0} → ℕ} b (λ u. 0) (λ u. suc (further-bytes n (v / 256))) tt ≤ suc n
-    go true h = omega arith
-    go false h = omega arith
-
-len-low : (v : ℕ) → len-for-value v ≤ 1 + v
-unfolding len-for-value
-len-low zero = omega arith
-len-low (suc v) = omega (arith, further-low (suc v) (suc v))
-
 small-is : (v : ℕ) → v < 2 ^ 26 → Atom (small-bytes v)
-unfolding small-bytes
-small-is v h = (omega (arith, length-big-endian (len-for-value v) v, len-low v), bytes-small-bytes v)
+small-is v h = (omega (arith, length-small-bytes v, len-at-most 3 v (omega arith)), bytes-small-bytes v)
 
 none-is : Atom []
 none-is = (omega arith, tt)
-
-getD-all : {A : Type 0} (P : A → Type 0) (xs : List A) (i : ℕ) (d : A) → All P xs → P d → P (getD xs i d)
-getD-all P [] i d h p = p
-getD-all P (x ∷ xs) zero d h p = h .0
-getD-all P (x ∷ xs) (suc i) d h p = getD-all P xs i d (h .1) p
 
 module _ (f : File) (listed-are : All Atom (f .atoms)) where
   unfold-with-leaves : (earlier : List Unfolded) → All (Leaves Atom) earlier → (h : ℕ) → Leaves Atom (unfold-with f earlier h)
@@ -52,8 +31,8 @@ module _ (f : File) (listed-are : All Atom (f .atoms)) where
   unfold-with-leaves earlier a h = by-cond (Leaves Atom) (is-sentinel (f .sentinel) h) hole (named-by f earlier h (node-of h)) (λ _. tt) (λ _. by-kind (h / 2 ^ 26))
     where
       by-kind : (k : ℕ) → Leaves Atom (named-by f earlier h (node-of-kind k (h % 2 ^ 26)))
-      by-kind zero = getD-all (Leaves Atom) earlier (h % 2 ^ 26) (leaf h []) a none-is
-      by-kind (suc zero) = getD-all Atom (f .atoms) (h % 2 ^ 26) [] listed-are none-is
+      by-kind zero = all-or (Leaves Atom) earlier (leaf h []) (h % 2 ^ 26) a none-is
+      by-kind (suc zero) = all-or Atom (f .atoms) [] (h % 2 ^ 26) listed-are none-is
       by-kind (suc (suc zero)) = small-is (h % 2 ^ 26) (omega arith)
       by-kind (suc (suc (suc k))) = none-is
 
@@ -74,23 +53,9 @@ module _ (f : File) (listed-are : All Atom (f .atoms)) where
 
 -- ---- the file's own atoms
 
-not-refused : {A : Type 0} (n : ℕ) (a : A) (r : List ℕ) → _≡_ {A = Got A} (refused n) (got a r) → ⊥
-not-refused n a r e = let z : _≡_ {A = ℕ} 0 1 = cc in omega arith
-
 -- Where reading went on to the end, by what was read first.
 by-first : {A B : Type 0} {P : Type 0} (g : Got A) (k : A → List ℕ → Got B) (b : B) (r : List ℕ) → and-then g k ≡ got b r → ((a : A) (s : List ℕ) → g ≡ got a s → k a s ≡ got b r → P) → P
-by-first (got a s) k b r e h = h a s refl e
-by-first (refused n) k b r e h = absurd (not-refused n b r e)
-
-asked-of : {A : Type 0} (n : ℕ) (c : Bool) (g : Got A) (a : A) (r : List ℕ) → asked n c g ≡ got a r → g ≡ got a r
-asked-of n true g a r e = e
-asked-of n false g a r e = absurd (not-refused n a r e)
-
-got-value : {A : Type 0} (a b : A) (r s : List ℕ) → got a r ≡ got b s → a ≡ b
-got-value a b r s e = cc
-
-got-rest : {A : Type 0} (a b : A) (r s : List ℕ) → got a r ≡ got b s → r ≡ s
-got-rest a b r s e = cc
+by-first g k b r e h = let t = then-of g k b r e in h (t .first) (t .rest) (t .first-is) (t .then-is)
 
 part-take : (n : ℕ) (s : List ℕ) → Atom s → Atom (take n s)
 part-take n s h = (omega (arith, length-take n s, h .0), all-take (λ (x : ℕ). x < 256) n s (h .1))
@@ -100,7 +65,7 @@ part-drop n s h = (omega (arith, length-drop n s, h .0), all-drop (λ (x : ℕ).
 
 bytes-parts : (n : ℕ) (s b r : List ℕ) → Atom s → bytes-of n s ≡ got b r → Atom b × Atom r
 bytes-parts n s b r h e =
-    let g = asked-of 4 (leb n (length s)) (got (take n s) (drop n s)) b r e in
+    let g = asked-of 4 (leb n (length s)) (got (take n s) (drop n s)) b r e .1 in
     (subst Atom (got-value (take n s) b (drop n s) r g) (part-take n s h), subst Atom (got-rest (take n s) b (drop n s) r g) (part-drop n s h))
 
 field-rest : (n : ℕ) (s : List ℕ) (v : ℕ) (r : List ℕ) → Atom s → field n s ≡ got v r → Atom r
@@ -110,7 +75,7 @@ atom-parts : (l : Limits) (u : ℕ) (s b r : List ℕ) → Atom s → atom l u s
 atom-parts l u s b r h e =
     by-first (field (l .count-bytes) s) _ b r e (λ n t i j.
     by-first (bytes-of n t) _ b r j (λ c v p q.
-    let g = asked-of 6 (listed (fits-in-small-atom c)) (got c v) b r (asked-of 5 (leb (u + n) (l .atom-bytes)) (asked 6 (listed (fits-in-small-atom c)) (got c v)) b r q) in
+    let g = asked-of 6 (listed (fits-in-small-atom c)) (got c v) b r (asked-of 5 (leb (u + n) (l .atom-bytes)) (asked 6 (listed (fits-in-small-atom c)) (got c v)) b r q .1) .1 in
     let parts = bytes-parts n t c v (field-rest (l .count-bytes) s n t h i) p in
     (subst Atom (got-value c b v r g) (parts .0), subst Atom (got-rest c b v r g) (parts .1))))
 
@@ -125,7 +90,7 @@ atoms-parts l (suc n) u done s xs r d h e =
 
 count-rest : (w most : ℕ) (s : List ℕ) (v : ℕ) (r : List ℕ) → Atom s → count w most s ≡ got v r → Atom r
 count-rest w most s v r h e =
-    by-first (field w s) _ v r e (λ n t i j. subst Atom (got-rest n v t r (asked-of 5 (leb n most) (got n t) v r j)) (field-rest w s n t h i))
+    by-first (field w s) _ v r e (λ n t i j. subst Atom (got-rest n v t r (asked-of 5 (leb n most) (got n t) v r j .1)) (field-rest w s n t h i))
 
 -- The atoms of a file that is not refused.
 pub file-atoms : (l : Limits) (input : List ℕ) (f : File) (r : List ℕ) → Atom input → file l input ≡ got f r → All Atom (f .atoms)
@@ -133,7 +98,7 @@ unfolding file
 file-atoms l input f r h e =
     by-first (count (l .count-bytes) (l .atoms) (drop 5 input)) _ f r
     (asked-of 3 (same (take 5 input) (mark l)) (after-mark l (drop 5 input)) f r
-    (asked-of 2 (leb (length input) (l .file-bytes)) (asked 3 (same (take 5 input) (mark l)) (after-mark l (drop 5 input))) f r e)) (λ na s₁ i₁ e₁.
+    (asked-of 2 (leb (length input) (l .file-bytes)) (asked 3 (same (take 5 input) (mark l)) (after-mark l (drop 5 input))) f r e .1) .1) (λ na s₁ i₁ e₁.
     by-first (atoms l na 0 [] s₁) _ f r e₁ (λ xs s₂ i₂ e₂.
     by-first (count (l .count-bytes) (l .pairs) s₂) _ f r e₂ (λ np s₃ i₃ e₃.
     by-first (pairs (length xs) np [] s₃) _ f r e₃ (λ ps s₄ i₄ e₄.

@@ -10,6 +10,7 @@ use lib.Dec.{leb, ltb, eqb}
 use lib.ListN.{length, take, drop, length-take, length-drop}
 use lib.Seq.{drop-drop}
 use borrow.Author.Tests.{leb-true, ltb-true, eqb-true}
+use Rattle.words.specs.Choice.{clash}
 use Rattle.words.specs.Words.{part}
 use Rattle.words.specs.BigEndian.{number}
 use Rattle.allocator.specs.Handle.{node-of}
@@ -19,7 +20,7 @@ use Rattle.spec_session.specs.File.{Pair, one-pair, pairs, sentinel, Ste
 use Rattle.spec_session.specs.Places.{SentinelNamed, StepIs, StepNamed, step-size}
 
 not-refused : {A : Type 0} (n : ℕ) (a : A) (r : List ℕ) → _≡_ {A = Got A} (refused n) (got a r) → ⊥
-not-refused n a r e = let z : _≡_ {A = ℕ} 0 1 = cc in omega arith
+not-refused n a r e = clash cc
 
 -- What was read first, where reading went on.
 pub record Then {A B : Type 0} (g : Got A) (f : A → List ℕ → Got B) (b : B) (r : List ℕ) : Type 0 where
@@ -106,7 +107,7 @@ module _ (input : List ℕ) where
 
   listed-none : (o : Option ℕ) → listed o ≡ true → o ≡ none
   listed-none none e = refl
-  listed-none (some v) e = absurd (let z : _≡_ {A = ℕ} 0 1 = cc in omega arith)
+  listed-none (some v) e = clash cc
 
   pub atom-at : (at used : ℕ) (b r : List ℕ) → atom version-1 used (drop at input) ≡ got b r → AtomAt at used b r
   atom-at at used b r e =

@@ -33,10 +33,10 @@ else-some : {A : Type 0} (b : Bool) (x : Option A) (v : A) → cond b none x ≡
 else-some true x v e = absurd (Option·none-ne-some v e)
 else-some false x v e = e
 
-without : (s : List Bool) → without-terminator (s ++ true ∷ []) ≡ s
-without [] = refl
-without (b ∷ []) = refl
-without (b ∷ c ∷ s) = ap (λ (x : List Bool). b ∷ x) (without (c ∷ s))
+pub without-end : (s : List Bool) → without-terminator (s ++ true ∷ []) ≡ s
+without-end [] = refl
+without-end (b ∷ []) = refl
+without-end (b ∷ c ∷ s) = ap (λ (x : List Bool). b ∷ x) (without-end (c ∷ s))
 
 without-length : (bits : List Bool) → length (without-terminator bits) ≤ length bits
 without-length [] = omega arith
@@ -91,7 +91,7 @@ module _ (measure : List Bool → ℕ) where
           search-sound tr (parents-in c) stack len e (found .bits)
           (λ x. all-nth (λ p. Holds tr x (p .0) (p .1)) (parents-at x (c .entries)) (λ i p n. let k = linked x i p n in record { first = k .0; rest = k .1; pair = k .2; child = k .3 }))
           (found .given) .leads-there in
-          let same : s .steps ≡ path = sym (without (s .steps)) ∙ ap without-terminator (sym (s .ends)) ∙ found .steps in
+          let same : s .steps ≡ path = sym (without-end (s .steps)) ∙ ap without-terminator (sym (s .ends)) ∙ found .steps in
           record { ends = s .ends ∙ ap (λ (x : List Bool). x ++ true ∷ []) same; leads = subst (λ x. follow x (as-list (map tr stack)) ≡ some (tr e)) same (s .arrives) }
 
   pub find-sound : Sound (find-in measure)

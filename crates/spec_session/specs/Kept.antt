@@ -7,6 +7,7 @@ use mathlib.Core.List.{List, [], _∷_, _++_}
 use mathlib.Core.Option.{Option, none, some}
 use native.Mathlib.Omega.{arith}
 use lib.ListN.{length, length-append}
+use Rattle.words.specs.Choice.{clash}
 use Rattle.words.specs.Lists.{All, all-append, all-map}
 use Rattle.spec_session.specs.Unfold.{Unfolded, hole, leaf, node}
 use Rattle.spec_session.specs.Cache.{Cache, update}
@@ -159,7 +160,7 @@ module _ (P : List ℕ → Type 0) where
 
       of-added : (a : Added) (q : Session) → a ≡ added q → KeptAdded a → Kept Q (q .written)
       of-added (added s) q e h = let alike : s ≡ q = cc in subst (λ (x : Session). Kept Q (x .written)) alike (h .0)
-      of-added (turned-down n s) q e h = let z : _≡_ {A = ℕ} 0 1 = cc in absurd (omega arith)
+      of-added (turned-down n s) q e h = clash cc
 
       -- Of a session of adds from a fresh one.
       pub session-kept : (ts : List Unfolded) (q : Session) → All Leaves ts → Q [] → add-all find room ts start ≡ added q → Kept Q (q .written)

@@ -5,6 +5,7 @@ use mathlib.Core.Option.{Option, none, some, bind}
 use mathlib.Core.Bool.{Bool}
 use Prim.Native.Nat.{ℕ, zero, suc, _≤_}
 use native.Mathlib.Omega.{arith}
+use Rattle.words.specs.Choice.{clash}
 use Rattle.spec_reading.specs.Tree.{Tree, place, atom, cons, pick, follow, as-list}
 use Rattle.spec_session.specs.Unfold.{Unfolded, hole, leaf, node, tree-of}
 use Rattle.spec_session.specs.Cache.{Parent, Entry, Cache, parents-at, length-at}
@@ -41,13 +42,13 @@ abbrev pub value-of : List Tree → ℕ → Tree
 value-of T e = or-gap (nth T e)
 
 links-nth : (T : List Tree) (v : Tree) (ps : List Parent) (i : ℕ) (p : Parent) → LinksOK T v ps → nth ps i ≡ some p → LinkOK T v p
-links-nth T v [] i p h q = let z : _≡_ {A = ℕ} 0 1 = cc in absurd (omega arith)
+links-nth T v [] i p h q = clash cc
 links-nth T v (x ∷ ps) zero p h q = let alike : x ≡ p = cc in rw alike at (h .0)
 links-nth T v (x ∷ ps) (suc i) p h q = links-nth T v ps i p (h .1) q
 
 good-link : (T : List Tree) (es : List Entry) (vs : List Tree) (x i : ℕ) (p : Parent) → Good T es vs → nth (parents-at x es) i ≡ some p
     → (v : Tree) × (nth vs x ≡ some v) × LinkOK T v p
-good-link T [] [] x i p g q = let z : _≡_ {A = ℕ} 0 1 = cc in absurd (omega arith)
+good-link T [] [] x i p g q = clash cc
 good-link T [] (v ∷ vs) x i p g q = absurd g
 good-link T (e ∷ es) [] x i p g q = absurd g
 good-link T (e ∷ es) (v ∷ vs) zero i p g q = (v, refl, links-nth T v (e .parents) i p (g .1) q)

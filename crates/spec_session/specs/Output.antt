@@ -1,9 +1,9 @@
--- The sizes of items are those of their bytes.
+-- The sizes of items are those of their bytes; one item more.
 -- Assumes nothing.
 use Prim.Native.Nat.{ℕ, _+_}
-use mathlib.Core.Path.{_≡_, refl, ap₂, sym, _∙_}
+use mathlib.Core.Path.{_≡_, refl, ap, ap₂, sym, _∙_}
 use mathlib.Core.Bool.{true}
-use mathlib.Core.List.{List, [], _∷_, _++_}
+use mathlib.Core.List.{List, [], _∷_, _++_, append-nil, append-assoc}
 use mathlib.Core.Option.{Option, none, some}
 use native.Mathlib.Omega.{arith}
 use lib.ListN.{length, length-append}
@@ -28,3 +28,12 @@ item-size-is (reference-item path) = omega (arith, atom-size (path-bytes (path +
 pub output-size : (items : List Item) → size-of items ≡ length (output items)
 output-size [] = refl
 output-size (i ∷ items) = ap₂ (λ (a b : ℕ). a + b) (item-size-is i) (output-size items) ∙ sym (length-append (item-bytes i) (output items))
+
+-- One item more.
+pub size-more : (items : List Item) (i : Item) → size-of (items ++ i ∷ []) ≡ size-of items + item-size i
+size-more [] i = omega arith
+size-more (x ∷ items) i = omega (arith, size-more items i)
+
+pub output-more : (items : List Item) (i : Item) → output (items ++ i ∷ []) ≡ output items ++ item-bytes i
+output-more [] i = append-nil (item-bytes i)
+output-more (x ∷ items) i = ap (λ (r : List ℕ). item-bytes x ++ r) (output-more items i) ∙ sym (append-assoc (item-bytes x) (output items) (item-bytes i))

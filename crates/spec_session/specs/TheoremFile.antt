@@ -11,8 +11,10 @@ use native.Mathlib.Omega.{arith}
 use lib.Dec.{ltb, leb}
 use lib.ListN.{length, take, drop}
 use borrow.Author.Tests.{ltb-false, leb-true}
+use Rattle.spec_session.specs.Output.{size-more}
+use Rattle.spec_session.specs.FileLaws.{asked-of}
 use Rattle.words.specs.Lists.{Bytes, same}
-use Rattle.spec_session.specs.File.{File, Limits, Got, got, asked, mark, after-mark, file}
+use Rattle.spec_session.specs.File.{File, Limits, got, asked, mark, after-mark, file}
 use Rattle.spec_session.specs.Unfold.{unfolded}
 use Rattle.spec_session.specs.Premises.{Apart}
 use Rattle.spec_session.specs.Items.{Item, item-size, size-of}
@@ -25,10 +27,6 @@ use Rattle.spec_session.specs.Formed.{Atom, count-size, items-formed, it
 use Rattle.spec_session.specs.FileAtoms.{all-leaves, file-atoms}
 use Rattle.spec_session.specs.TheoremBytes.{BytesReadBack, read-back-bytes}
 
-size-more : (items : List Item) (i : Item) → size-of (items ++ i ∷ []) ≡ size-of items + item-size i
-size-more [] i = omega arith
-size-more (x ∷ items) i = omega (arith, size-more items i)
-
 -- An item that 12 and 13 let through fits.
 room-holds : (space : ℕ) (k : List Todo) (items : List Item) (i : Item) → size-of items ≤ space → room-in space k items i ≡ 0 → size-of (items ++ i ∷ []) ≤ space
 room-holds space k items i h e = go (too-deep i k) (ltb space (size-of items + item-size i)) refl e
@@ -39,15 +37,11 @@ room-holds space k items i h e = go (too-deep i k) (ltb space (size-of items + i
     go false false q e = omega (arith, ltb-false space (size-of items + item-size i) q, size-more items i)
 
 -- Question 2 got yes.
-asked-yes : (n : ℕ) (b : Bool) (g : Got File) (f : File) (r : List ℕ) → asked n b g ≡ got f r → b ≡ true
-asked-yes n true g f r e = refl
-asked-yes n false g f r e = let z : _≡_ {A = ℕ} 0 1 = cc in absurd (omega arith)
-
 file-short : (l : Limits) (input : List ℕ) (f : File) (r : List ℕ) → file l input ≡ got f r → length input ≤ l .file-bytes
 unfolding file
 file-short l input f r e =
     leb-true (length input) (l .file-bytes)
-    (asked-yes 2 (leb (length input) (l .file-bytes)) (asked 3 (same (take 5 input) (mark l)) (after-mark l (drop 5 input))) f r e)
+    (asked-of 2 (leb (length input) (l .file-bytes)) (asked 3 (same (take 5 input) (mark l)) (after-mark l (drop 5 input))) f r e .0)
 
 -- Over any limits of the file that a prefix can carry, any measure that covers a path's atom, and any output that the reading call takes.
 module _ (l : Limits) (carried : l .file-bytes < 2 ^ 34) (measure : List Bool → ℕ) (covers : Covers measure) (space : ℕ) (most : space ≤ 65535) where

@@ -4,27 +4,15 @@ use Prim.Native.Nat.{ℕ, zero, suc, _+_, _<_}
 use mathlib.Core.Path.{_≡_, refl, sym, ap, _∙_}
 use mathlib.Core.Bool.{true, false, cond}
 use mathlib.Core.List.{List, [], _∷_, _++_}
+use lib.Seq.{getD-append-seam}
 use native.Mathlib.Omega.{arith}
 use lib.ListN.{length, getD, length-append, List·getD-append}
 use borrow.Author.Tests.{ltb-true}
 use Rattle.allocator.specs.Handle.{Node, pair, listed-atom, small-atom, unknown, node-of, handle-of}
-use Rattle.allocator.specs.HandleLaws.{handle-of-node-of}
+use Rattle.allocator.specs.HandleLaws.{pair-handle}
 use Rattle.allocator.specs.SmallAtom.{small-bytes}
 use Rattle.spec_session.specs.File.{File, Pair, named}
 use Rattle.spec_session.specs.Unfold.{Unfolded, hole, leaf, node, is-sentinel, named-by, unfold-with, unfold-pairs, unfolded}
-
--- The handle of a pair is its number.
-pub pair-handle : (i : ℕ) → handle-of (pair i) ≡ i
-unfolding handle-of
-pair-handle i = omega arith
-
--- So a handle that names a pair is the pair's number.
-pub is-pair-handle : (h i : ℕ) → node-of h ≡ pair i → h ≡ i
-is-pair-handle h i e = sym (handle-of-node-of h) ∙ ap handle-of e ∙ pair-handle i
-
-getD-end : (l : List Unfolded) (x d : Unfolded) → getD (l ++ x ∷ []) (length l) d ≡ x
-getD-end [] x d = refl
-getD-end (y ∷ l) x d = getD-end l x d
 
 -- No side at all, for a place beyond the list.
 abbrev no-sides : Pair
@@ -64,7 +52,7 @@ module _ (f : File) where
       let here : getD table (length earlier) d ≡ row earlier p =
       ap (λ (x : List Unfolded). getD x (length earlier) d) t
       ∙ stays ps (earlier ++ row earlier p ∷ []) (length earlier) d (simp length-append (omega arith))
-      ∙ getD-end earlier (row earlier p) d in
+      ∙ getD-append-seam earlier (row earlier p) [] d in
       let left : unfold-with f earlier (p .left) ≡ unfold-with f table (p .left) =
       agree (p ∷ ps) earlier a (p .left) (rw z at l) ∙ ap (λ (x : List Unfolded). unfold-with f x (p .left)) (sym t) in
       let right : unfold-with f earlier (p .right) ≡ unfold-with f table (p .right) =

@@ -1,14 +1,15 @@
 -- Laws of words: parts, tables, and what a store leaves.
 use mathlib.Core.Path.{_≡_, refl, sym, ap, _∙_}
 use mathlib.Core.List.{List, [], _∷_, _++_, map, append-nil}
-use Prim.Native.Nat.{ℕ, zero, suc, _+_, _-_, _≤_, _<_}
+use Prim.Native.Nat.{ℕ, zero, suc, min, _+_, _-_, _≤_, _<_}
 use native.Mathlib.Omega.{arith}
 use native.Mathlib.Nat.{le-antisymm, not-suc-le-zero, le-of-suc-le-suc}
 use native.Mathlib.Numerals.{add-one}
 use native.Mathlib.Decide.{ℕ-discrete, decLt, decLe}
 use borrow.Rule.Slice.PartMut.{putMid, same-len-mid}
 use lib.ListN.{length, getD, take, drop, set, replicate, length-set, length-take, length-drop, drop-of-length-le, List·getD-append}
-use lib.Seq.{ext-getD, getD-take, getD-drop, getD-set-same, getD-set-other, drop-set-add, take-set-lt, take-suc, take-at, drop-at, drop-drop, length-take-le}
+use lib.Seq.{ext-getD, getD-take, getD-drop, getD-set-same, getD-set-other, drop-set-add, take-set-lt, take-suc, take-at, drop-at, drop-drop, take-all, length-take-le}
+use Rattle.words.specs.Choice.{by-lt}
 use Rattle.words.specs.Words.{part, tabulate, at}
 
 -- a list that is filled to its end
@@ -157,3 +158,9 @@ pub tabulate-same : {A : Type 0} (n : ℕ) (f g : ℕ → A) → ((k : ℕ) → 
 unfolding tabulate
 tabulate-same zero f g h = refl
 tabulate-same (suc n) f g h = λ i. h 0 (omega arith) i ∷ tabulate-same n (λ k. f (suc k)) (λ k. g (suc k)) (λ k l. h (suc k) (omega arith)) i
+
+-- Where more is asked for than there is, all is taken.
+pub take-lesser : {A : Type 0} (m n : ℕ) (l : List A) → m ≡ min n (length l) → take m l ≡ take n l
+take-lesser m n l e =
+    by-lt n (length l) (λ h. let same : m ≡ n = omega arith in ap (λ (k : ℕ). take k l) same)
+    (λ h. take-all m l (omega arith) ∙ sym (take-all n l h))

@@ -1,8 +1,9 @@
--- Laws of a choice by a test. Definitions choose by `cond` of the library.
+-- Laws of a choice by a test, and of what cannot be. Definitions choose by `cond` of the library.
 -- Assumes nothing.
 use Prim.Native.Nat.{ℕ, _≤_, _<_}
 use mathlib.Core.Path.{_≡_, refl}
-use mathlib.Core.Bool.{Bool, true, false, cond}
+use mathlib.Core.Bool.{Bool, true, false, cond, _&&_, false≢true}
+use native.Mathlib.Omega.{arith}
 use lib.Dec.{ltb}
 use borrow.Author.Tests.{ltb-true, ltb-false}
 
@@ -24,3 +25,12 @@ by-lt {X} a b f g = go (ltb a b) refl
     go : (c : Bool) → ltb a b ≡ c → X
     go true e = f (ltb-true a b e)
     go false e = g (ltb-false a b e)
+
+-- Both of two tests.
+pub both-true : (a b : Bool) → (a && b) ≡ true → (a ≡ true) × (b ≡ true)
+both-true true b e = (refl, e)
+both-true false b e = absurd (false≢true e)
+
+-- Where two different constructors are the same, `cc` gives 0 ≡ 1, and anything follows.
+pub clash {ℓ} : {X : Type ℓ} → _≡_ {A = ℕ} 0 1 → X
+clash e = absurd (omega arith)

@@ -2,7 +2,7 @@
 -- Assumes nothing.
 use Prim.Native.Nat.{ℕ, zero, suc, _<_}
 use mathlib.Core.Path.{_≡_, refl}
-use mathlib.Core.Bool.{Bool, true, false, _&&_}
+use mathlib.Core.Bool.{Bool, true, false, _&&_, false≢true}
 use mathlib.Core.List.{List, [], _∷_, _++_}
 use lib.Dec.{eqb}
 use lib.ListN.{length, getD, take, drop}
@@ -36,6 +36,12 @@ module _ {ℓ} {A : Type ℓ} (P : A → Type 0) where
   all-at (x ∷ xs) d zero h l = h .0
   all-at (x ∷ xs) d (suc i) h l = all-at xs d i (h .1) (le-of-suc-le-suc l)
 
+  -- At a place past the end the default stands.
+  pub all-or : (xs : List A) (d : A) (i : ℕ) → All P xs → P d → P (getD xs i d)
+  all-or [] d i h p = p
+  all-or (x ∷ xs) d zero h p = h .0
+  all-or (x ∷ xs) d (suc i) h p = all-or xs d i (h .1) p
+
   pub all-of : (xs : List A) (d : A) → ((i : ℕ) → i < length xs → P (getD xs i d)) → All P xs
   all-of [] d f = tt
   all-of (x ∷ xs) d f = (f 0 (omega arith), all-of xs d (λ i l. f (suc i) (omega arith)))
@@ -59,15 +65,12 @@ pub same-refl : (xs : List ℕ) → same xs xs ≡ true
 same-refl [] = refl
 same-refl (x ∷ xs) = rw (eq-eqb x x refl) (same-refl xs)
 
-not-true : _≡_ {A = Bool} false true → ⊥
-not-true q = let z : _≡_ {A = ℕ} 0 1 = cc in omega arith
-
 pub same-eq : (xs ys : List ℕ) → same xs ys ≡ true → xs ≡ ys
 same-eq [] [] e = refl
-same-eq [] (y ∷ ys) e = absurd (not-true e)
-same-eq (x ∷ xs) [] e = absurd (not-true e)
+same-eq [] (y ∷ ys) e = absurd (false≢true e)
+same-eq (x ∷ xs) [] e = absurd (false≢true e)
 same-eq (x ∷ xs) (y ∷ ys) e = go (eqb x y) refl e (λ r. same-eq xs ys r)
   where
     go : (b : Bool) → eqb x y ≡ b → (b && same xs ys) ≡ true → (same xs ys ≡ true → xs ≡ ys) → _≡_ {A = List ℕ} (x ∷ xs) (y ∷ ys)
     go true q r f = let h : x ≡ y = eqb-true x y q in let t : xs ≡ ys = f r in rw (h, t)
-    go false q r f = absurd (not-true r)
+    go false q r f = absurd (false≢true r)

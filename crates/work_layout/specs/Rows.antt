@@ -1,12 +1,25 @@
--- What the words of the cache hold: entries as rows of words, their chains by slot, the stack; and when they are sound.
+-- What the words of work hold: where the file's listed atoms lie; entries as rows of words, their chains by slot, the stack; and when they are sound.
 use Prim.Native.Nat.{ℕ, zero, suc, _+_, _*_, _/_, _%_, _^_, _-_, _≤_, _<_}
 use mathlib.Core.Path.{_≡_}
 use mathlib.Core.Bool.{Bool, cond}
 use mathlib.Core.List.{List, [], _∷_, map}
 use lib.Dec.{eqb}
-use lib.ListN.{length}
+use lib.ListN.{length, take, drop}
 use Rattle.words.specs.Words.{at, part, tabulate, WORK}
-use Rattle.work_layout.specs.Layout.{TOPS, STACK, USED, COUNTS, LEFT, RIGHT, LOW, HIGH, NEXT, HEADS, PARENTS, ENTRIES, MAX-PARENTS, SLOTS, DEPTH}
+use Rattle.work_layout.specs.Layout.{ATOMS, TOPS, STACK, USED, COUNTS, LEFT, RIGHT, LOW, HIGH, NEXT, HEADS, PARENTS, ENTRIES, MAX-PARENTS, SLOTS, DEPTH}
+
+-- ---- the file's listed atoms
+
+-- Where the bytes of listed atom i start and end in the file.
+abbrev pub start-of : List ℕ → ℕ → ℕ
+start-of w i = at w (ATOMS + 2 * i)
+
+abbrev pub end-of : List ℕ → ℕ → ℕ
+end-of w i = at w (ATOMS + 2 * i + 1)
+
+-- The bytes of listed atom i.
+unfoldable pub atom-bytes : (file w : List ℕ) → ℕ → List ℕ
+atom-bytes file w i = take (end-of w i - start-of w i) (drop (start-of w i) file)
 
 -- ---- entries
 

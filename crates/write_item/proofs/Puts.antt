@@ -11,7 +11,7 @@ use lib.Dec.{leb}
 use borrow.Author.Tests.{le-leb, lt-leb, leb-true, leb-false, not-true, not-false}
 use lib.ListN.{length, take, drop, set}
 use lib.Seq.{paste, set-split, append-snoc}
-use Rattle.words.specs.Choice.{by-lt}
+use Rattle.words.specs.Choice.{by-lt, clash}
 use Rattle.atom.specs.Prefix.{encode}
 use Rattle.atom.specs.RoundTrip.{has-form}
 use Rattle.atom.specs.Write.{next, full, too-long, Written, put}
@@ -54,10 +54,10 @@ encode-there atom h = go (encode atom) refl
 
 -- An answer is one of three.
 not-full : {X : Type 0} → too-long ≡ full → X
-not-full e = absurd (let z : _≡_ {A = ℕ} 0 1 = cc in omega arith)
+not-full e = clash cc
 
 not-next : {X : Type 0} (p : ℕ) → too-long ≡ next p → X
-not-next p e = absurd (let z : _≡_ {A = ℕ} 0 1 = cc in omega arith)
+not-next p e = clash cc
 
 module _ (out : List ℕ) (p : ℕ) (atom : List ℕ) (h : length atom < 2 ^ 34) where
   -- What a write of the atom came to is what a write of the item comes to.

@@ -26,7 +26,8 @@ ghost use Rattle.search_find.specs.declared.find_path.Path.the-variants.{At};
 ghost use Rattle.write_item.specs.Answers.{written};
 ghost use Rattle.cache_entries.specs.Meaning.{Names, Whole};
 ghost use Rattle.write_loop.specs.declared.write_turn.Next.the-variants.{Parse};
-ghost use Rattle.write_place.specs.State.{AtomPlaces, bytes-at};
+ghost use Rattle.work_layout.specs.Rows.{atom-bytes};
+ghost use Rattle.write_place.specs.State.{AtomPlaces};
 ghost use Rattle.write_loop.specs.Contracts.{Turns, Falls, Found, AtomPut, Pushes};
 
 // What comes next in the loop.
@@ -46,7 +47,7 @@ fn write_listed(work: &[u32], file: &[u8], output: &mut [u8], size: usize, i: us
     ensures { λ r. ⌜
         written r (now (output .exit))
         ≡ put (now (output .entry)) size
-        (some (item-bytes (atom-item (bytes-at (now (file .entry)) (now (work .entry)) i)))) ⌝ }
+        (some (item-bytes (atom-item (atom-bytes (now (file .entry)) (now (work .entry)) i)))) ⌝ }
 {
     let start = listed_atoms::start_of(work, i);
     let end = listed_atoms::end_of(work, i);

@@ -4,7 +4,7 @@ use mathlib.Core.Path.{_≡_}
 use mathlib.Core.Bool.{cond}
 use mathlib.Core.List.{List, [], _∷_}
 use lib.Dec.{eqb}
-use lib.ListN.{length, getD, take, drop}
+use lib.ListN.{length, getD, take}
 use Rattle.words.specs.Words.{at}
 use Rattle.spec_search.specs.Search.{member}
 use Rattle.spec_session.specs.File.{File}
@@ -12,8 +12,8 @@ use Rattle.spec_session.specs.Unfold.{unfolded}
 use Rattle.spec_session.specs.Cache.{Cache}
 use Rattle.spec_session.specs.Items.{size-of, output}
 use Rattle.spec_session.specs.Writer.{Todo, parse, close, Written}
-use Rattle.work_layout.specs.Layout.{ATOMS, PAIRS, ATOM-COUNT, PAIR-COUNT, OPEN, MOVED, SEEN, COPIES, ENTRIES}
-use Rattle.work_layout.specs.Rows.{stack-of, all-counts}
+use Rattle.work_layout.specs.Layout.{PAIRS, ATOM-COUNT, PAIR-COUNT, OPEN, MOVED, SEEN, COPIES, ENTRIES}
+use Rattle.work_layout.specs.Rows.{start-of, end-of, atom-bytes, stack-of, all-counts}
 use Rattle.cache_stack.specs.marks.Contracts.{marked-at}
 use Rattle.cache_stack.specs.Contracts.{Stacked}
 use Rattle.cache_entries.specs.Meaning.{Holds, Whole}
@@ -23,16 +23,12 @@ use Rattle.cache_entries.specs.Meaning.{Holds, Whole}
 -- Where each atom's bytes start and end.
 pub record AtomPlaces (file w : List ℕ) : Type 0 where
   pub short : length file ≤ 65535
-  pub ordered : (i : ℕ) → i < at w ATOM-COUNT → at w (ATOMS + 2 * i) ≤ at w (ATOMS + 2 * i + 1)
-  pub inside : (i : ℕ) → i < at w ATOM-COUNT → at w (ATOMS + 2 * i + 1) ≤ length file
+  pub ordered : (i : ℕ) → i < at w ATOM-COUNT → start-of w i ≤ end-of w i
+  pub inside : (i : ℕ) → i < at w ATOM-COUNT → end-of w i ≤ length file
 
--- The bytes from there on.
-abbrev pub bytes-at : (file w : List ℕ) → (i : ℕ) → List ℕ
-bytes-at file w i = take (at w (ATOMS + 2 * i + 1) - at w (ATOMS + 2 * i)) (drop (at w (ATOMS + 2 * i)) file)
-
--- They are those of the file's atoms.
+-- The bytes there are those of the file's atoms.
 pub record AtomsThere (file : List ℕ) (f : File) (w : List ℕ) : Type 0 where
-  pub bytes : (i : ℕ) → i < length (f .atoms) → bytes-at file w i ≡ getD (f .atoms) i []
+  pub bytes : (i : ℕ) → i < length (f .atoms) → atom-bytes file w i ≡ getD (f .atoms) i []
 
 -- ---- what is left to write: each open pair is its number, doubled, and 1 where its right side is still to come
 

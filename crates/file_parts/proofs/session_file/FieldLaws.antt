@@ -1,7 +1,7 @@
 -- Laws of one field: the code's answer is what the definition gives.
 -- Assumes nothing.
 use Prim.Native.Nat.{ℕ, _+_, _-_, _≤_, _<_}
-use mathlib.Core.Path.{_≡_, refl, sym, ap, subst, _∙_}
+use mathlib.Core.Path.{_≡_, refl, sym, ap, ap₂, subst, _∙_}
 use mathlib.Core.Bool.{Bool, true, false, cond}
 use mathlib.Core.List.{List}
 use mathlib.Core.Option.{Option, none, some}
@@ -10,7 +10,7 @@ use lib.Dec.{ltb, leb, eqb}
 use lib.ListN.{length, take, drop, length-drop}
 use lib.Seq.{drop-drop}
 use borrow.Author.Tests.{lt-ltb, le-ltb, le-leb, lt-leb, eq-eqb, ne-eqb}
-use Rattle.words.specs.Choice.{cond-true, cond-false}
+use Rattle.words.specs.Choice.{cond-true, cond-false, clash}
 use Rattle.words.specs.Words.{part}
 use Rattle.words.specs.BigEndian.{number}
 use Rattle.words.proofs.Words.{part-length}
@@ -142,12 +142,12 @@ module _ (input : List ℕ) (p : Part) (at used : ℕ) (h : Answers input itself
 
 -- The answer of `fits_in_small_atom` is question 6's.
 small-no : (o : Option ℕ) (v : ℕ) → Small v ≡ fits-answer o → listed o ≡ false
-small-no none v e = absurd (let z : _≡_ {A = ℕ} 0 1 = cc in omega arith)
+small-no none v e = clash cc
 small-no (some w) v e = refl
 
 listed-yes : (o : Option ℕ) → Listed ≡ fits-answer o → listed o ≡ true
 listed-yes none e = refl
-listed-yes (some w) e = absurd (let z : _≡_ {A = ℕ} 0 1 = cc in omega arith)
+listed-yes (some w) e = clash cc
 
 module _ (input : List ℕ) (q : Part) (start n used : ℕ) (h : start ≤ length input) where
   pub atom-short : length input - start < n → q .number ≡ 4 → Answers input sized q (atom-of used n (drop start input))
@@ -195,29 +195,20 @@ module _ (input : List ℕ) (q : Part) (start n used : ℕ) (h : start ≤ lengt
 -- ---- handles
 
 -- A node's type and index say whether it is named.
-pub named-pair : (a p : ℕ) (n : Node) (t : ObjectType) (i : ℕ) → t ≡ object-type-of n → i ≡ index-of n → t ≡ Pair → ltb i p ≡ named a p n
-named-pair a p (pair j) t i e f k = ap (λ (x : ℕ). ltb x p) f
-named-pair a p (listed-atom j) t i e f k = absurd (let z : _≡_ {A = ℕ} 0 1 = cc in omega arith)
-named-pair a p (small-atom v) t i e f k = absurd (let z : _≡_ {A = ℕ} 0 1 = cc in omega arith)
-named-pair a p (unknown b j) t i e f k = absurd (let z : _≡_ {A = ℕ} 0 1 = cc in omega arith)
+abbrev pub type-named : (a p : ℕ) → ObjectType → ℕ → Bool
+type-named a p Pair i = ltb i p
+type-named a p Bytes i = ltb i a
+type-named a p SmallAtom i = true
+type-named a p Unknown i = false
 
-pub named-bytes : (a p : ℕ) (n : Node) (t : ObjectType) (i : ℕ) → t ≡ object-type-of n → i ≡ index-of n → t ≡ Bytes → ltb i a ≡ named a p n
-named-bytes a p (pair j) t i e f k = absurd (let z : _≡_ {A = ℕ} 0 1 = cc in omega arith)
-named-bytes a p (listed-atom j) t i e f k = ap (λ (x : ℕ). ltb x a) f
-named-bytes a p (small-atom v) t i e f k = absurd (let z : _≡_ {A = ℕ} 0 1 = cc in omega arith)
-named-bytes a p (unknown b j) t i e f k = absurd (let z : _≡_ {A = ℕ} 0 1 = cc in omega arith)
+named-of-type : (a p : ℕ) (n : Node) → type-named a p (object-type-of n) (index-of n) ≡ named a p n
+named-of-type a p (pair i) = refl
+named-of-type a p (listed-atom i) = refl
+named-of-type a p (small-atom v) = refl
+named-of-type a p (unknown k i) = refl
 
-pub named-small : (a p : ℕ) (n : Node) (t : ObjectType) → t ≡ object-type-of n → t ≡ SmallAtom → true ≡ named a p n
-named-small a p (pair j) t e k = absurd (let z : _≡_ {A = ℕ} 0 1 = cc in omega arith)
-named-small a p (listed-atom j) t e k = absurd (let z : _≡_ {A = ℕ} 0 1 = cc in omega arith)
-named-small a p (small-atom v) t e k = refl
-named-small a p (unknown b j) t e k = absurd (let z : _≡_ {A = ℕ} 0 1 = cc in omega arith)
-
-pub named-unknown : (a p : ℕ) (n : Node) (t : ObjectType) → t ≡ object-type-of n → t ≡ Unknown → false ≡ named a p n
-named-unknown a p (pair j) t e k = absurd (let z : _≡_ {A = ℕ} 0 1 = cc in omega arith)
-named-unknown a p (listed-atom j) t e k = absurd (let z : _≡_ {A = ℕ} 0 1 = cc in omega arith)
-named-unknown a p (small-atom v) t e k = absurd (let z : _≡_ {A = ℕ} 0 1 = cc in omega arith)
-named-unknown a p (unknown b j) t e k = refl
+pub named-by-type : (a p : ℕ) (n : Node) (t u : ObjectType) (i : ℕ) → t ≡ object-type-of n → t ≡ u → i ≡ index-of n → type-named a p u i ≡ named a p n
+named-by-type a p n t u i e f k = ap₂ (type-named a p) (sym f ∙ e) k ∙ named-of-type a p n
 
 module _ (input : List ℕ) (p : Part) (at na np : ℕ) (h : Answers input itself p (field 4 (drop at input))) where
   pub handle-refused : (p .number ≡ 0 → ⊥) → Answers input itself p (handle na np (drop at input))

@@ -6,10 +6,10 @@ use mathlib.Core.List.{List, [], _∷_, _++_}
 use native.Mathlib.Omega.{arith}
 use lib.ListN.{length, drop, length-drop, length-append, drop-of-length-le}
 use lib.Seq.{drop-cons}
+use Rattle.file_parts.specs.PlaceLaws.{size-low}
 use Rattle.file_parts.specs.declared.session_file.Part.{Part}
-use Rattle.spec_session.specs.File.{Got, got, and-then, version-1, atom, atoms, Pair, one-pair, pairs, Step, add, restore, one-step, steps}
+use Rattle.spec_session.specs.File.{Got, got, and-then, version-1, atom, atoms, Pair, one-pair, pairs, Step, one-step, steps}
 use Rattle.file_parts.specs.Answers.{Answers, sized, pair-word, operand-word, counted}
-use Rattle.spec_session.specs.Places.{step-size}
 use Rattle.spec_session.specs.FileLaws.{atom-at, step-at}
 use Rattle.file_parts.proofs.session_file.FieldLaws.{Taken, taken, gives, then-refused}
 
@@ -146,10 +146,6 @@ steps-more zero na np most done input at h l = absurd (omega arith)
 steps-more (suc n) na np most done input at h l =
     let p : suc n - 1 ≡ n = omega arith in
     rw (p, drop-cons input at 0 h) refl
-
-size-low : (x : Step) → 3 ≤ step-size x
-size-low (add h) = omega arith
-size-low (restore k) = omega arith
 
 module _ {input : List ℕ} {at na np next done : ℕ} (s : StepsSoFar input at na np next done) where
   pub steps-end : (p : Part) → length input ≤ next → next ≤ length input → p .number ≡ 0 → p .value ≡ done → p .next ≡ next

@@ -4,7 +4,7 @@ use Prim.Native.Nat.{_-_}
 use mathlib.Core.Path.{sym, _∙_}
 use native.Mathlib.Omega.{arith}
 use borrow.Author.Needs.{needs}
-use Rattle.file_tables.specs.Listed.{atom-bytes}
+use Rattle.work_layout.specs.Rows.{atom-bytes}
 use Rattle.file_tables.proofs.listed_atoms.Slots.{slot-low}
 use Rattle.file_tables.proofs.Seeking.{Seek, seek-start, seek-low, seek-found, seek-less, seek-next, seek-none}
 use Rattle.file_tables.proofs.find_first.Statement.{statement}

@@ -12,7 +12,8 @@ use Rattle.atom.specs.Prefix.{prefix-width}
 use Rattle.atom.specs.PrefixLaws.{prefixed}
 use Rattle.atom.specs.Write.{serialized-length}
 use Rattle.atom.specs.WriteLaws.{length-some, length-none}
-use Rattle.file_tables.specs.Listed.{start-of, end-of, atom-bytes, wrapped-sum, slot-of}
+use Rattle.work_layout.specs.Rows.{start-of, end-of, atom-bytes}
+use Rattle.file_tables.specs.Listed.{wrapped-sum, slot-of}
 
 -- The part of the file from an atom's start to its end.
 pub bytes-are : (file w : List ℕ) (i : ℕ) {s e : ℕ} → s ≡ start-of w i → e ≡ end-of w i → take (e - s) (drop s file) ≡ atom-bytes file w i

@@ -3,7 +3,7 @@
 use native.Mathlib.Omega.{arith}
 use lib.ListN.{length-set}
 use borrow.Author.Needs.{needs}
-use Rattle.file_tables.specs.Listed.{atom-bytes}
+use Rattle.work_layout.specs.Rows.{atom-bytes}
 use Rattle.file_tables.proofs.First.{first-of-le}
 use Rattle.file_tables.proofs.listed_atoms.Slots.{slot-low}
 use Rattle.file_tables.proofs.Turns.{known-turn, new-turn}

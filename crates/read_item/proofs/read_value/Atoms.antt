@@ -7,6 +7,7 @@ use mathlib.Core.Option.{Option, none, some}
 use native.Mathlib.Omega.{arith}
 use lib.ListN.{length, take, drop, length-drop}
 use lib.Seq.{drop-drop}
+use Rattle.words.specs.Choice.{clash}
 use Rattle.atom.specs.Parse.{Parse, blob, refused, parse, moved-by, parse-at, blob-of}
 use Rattle.atom.specs.ParseLaws.{blob-there}
 use Rattle.allocator.specs.SmallAtom.{fits-in-small-atom}
@@ -48,7 +49,7 @@ pub found-at : (input : List ℕ) (p start end : ℕ) → p ≤ length input →
 found-at input p start end h e = go-on (parse (drop p input)) refl (e ∙ unfold parse-at in refl)
   where
     go-on : (z : Parse) → parse (drop p input) ≡ z → blob start end ≡ moved-by p (parse (drop p input)) → Found input p start end
-    go-on (refused n) q r = absurd (let x : blob start end ≡ refused n = r ∙ ap (moved-by p) q in let z : _≡_ {A = ℕ} 0 1 = cc in omega arith)
+    go-on (refused n) q r = absurd (let x : blob start end ≡ refused n = r ∙ ap (moved-by p) q in clash cc)
     go-on (blob s k) q r =
         let x : blob start end ≡ blob (p + s) (p + k) = r ∙ ap (moved-by p) q in
         let i : start ≡ p + s = cc in
@@ -69,7 +70,7 @@ refused-at input p n e = go-on (parse (drop p input)) refl (e ∙ unfold parse-a
   where
     go-on : (z : Parse) → parse (drop p input) ≡ z → refused n ≡ moved-by p (parse (drop p input)) → parse (drop p input) ≡ refused n
     go-on (refused m) q r = q ∙ sym (r ∙ ap (moved-by p) q)
-    go-on (blob s k) q r = absurd (let x : refused n ≡ blob (p + s) (p + k) = r ∙ ap (moved-by p) q in let z : _≡_ {A = ℕ} 0 1 = cc in omega arith)
+    go-on (blob s k) q r = absurd (let x : refused n ≡ blob (p + s) (p + k) = r ∙ ap (moved-by p) q in clash cc)
 
 -- ---- what was pushed
 

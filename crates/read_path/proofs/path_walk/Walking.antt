@@ -79,12 +79,6 @@ down-more bits depth i d h l e =
 
 -- ---- down the store
 
-pub pair-of : (n : Node) → is-pair n ≡ true → n ≡ pair (index-of n)
-pair-of (pair i) e = refl
-pair-of (listed-atom i) e = absurd (let z : _≡_ {A = ℕ} 0 1 = cc in omega arith)
-pair-of (small-atom v) e = absurd (let z : _≡_ {A = ℕ} 0 1 = cc in omega arith)
-pair-of (unknown k i) e = absurd (let z : _≡_ {A = ℕ} 0 1 = cc in omega arith)
-
 pub pair-within : (m : ℕ) (n : Node) → is-pair n ≡ true → Within m n → index-of n < m
 pair-within m (pair i) e w = w
 pair-within m (listed-atom i) e w = absurd (let z : _≡_ {A = ℕ} 0 1 = cc in omega arith)

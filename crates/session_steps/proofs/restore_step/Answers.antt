@@ -13,7 +13,7 @@ use Rattle.file_parts.specs.declared.session_file.NextStep.the-variants as next
 use Rattle.spec_session.specs.Steps.{run-steps}
 use Rattle.session_state.specs.declared.progress.Progress.{Progress}
 use Rattle.session_state.specs.declared.progress.StepAnswer.{StepAnswer}
-use Rattle.session_state.specs.Stored.{bit}
+use Rattle.path.specs.Bytes.{bit}
 use Rattle.session_state.specs.Moves.{noted-at, undone-at, stopped-at}
 use Rattle.session_state.specs.State.{size-at, Underway, slot-for}
 use Rattle.session_state.specs.Steps.{Comes, Ready, Onward}

@@ -4,6 +4,7 @@ use Prim.Native.Nat.{ℕ, zero, suc, _+_, _*_, _≤_, _<_}
 use mathlib.Core.Path.{_≡_, refl, sym, ap, subst, _∙_}
 use mathlib.Core.List.{List, _∷_}
 use mathlib.Core.Option.{Option, some}
+use lib.Seq.{getD-set-same, getD-set-other, set-getD}
 use native.Mathlib.Omega.{arith}
 use lib.Dec.{ltb}
 use lib.ListN.{length, getD, set, take, length-set}
@@ -26,12 +27,13 @@ use Rattle.cache_entries.proofs.Frames.{tables-kept}
 use Rattle.write_place.specs.State.{todo-of, Running, Writes}
 use Rattle.write_loop.proofs.write_turn.Frames.{todo-same, rights-same, pairs-few}
 use Rattle.session_state.specs.declared.progress.Progress.{Progress}
-use Rattle.session_state.specs.Stored.{bit, with-entry}
+use Rattle.path.specs.Bytes.{bit}
+use Rattle.session_state.specs.Stored.{with-entry}
 use Rattle.session_state.specs.Moves.{noted-at, undone-at}
 use Rattle.session_state.specs.State.{whole-run, after-words, Before, History, Stocked, Underway, slot-for}
 use Rattle.session_steps.specs.restore_step.Contracts.{Undoing, Undone}
-use Rattle.session_state.proofs.Slots.{Found, nth-found, set-same, set-there, set-here}
-use Rattle.session_state.proofs.Frames.{places-kept, atoms-kept, whole-kept, holds-kept, unmapped-kept, all-counts-kept}
+use Rattle.session_state.proofs.Slots.{Found, nth-found}
+use Rattle.write_place.proofs.Frames.{places-kept, atoms-kept, whole-kept, holds-kept, unmapped-kept, all-counts-kept}
 use Rattle.session_state.proofs.Runs.{run-restore}
 use Rattle.session_state.proofs.States.{history-back, go-on}
 
@@ -43,16 +45,16 @@ entry-length v (suc e) = length-set v SENTINEL-ENTRY (suc e)
 
 entry-other : (v : List ℕ) (r k : ℕ) → (k ≡ SENTINEL-ENTRY → ⊥) → at (with-entry v r) k ≡ at v k
 entry-other v zero k n = refl
-entry-other v (suc e) k n = set-there v SENTINEL-ENTRY k (suc e) 0 n
+entry-other v (suc e) k n = getD-set-other v SENTINEL-ENTRY k (suc e) 0 n
 
 entry-known : (v : List ℕ) (r : ℕ) → WORK ≤ length v
     → or-known (entry-or-none r) (entry-or-none (at v SENTINEL-ENTRY)) ≡ entry-or-none (at (with-entry v r) SENTINEL-ENTRY)
 entry-known v zero l = refl
-entry-known v (suc e) l = ap entry-or-none (sym (set-here v SENTINEL-ENTRY (suc e) 0 (omega arith)))
+entry-known v (suc e) l = ap entry-or-none (sym (getD-set-same v SENTINEL-ENTRY (suc e) 0 (omega arith)))
 
 entry-low : (v : List ℕ) (r n : ℕ) → WORK ≤ length v → r ≤ n → at v SENTINEL-ENTRY ≤ n → at (with-entry v r) SENTINEL-ENTRY ≤ n
 entry-low v zero n l a b = b
-entry-low v (suc e) n l a b = omega (arith, set-here v SENTINEL-ENTRY (suc e) 0 (omega arith))
+entry-low v (suc e) n l a b = omega (arith, getD-set-same v SENTINEL-ENTRY (suc e) 0 (omega arith))
 
 -- ---- a restore
 
@@ -171,8 +173,8 @@ module _ {input : List ℕ} {f : File} {w words : List ℕ} {rows : List Checkpo
 
     holds : Holds f w′ (back .cache)
     holds =
-        subst (λ (o : Option ℕ). Holds f w′ (record { entries = u .session .cache .entries; mapped = u .session .cache .mapped; sentinel-entry = o })) entry
-        (holds-kept w w′ long low maps cache wh f (u .session .cache) (u .stocked .tables) (u .present .writes .cache))
+        holds-kept w w′ long low maps cache wh f (u .session .cache) (or-known (found .value .sentinel-entry) (u .session .cache .sentinel-entry)) (u .stocked .tables)
+        (u .present .writes .cache) (sym entry)
 
     written-is : found .value .written ≡ before .session-then .written
     written-is = ap (λ (x : UndoState). x .written) (before .is)
@@ -219,7 +221,7 @@ module _ {input : List ℕ} {f : File} {w words : List ℕ} {rows : List Checkpo
         → Underway input f w′ words′ (set rows (slot-for (u .left) (p .adds)) r) out t
     restored-on next there {words′} {q} {t} qi ws ti =
         subst (λ (x : Progress). Underway input f w′ words′ (set rows (slot-for (u .left) (p .adds)) r) out x) (sym ti)
-        (subst (λ (x : List Checkpoint). Underway input f w′ words′ x out (noted-at q next)) (sym (set-same rows (slot-for (u .left) (p .adds)) r blank in-rows r-is))
+        (subst (λ (x : List Checkpoint). Underway input f w′ words′ x out (noted-at q next)) (sym (ap (set rows (slot-for (u .left) (p .adds))) (sym r-is) ∙ set-getD rows (slot-for (u .left) (p .adds)) blank))
         (subst (λ (x : Progress). words′ ≡ set words (x .steps) (x .size * 2 + bit (x .finished)) → Underway input f w′ words′ rows out (noted-at x next)) (sym qi)
         (λ y. go-on input f w′ words words′ rows out (undone-at p r n) next rest (take n (u .past)) back
         (record { running = running; writes = writes; waiting = waiting }) stocked history (omega (arith, u .few-adds)) there

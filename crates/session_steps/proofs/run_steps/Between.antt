@@ -13,7 +13,7 @@ use Rattle.spec_session.specs.File.{Step}
 use Rattle.spec_session.specs.Places.{StepsAt}
 use Rattle.session_state.specs.declared.progress.Progress.{Progress}
 use Rattle.session_state.specs.declared.progress.StepAnswer.{StepAnswer}
-use Rattle.session_state.specs.Stored.{bit}
+use Rattle.path.specs.Bytes.{bit}
 use Rattle.session_state.specs.State.{the-file, Underway, Stands, slot-for}
 use Rattle.session_state.specs.Steps.{Ready, Onward}
 use Rattle.session_state.proofs.Answers.{stands-on, under, ended}

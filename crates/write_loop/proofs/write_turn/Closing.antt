@@ -174,9 +174,6 @@ module _ (w : List ℕ) (p : Place) (st : Standing w (p .opens) (p .depth) 1) (n
       mid-whole : Whole mid
       mid-whole = whole-stays w mid (to-mid .len) (beside-only w mid to-mid) (st .whole)
 
-      after : Place
-      after = record { opens = n; depth = p .depth - 1; size = p .size }
-
       one-less : p .depth - 2 + 1 ≡ p .depth - 1
       one-less = omega (arith, two-there)
 

@@ -2,19 +2,18 @@
 -- Assumes nothing.
 use Prim.Native.Nat.{ℕ, zero, suc, _+_, _*_, _/_, _%_, _≤_, _<_}
 use mathlib.Core.Path.{_≡_, refl, sym, ap, _∙_}
-use mathlib.Core.List.{List, map}
+use mathlib.Core.List.{List}
 use native.Mathlib.Omega.{arith}
 use lib.ListN.{length}
 use Rattle.words.specs.Words.{at}
 use Rattle.spec_session.specs.File.{File}
 use Rattle.spec_session.specs.Cache.{Cache}
-use Rattle.work_layout.specs.Layout.{ATOMS, PAIRS, ATOM-COUNT, PAIR-COUNT, OPEN, STACK, MOVED, MAPS, SENTINEL-ENTRY, USED, LEFT, RIGHT, SEEN, COPIES, ENTRIES}
-use Rattle.work_layout.specs.Rows.{Row, all-counts}
+use Rattle.work_layout.specs.Layout.{PAIRS, ATOM-COUNT, PAIR-COUNT, OPEN, STACK, MOVED, MAPS, SENTINEL-ENTRY, USED, SEEN, COPIES, ENTRIES}
+use Rattle.work_layout.specs.Rows.{all-counts}
 use Rattle.cache_stack.specs.Contracts.{Stacked}
-use Rattle.cache_entries.specs.Meaning.{entry-of, entry-or-none, Tables, Names, Whole, Holds}
-use Rattle.cache_entries.proofs.Entries.{used-kept, sound-kept, rows-kept, counts-kept}
+use Rattle.cache_entries.specs.Meaning.{entry-or-none, Tables, Names, Whole, Holds}
 use Rattle.cache_entries.proofs.Frames.{tables-kept}
-use Rattle.cache_entries.proofs.Making.{whole-of}
+use Rattle.write_place.proofs.Frames.{places-kept, atoms-kept, whole-kept, holds-kept, all-counts-kept}
 use Rattle.write_place.specs.State.{AtomPlaces, AtomsThere, todo-of, rights-left, Standing, WriterOnly}
 
 pub only-both : (u v w : List ℕ) → WriterOnly u v → WriterOnly v w → WriterOnly u w
@@ -32,29 +31,21 @@ module _ (w w′ : List ℕ) (len : length w′ ≡ length w) (o : WriterOnly w 
   entries-same : (k : ℕ) → USED ≤ k → k < SEEN → at w′ k ≡ at w k
   entries-same k a b = o .cache k (omega arith) b
 
+  maps-same : (k : ℕ) → k < 1024 → at w′ (MAPS + k) ≡ at w (MAPS + k)
+  maps-same k h = o .cache (MAPS + k) (omega arith) (omega arith)
+
+  entry-same : at w′ SENTINEL-ENTRY ≡ at w SENTINEL-ENTRY
+  entry-same = o .cache SENTINEL-ENTRY (omega arith) (omega arith)
+
   pub whole-stays : Whole w′
-  whole-stays =
-      let u = used-kept w w′ len entries-same (wh .sound) in
-      let few = wh .sound .used in
-      let p = wh .handles .few-pairs in
-      let s = o .cache SENTINEL-ENTRY (omega arith) (omega arith) in
-      whole-of w w′ wh (sound-kept w w′ len entries-same (wh .sound)) (o .low)
-      (λ e h. rw (entries-same (LEFT + e) (omega arith) (omega arith), entries-same (RIGHT + e) (omega arith) (omega arith)) (wh .keys e (omega arith)))
-      (λ i h. let m = o .cache (MAPS + i) (omega arith) (omega arith) in omega (arith, wh .maps i h))
-      (omega (arith, wh .sentinel-entry))
+  whole-stays = whole-kept w w′ len (o .low) maps-same entries-same wh (omega (arith, entry-same, wh .sentinel-entry))
 
   pub counts-stay : all-counts w′ ENTRIES ≡ all-counts w ENTRIES
-  counts-stay = counts-kept w w′ len entries-same (wh .sound) ENTRIES (omega arith)
+  counts-stay = all-counts-kept w w′ len (o .low) maps-same entries-same wh
 
   pub holds-stay : (f : File) (c : Cache) → Tables f w → Holds f w c → Holds f w′ c
   holds-stay f c t ho =
-      let p = wh .handles .few-pairs in
-      let n = t .pair-count in
-      record {
-        entries = ho .entries ∙ ap (λ (xs : List Row). map (entry-of f) xs) (sym (rows-kept w w′ len entries-same (wh .sound)));
-        mapped = λ i l. ho .mapped i l ∙ ap entry-or-none (sym (o .cache (MAPS + i) (omega arith) (omega arith)));
-        sentinel-entry = ho .sentinel-entry ∙ ap entry-or-none (sym (o .cache SENTINEL-ENTRY (omega arith) (omega arith)));
-      }
+      holds-kept w w′ len (o .low) maps-same entries-same wh f c (c .sentinel-entry) t ho (ho .sentinel-entry ∙ ap entry-or-none (sym entry-same))
 
   pub tables-stay : (f : File) → Tables f w → Tables f w′
   tables-stay f t = tables-kept w w′ (o .low) f (wh .handles) t
@@ -66,23 +57,10 @@ module _ (w w′ : List ℕ) (len : length w′ ≡ length w) (o : WriterOnly w 
   names-stay p q h e n = rw (e, o .low ATOM-COUNT (omega arith)) n
 
   pub places-stay : (file : List ℕ) → AtomPlaces file w → AtomPlaces file w′
-  places-stay file a =
-      let n = o .low ATOM-COUNT (omega arith) in
-      let few = wh .handles .few-atoms in
-      record {
-        short = a .short;
-        ordered = λ i h.
-            let x = o .low (ATOMS + 2 * i) (omega arith) in
-            let y = o .low (ATOMS + 2 * i + 1) (omega arith) in
-            omega (arith, a .ordered i (omega arith));
-        inside = λ i h. let y = o .low (ATOMS + 2 * i + 1) (omega arith) in omega (arith, a .inside i (omega arith));
-      }
+  places-stay file a = places-kept w w′ (o .low) (wh .handles .few-atoms) file a
 
   pub atoms-stay : (file : List ℕ) (f : File) → Tables f w → AtomsThere file f w → AtomsThere file f w′
-  atoms-stay file f t a =
-      let n = t .atom-count in
-      let few = wh .handles .few-atoms in
-      record { bytes = λ i h. rw (o .low (ATOMS + 2 * i) (omega arith), o .low (ATOMS + 2 * i + 1) (omega arith)) (a .bytes i h) }
+  atoms-stay file f t a = atoms-kept w w′ (o .low) (wh .handles .few-atoms) file f t a
 
 -- ---- the open pairs
 

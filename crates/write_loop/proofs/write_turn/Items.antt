@@ -3,13 +3,13 @@
 use Prim.Native.Nat.{ℕ, _+_, _^_, _≤_, _<_}
 use mathlib.Core.Path.{_≡_, refl, sym, ap, _∙_}
 use mathlib.Core.Bool.{false}
-use mathlib.Core.List.{List, [], _∷_, _++_, append-assoc, append-nil}
+use mathlib.Core.List.{List, _++_}
 use mathlib.Core.Option.{Option, none, some}
 use native.Mathlib.Omega.{arith}
 use lib.ListN.{length, take}
 use lib.Seq.{paste, take-take, take-at, take-length, take-paste, length-take-le, length-paste}
 use borrow.Author.Tests.{lt-ltb, le-ltb}
-use Rattle.words.specs.Choice.{by-lt}
+use Rattle.words.specs.Choice.{by-lt, clash}
 use Rattle.atom.specs.Prefix.{encode}
 use Rattle.atom.specs.RoundTrip.{has-form}
 use Rattle.atom.specs.Write as atom
@@ -23,14 +23,6 @@ use Rattle.spec_session.specs.Steps.{too-deep, room-in}
 use Rattle.write_item.specs.declared.Put.the-variants.{Next, Full}
 use Rattle.write_item.specs.Answers.{written}
 
-pub size-more : (items : List Item) (i : Item) → size-of (items ++ i ∷ []) ≡ size-of items + item-size i
-size-more [] i = omega arith
-size-more (x ∷ items) i = omega (arith, size-more items i)
-
-pub output-more : (items : List Item) (i : Item) → output (items ++ i ∷ []) ≡ output items ++ item-bytes i
-output-more [] i = append-nil (item-bytes i)
-output-more (x ∷ items) i = ap (λ (r : List ℕ). item-bytes x ++ r) (output-more items i) ∙ sym (append-assoc (item-bytes x) (output items) (item-bytes i))
-
 -- ---- bytes that fit, and bytes that do not
 
 pub record PutNext (out out′ : List ℕ) (p : ℕ) (bytes : List ℕ) (m : ℕ) : Type 0 where
@@ -39,7 +31,7 @@ pub record PutNext (out out′ : List ℕ) (p : ℕ) (bytes : List ℕ) (m : ℕ
   pub is : out′ ≡ paste out p bytes (length bytes)
 
 not-both : (m : ℕ) → atom.next m ≡ atom.full → ⊥
-not-both m q = let z : _≡_ {A = ℕ} 0 1 = cc in omega arith
+not-both m q = clash cc
 
 next-is : (m n : ℕ) → atom.next m ≡ atom.next n → m ≡ n
 next-is m n q = cc

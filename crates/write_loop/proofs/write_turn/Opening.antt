@@ -10,15 +10,16 @@ use native.Mathlib.Numerals.{add-one}
 use lib.ListN.{length, set, length-set}
 use lib.Dec.{eqb}
 use borrow.Author.Tests.{lt-ltb, le-ltb}
+use Rattle.spec_session.specs.Output.{size-more, output-more}
+use Rattle.allocator.specs.HandleLaws.{is-pair-handle, pair-of-index}
 use Rattle.words.specs.Choice.{by-cond}
 use Rattle.words.specs.Words.{at}
 use Rattle.atom.specs.Write.{put}
 use Rattle.path.specs.Measure.{counted}
 use Rattle.allocator.specs.declared.NodePtr.{NodePtr}
-use Rattle.allocator.specs.Handle.{Node, pair, listed-atom, small-atom, unknown, node-of, index-of, is-pair}
+use Rattle.allocator.specs.Handle.{pair, node-of, index-of, is-pair}
 use Rattle.spec_session.specs.File.{File}
 use Rattle.spec_session.specs.Unfold.{Unfolded, unfolded}
-use Rattle.spec_session.specs.UnfoldLaws.{is-pair-handle}
 use Rattle.spec_session.specs.Cache.{Cache}
 use Rattle.spec_session.specs.Items.{cons-item, item-bytes}
 use Rattle.spec_session.specs.Writer.{Todo, parse, close, Written, and-then, pair-entry, put-if}
@@ -30,7 +31,6 @@ use Rattle.search_find.specs.declared.find_path.Path.the-variants.{NoPath}
 use Rattle.write_item.specs.declared.Put.the-variants as item
 use Rattle.write_item.specs.Answers.{written}
 use Rattle.cache_entries.specs.Meaning.{Tables, Names}
-use Rattle.cache_entries.proofs.Atoms.{not-true}
 use Rattle.cache_entries.proofs.Entering.{names-grow, pair-low, is-node}
 use Rattle.write_place.specs.declared.Place.{Place}
 use Rattle.write_loop.specs.declared.write_turn.Next.{Next}
@@ -38,15 +38,9 @@ use Rattle.write_loop.specs.declared.write_turn.Next.the-variants.{Parse
 use Rattle.write_place.specs.State.{todo-of, Standing, Writes}
 use Rattle.write_loop.specs.Contracts.{goes-on, Turns, Falls, Found}
 use Rattle.write_loop.proofs.write_turn.Frames.{only-same, pairs-stay, names-stay, pairs-few}
-use Rattle.write_loop.proofs.write_turn.Items.{size-more, output-more, PutNext, put-next, put-none, taken-all, taken-before, length-stays, room-there, room-gone}
+use Rattle.write_loop.proofs.write_turn.Items.{PutNext, put-next, put-none, taken-all, taken-before, length-stays, room-there, room-gone}
 use Rattle.write_loop.proofs.write_turn.Values.{found-is, pair-is}
 use Rattle.write_loop.proofs.write_turn.Storing.{left-odd, store-only, store-standing, store-todo, store-writes}
-
-pub pair-node : (n : Node) → is-pair n ≡ true → n ≡ pair (index-of n)
-pair-node (pair i) q = refl
-pair-node (listed-atom i) q = absurd (not-true q)
-pair-node (small-atom v) q = absurd (not-true q)
-pair-node (unknown k i) q = absurd (not-true q)
 
 -- As many pairs are open as the words say.
 open-count : (f : File) (w : List ℕ) (n : ℕ) → open-pairs (todo-of f w n) ≡ n
@@ -63,7 +57,7 @@ module _ {w out : List ℕ} {p : Place} (h : NodePtr) {e : ℕ} (fo : Found w ou
   number = index-of (node-of (h .0))
 
   pub is-number : node-of (h .0) ≡ pair (index-of (node-of (h .0)))
-  is-number = pair-node (node-of (h .0)) pr
+  is-number = pair-of-index (node-of (h .0)) pr
 
   pub number-low : index-of (node-of (h .0)) < at w PAIR-COUNT
   number-low = pair-low w (at w PAIR-COUNT) (h .0) (index-of (node-of (h .0))) (fo .names) is-number

@@ -8,6 +8,8 @@ use mathlib.Core.Option.{Option, some}
 use native.Mathlib.Omega.{arith}
 use lib.Dec.{eqb, ltb}
 use lib.ListN.{length}
+use Rattle.spec_session.specs.FindPathLaws.{without-end}
+use Rattle.allocator.specs.HandleLaws.{is-pair-handle}
 use Rattle.words.specs.Words.{at}
 use Rattle.atom.specs.Write.{put}
 use Rattle.path.specs.Measure.{counted}
@@ -17,10 +19,9 @@ use Rattle.spec_search.specs.Search.{member}
 use Rattle.spec_search.specs.PathBits.{Ends}
 use Rattle.spec_session.specs.File.{File}
 use Rattle.spec_session.specs.Unfold.{Unfolded, leaf, unfolded}
-use Rattle.spec_session.specs.UnfoldLaws.{is-pair-handle}
 use Rattle.spec_session.specs.Cache.{Cache, length-at}
 use Rattle.spec_session.specs.Items.{Item, atom-item, reference-item, item-bytes}
-use Rattle.spec_session.specs.Output.{item-size-is}
+use Rattle.spec_session.specs.Output.{item-size-is, size-more, output-more}
 use Rattle.spec_session.specs.Writer as session
 use Rattle.spec_session.specs.Writer.{Todo, parse, Written, done, and-then, atom-entry, pair-entry, push, put-if, put-whole}
 use Rattle.spec_session.specs.FindPath.{without-terminator, find-in}
@@ -44,7 +45,7 @@ use Rattle.write_loop.specs.declared.write_turn.Next.the-variants.{Parse
 use Rattle.write_place.specs.State.{AtomsThere, todo-of, Writes}
 use Rattle.write_loop.specs.Contracts.{Runs, goes-on, Turns, Falls, Found, AtomPut, Stacks, Pushes}
 use Rattle.write_loop.proofs.write_turn.Frames.{only-same, holds-stay, Beside, beside-only, todo-stays, standing-stays}
-use Rattle.write_loop.proofs.write_turn.Items.{size-more, output-more, PutNext, put-next, put-none, taken-all, taken-before, length-stays, atom-bytes, WholeItem, whole-fits, whole-lacks}
+use Rattle.write_loop.proofs.write_turn.Items.{PutNext, put-next, put-none, taken-all, taken-before, length-stays, atom-bytes, WholeItem, whole-fits, whole-lacks}
 
 -- ---- an entry goes on the stack
 
@@ -165,14 +166,6 @@ module _ (file w w′ out out′ : List ℕ) (p : Place) (h : NodePtr) (e : ℕ)
       )
 
 -- ---- which item: what was found
-
-without-end : (steps : List Bool) → without-terminator (steps ++ true ∷ []) ≡ steps
-without-end [] = refl
-without-end (b ∷ steps) = go steps (without-end steps)
-  where
-    go : (bs : List Bool) → without-terminator (bs ++ true ∷ []) ≡ bs → without-terminator (b ∷ (bs ++ true ∷ [])) ≡ b ∷ bs
-    go [] q = refl
-    go (x ∷ bs) q = ap {B = List Bool} (λ r. b ∷ r) q
 
 module _ {w out : List ℕ} {p : Place} {h e : ℕ} {path : Path} (fo : Found w out p h e path) {f : File} {c : Cache} {s : Written}
     (t : Tables f w) (wr : Writes f w out (p .depth) (p .size) c s) where

@@ -1,8 +1,10 @@
 -- `named` meets its contract: it goes by the node's type and index.
 -- Assumes nothing.
+use mathlib.Core.Path.{refl}
 use borrow.Author.Needs.{needs}
+use Rattle.allocator.specs.declared.ObjectType.the-variants.{Pair, Bytes, SmallAtom, Unknown}
 use Rattle.allocator.specs.Handle.{node-of}
-use Rattle.file_parts.proofs.session_file.FieldLaws.{named-pair, named-bytes, named-small, named-unknown}
+use Rattle.file_parts.proofs.session_file.FieldLaws.{named-by-type}
 use Rattle.file_check.proofs.file_handles.named.Statement.{statement}
 use Rattle.file_check.proofs.file_handles.named.Tie as tie
 
@@ -31,27 +33,27 @@ returns : tie.Need-returns
 returns c =
     let a = c .before .before .before .before .args in
     let object-type = c .before .before .before .object-type in
-    named-pair (a .atoms) (a .pairs) (node-of (a .node .0)) (object-type .result) (c .index .result) (object-type .ensures) (c .index .ensures)
-    (c .before .enum-told .given .1)
+    named-by-type (a .atoms) (a .pairs) (node-of (a .node .0)) (object-type .result) Pair (c .index .result) (object-type .ensures) (c .before .enum-told .given .1)
+    (c .index .ensures)
 
 returns-2 : tie.Need-returns-2
 returns-2 c =
     let a = c .before .before .before .before .args in
     let object-type = c .before .before .before .object-type in
-    named-bytes (a .atoms) (a .pairs) (node-of (a .node .0)) (object-type .result) (c .index2 .result) (object-type .ensures) (c .index2 .ensures)
-    (c .before .enum-told2 .given .1)
+    named-by-type (a .atoms) (a .pairs) (node-of (a .node .0)) (object-type .result) Bytes (c .index2 .result) (object-type .ensures) (c .before .enum-told2 .given .1)
+    (c .index2 .ensures)
 
 returns-3 : tie.Need-returns-3
 returns-3 c =
     let a = c .before .before .before .args in
     let object-type = c .before .before .object-type in
-    named-small (a .atoms) (a .pairs) (node-of (a .node .0)) (object-type .result) (object-type .ensures) (c .enum-told3 .given .1)
+    named-by-type (a .atoms) (a .pairs) (node-of (a .node .0)) (object-type .result) SmallAtom _ (object-type .ensures) (c .enum-told3 .given .1) refl
 
 returns-4 : tie.Need-returns-4
 returns-4 c =
     let a = c .before .before .before .args in
     let object-type = c .before .before .object-type in
-    named-unknown (a .atoms) (a .pairs) (node-of (a .node .0)) (object-type .result) (object-type .ensures) (c .enum-told4 .given .1)
+    named-by-type (a .atoms) (a .pairs) (node-of (a .node .0)) (object-type .result) Unknown _ (object-type .ensures) (c .enum-told4 .given .1) refl
 
 pub named-spec : {M : Type 1} → statement M
 named-spec =
