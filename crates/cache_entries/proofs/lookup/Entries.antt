@@ -15,7 +15,7 @@ use Rattle.work_layout.specs.Layout.{MAPS, USED, PAIR-COUNT}
 use Rattle.work_layout.specs.Rows.{row-of, rows-of}
 use Rattle.cache_entries.specs.declared.table.Found.{Found}
 use Rattle.cache_entries.specs.table.Contracts.{find-row, option-of}
-use Rattle.cache_entries.proofs.table.Rows.{find-low, word-some}
+use Rattle.cache_entries.proofs.table.Rows.{find-at, word-some}
 use Rattle.cache_entries.specs.Meaning.{ATOM-KEY, bytes-named, entry-or-none, Tables, Whole, Holds}
 use Rattle.cache_entries.specs.Contracts.{Stands}
 use Rattle.cache_entries.proofs.Atoms.{not-true}
@@ -48,7 +48,7 @@ module _ {w : List ℕ} {h key : ℕ} (wh : Whole w) (s : Stands w h key) (r : F
   pub atom-at : {e : ℕ} → option-of r ≡ some e → AtomEntry w h e
   unfolding rows-of
   atom-at {e} p =
-      let l = find-low (at w USED) (row-of w) ATOM-KEY key e (sym q ∙ p) in
+      let l = find-at (at w USED) (row-of w) ATOM-KEY key e (sym q ∙ p) .0 in
       record { low = omega (arith, wh .sound .used); is = λ f c t ho. looked-up f c t ho ∙ ap or-zero p }
 
   pub atom-none : option-of r ≡ none → AtomEntry w h 0
