@@ -14,12 +14,10 @@ use Rattle.words.specs.Words.{at, tabulate}
 use Rattle.words.proofs.Words.{length-tabulate, getD-tabulate, tabulate-same}
 use Rattle.work_layout.specs.Layout.{FIRST}
 use Rattle.cache_entries.specs.Meaning.{first-same}
+use Rattle.cache_entries.proofs.Atoms.{not-true}
 use Rattle.file_tables.specs.Chains.{first-of}
 
 -- ---- of a list
-
-pub not-true : _≡_ {A = Bool} false true → ⊥
-not-true q = let z : _≡_ {A = ℕ} 0 1 = cc in omega arith
 
 module _ (x : List ℕ) where
   pub first-le : (xs : List (List ℕ)) → first-same x xs ≤ length xs

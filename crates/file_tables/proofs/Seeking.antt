@@ -13,10 +13,11 @@ use Rattle.work_layout.specs.Layout.{ATOM-HEADS, ATOM-NEXT}
 use Rattle.work_layout.specs.Rows.{prev}
 use Rattle.work_layout.specs.Prev.{prev-le}
 use Rattle.work_layout.proofs.Seek.{Seek, seek-first, seek-past, seek-here}
+use Rattle.cache_entries.proofs.Atoms.{not-true}
 use Rattle.file_tables.specs.Listed.{slot-of}
 use Rattle.file_tables.proofs.listed_atoms.Slots.{slot-low}
 use Rattle.file_tables.specs.Chains.{first-of, chain-of, Loading}
-use Rattle.file_tables.proofs.First.{not-true, first-of-le, first-of-bytes, first-of-equal, first-of-first}
+use Rattle.file_tables.proofs.First.{first-of-le, first-of-bytes, first-of-equal, first-of-first}
 use Rattle.file_tables.proofs.Chains.{chain-first, chain-is-first}
 
 -- A lookup of atom i in chain s at h: no first atom from h on has its bytes.
