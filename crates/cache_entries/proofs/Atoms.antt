@@ -2,7 +2,7 @@
 -- Assumes nothing.
 use Prim.Native.Nat.{ℕ, zero, suc, _+_, _^_, _<_}
 use mathlib.Core.Path.{_≡_, refl, sym, ap, _∙_, subst}
-use mathlib.Core.Bool.{Bool, true, false, cond}
+use mathlib.Core.Bool.{Bool, true, false, cond, false≢true}
 use mathlib.Core.List.{List, [], _∷_}
 use native.Mathlib.Omega.{arith}
 use lib.ListN.{length, getD}
@@ -19,9 +19,6 @@ use Rattle.spec_session.specs.File.{named}
 use Rattle.work_layout.specs.Layout.{FIRST, ATOM-LENGTHS, ATOM-COUNT, PAIR-COUNT}
 use Rattle.cache_entries.specs.Meaning.{bytes-named, first-same, Names, FirstOf, Whole}
 use Rattle.cache_entries.specs.Contracts.{is-listed, Stands, Measured}
-
-pub not-true : _≡_ {A = Bool} false true → ⊥
-not-true q = let z : _≡_ {A = ℕ} 0 1 = cc in omega arith
 
 -- ---- which kind of atom
 
@@ -41,16 +38,16 @@ pub listed-by-type : (n : Node) (t u : ObjectType) → t ≡ object-type-of n �
 listed-by-type n t u e f = ap type-is-listed (sym f ∙ e) ∙ listed-of-type n
 
 pub listed-is : (n : Node) → is-listed n ≡ true → n ≡ listed-atom (index-of n)
-listed-is (pair i) e = absurd (not-true e)
+listed-is (pair i) e = absurd (false≢true e)
 listed-is (listed-atom i) e = refl
-listed-is (small-atom v) e = absurd (not-true e)
-listed-is (unknown k i) e = absurd (not-true e)
+listed-is (small-atom v) e = absurd (false≢true e)
+listed-is (unknown k i) e = absurd (false≢true e)
 
 pub small-is : (n : Node) → is-listed n ≡ false → is-atom n ≡ true → n ≡ small-atom (index-of n)
-small-is (pair i) e a = absurd (not-true a)
-small-is (listed-atom i) e a = absurd (not-true (sym e))
+small-is (pair i) e a = absurd (false≢true a)
+small-is (listed-atom i) e a = absurd (false≢true (sym e))
 small-is (small-atom v) e a = refl
-small-is (unknown k i) e a = absurd (not-true a)
+small-is (unknown k i) e a = absurd (false≢true a)
 
 pub index-low : (h : ℕ) → index-of (node-of h) < 2 ^ 26
 index-low h = let e = index-of-handle h in omega arith
@@ -63,7 +60,7 @@ first-found bs (a ∷ atoms) i h e = go (same a bs) refl (λ j l q. first-found 
   where
     later : (j : ℕ) → j < suc (length atoms) → getD (a ∷ atoms) j [] ≡ bs → same a bs ≡ false
         → ((k : ℕ) → k < length atoms → getD atoms k [] ≡ bs → getD atoms (first-same bs atoms) [] ≡ bs) → getD atoms (first-same bs atoms) [] ≡ bs
-    later zero l q s f = absurd (not-true (sym s ∙ ap (λ (x : List ℕ). same x bs) q ∙ same-refl bs))
+    later zero l q s f = absurd (false≢true (sym s ∙ ap (λ (x : List ℕ). same x bs) q ∙ same-refl bs))
     later (suc j) l q s f = f j (omega arith) q
 
     go : (b : Bool) → same a bs ≡ b → ((k : ℕ) → k < length atoms → getD atoms k [] ≡ bs → getD atoms (first-same bs atoms) [] ≡ bs)

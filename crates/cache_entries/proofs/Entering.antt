@@ -2,7 +2,7 @@
 -- Assumes nothing.
 use Prim.Native.Nat.{ℕ, suc, _+_, _*_, _≤_, _<_}
 use mathlib.Core.Path.{_≡_, refl, sym, ap, _∙_, subst}
-use mathlib.Core.Bool.{Bool, true, false}
+use mathlib.Core.Bool.{Bool, true, false, false≢true}
 use mathlib.Core.List.{List}
 use mathlib.Core.Option.{Option, none, some}
 use native.Mathlib.Omega.{arith}
@@ -20,7 +20,6 @@ use Rattle.work_layout.specs.Layout.{PAIRS, ATOM-COUNT, PAIR-COUNT, SENTINEL, M
 use Rattle.spec_session.specs.Sentinel.{sentinel-word}
 use Rattle.cache_entries.specs.Meaning.{bytes-named, no-pair, Tables, Names, entry-or-none, unmapped, Whole, Holds}
 use Rattle.cache_entries.specs.Contracts.{Action, sentinel-action, atom-action, join-action, enter-action, Acts, Made, Joined, span, Bounded, Entered, Room}
-use Rattle.cache_entries.proofs.Atoms.{not-true}
 use Rattle.cache_entries.proofs.table.Rows.{word-some}
 use Rattle.cache_entries.proofs.Frames.{tables-kept, unmapped-same, unmapped-above, unmapped-more, unmapped-none, unmapped-grows}
 
@@ -66,14 +65,14 @@ no-name = refl
 
 -- The handle that says that there is no sentinel names nothing.
 nothing-named : (w : List ℕ) (p h : ℕ) → Names w p h → h ≡ 0xffffffff → ⊥
-nothing-named w p h n e = not-true (subst (λ (m : Node). named (at w ATOM-COUNT) p m ≡ true) (ap node-of e ∙ no-name) n)
+nothing-named w p h n e = false≢true (subst (λ (m : Node). named (at w ATOM-COUNT) p m ≡ true) (ap node-of e ∙ no-name) n)
 
 -- A handle that names something and no atom names a pair.
 pair-of : (a p : ℕ) (n : Node) → named a p n ≡ true → is-atom n ≡ false → n ≡ pair (index-of n)
 pair-of a p (pair i) e q = refl
-pair-of a p (listed-atom i) e q = absurd (not-true (sym q))
-pair-of a p (small-atom v) e q = absurd (not-true (sym q))
-pair-of a p (unknown k i) e q = absurd (not-true e)
+pair-of a p (listed-atom i) e q = absurd (false≢true (sym q))
+pair-of a p (small-atom v) e q = absurd (false≢true (sym q))
+pair-of a p (unknown k i) e q = absurd (false≢true e)
 
 pub names-pair : (w : List ℕ) (p h : ℕ) → Names w p h → is-atom (node-of h) ≡ false → node-of h ≡ pair (index-of (node-of h))
 names-pair w p h n q = pair-of (at w ATOM-COUNT) p (node-of h) n q
@@ -132,10 +131,10 @@ pub is-leaf : (w : List ℕ) (h : ℕ) → (at w SENTINEL ≡ h → ⊥) → is-
 is-leaf w h q a f t = go (node-of h) refl a
   where
     go : (n : Node) → node-of h ≡ n → is-atom n ≡ true → unfolded f h ≡ leaf h (bytes-named f (node-of h))
-    go (pair i) e b = absurd (not-true b)
+    go (pair i) e b = absurd (false≢true b)
     go (listed-atom i) e b = unfolded-listed f h i (sentinel-not f w h t q) e ∙ ap (λ (m : Node). leaf h (bytes-named f m)) (sym e)
     go (small-atom v) e b = unfolded-small f h v (sentinel-not f w h t q) e ∙ ap (λ (m : Node). leaf h (bytes-named f m)) (sym e)
-    go (unknown k i) e b = absurd (not-true b)
+    go (unknown k i) e b = absurd (false≢true b)
 
 pub atom-entered : {w w′ : List ℕ} {h x : ℕ} → (at w SENTINEL ≡ h → ⊥) → is-atom (node-of h) ≡ true → Made (atom-action h) w w′ x → Entered w w′ h x
 atom-entered {w} {w′} {h} {x} q a m =
@@ -378,7 +377,7 @@ pub test-same : {r : Bool} {a b : ℕ} → r ≡ eqb a b → r ≡ true → a �
 test-same {r} {a} {b} e t = eqb-true a b (sym e ∙ t)
 
 pub test-other : {r : Bool} {a b : ℕ} → r ≡ eqb a b → r ≡ false → a ≡ b → ⊥
-test-other {r} {a} {b} e t q = not-true (sym (sym e ∙ t) ∙ eq-eqb a b q)
+test-other {r} {a} {b} e t q = false≢true (sym (sym e ∙ t) ∙ eq-eqb a b q)
 
 -- A handle that is no atom's names the pair of its index.
 pub test-pair : (w : List ℕ) (h : ℕ) {i : ℕ} {r : Bool} → Names w (at w PAIR-COUNT) h → r ≡ is-atom (node-of h) → r ≡ false → i ≡ index-of (node-of h)

@@ -1,14 +1,15 @@
 -- The entries rest on the words from USED to SEEN alone.
 -- Assumes nothing.
-use Prim.Native.Nat.{ℕ, zero, suc, _+_, _*_, _^_, _≤_, _<_}
-use mathlib.Core.Path.{_≡_, refl, _∙_}
+use Prim.Native.Nat.{ℕ, _+_, _*_, _≤_, _<_}
+use mathlib.Core.Path.{_≡_, _∙_}
 use mathlib.Core.List.{List}
 use native.Mathlib.Omega.{arith}
 use lib.ListN.{length}
 use Rattle.words.specs.Words.{at}
-use Rattle.words.proofs.Words.{part-same, tabulate-same}
+use Rattle.words.proofs.Words.{tabulate-same}
 use Rattle.work_layout.specs.Layout.{USED, COUNTS, LEFT, RIGHT, LOW, HIGH, PARENTS, SEEN, ENTRIES}
-use Rattle.work_layout.specs.Rows.{parents-of, row-of, rows-of, Sound, all-counts}
+use Rattle.work_layout.specs.Rows.{row-of, rows-of, Sound, all-counts}
+use Rattle.cache_entries.proofs.table.Rows.{row-same, counts-same}
 use Rattle.cache_entries.proofs.table.Chain.{chained-kept, distinct-kept}
 
 module _ (w w′ : List ℕ) (len : length w′ ≡ length w) (same : (k : ℕ) → USED ≤ k → k < SEEN → at w′ k ≡ at w k) (so : Sound w) where
@@ -33,24 +34,15 @@ module _ (w w′ : List ℕ) (len : length w′ ≡ length w) (same : (k : ℕ) 
       }
 
   pub rows-kept : rows-of w′ ≡ rows-of w
-  unfolding rows-of parents-of
+  unfolding rows-of
   rows-kept = rw used-kept (tabulate-same (at w USED) (row-of w) (row-of w′) entry)
     where
       entry : (k : ℕ) → k < at w USED → row-of w′ k ≡ row-of w k
       entry k h =
           let u = so .used in
-          let d = so .counts k (omega arith) in
-          let a = same (LEFT + k) (omega arith) (omega arith) in
-          let b = same (RIGHT + k) (omega arith) (omega arith) in
-          let l = same (LOW + k) (omega arith) (omega arith) in
-          let m = same (HIGH + k) (omega arith) (omega arith) in
-          let c = same (COUNTS + k) (omega arith) (omega arith) in
-          let p =
-          part-same w w′ (PARENTS + k * 100) (at w (COUNTS + k)) (omega (arith, so .long)) len (λ i q. same (PARENTS + k * 100 + i) (omega arith) (omega arith)) in
-          let ps : parents-of w′ k ≡ parents-of w k = rw (c, p) in
-          λ i. record { left = a i; right = b i; parents = ps i; len = l i + 2 ^ 32 * m i }
+          row-same w w′ k so len h (same (LEFT + k) (omega arith) (omega arith)) (same (RIGHT + k) (omega arith) (omega arith)) (same (LOW + k) (omega arith) (omega arith))
+          (same (HIGH + k) (omega arith) (omega arith)) (same (COUNTS + k) (omega arith) (omega arith))
+          (λ i q. same (PARENTS + k * 100 + i) (omega arith) (omega arith))
 
   pub counts-kept : (n : ℕ) → n ≤ ENTRIES → all-counts w′ n ≡ all-counts w n
-  unfolding all-counts
-  counts-kept zero h = refl
-  counts-kept (suc n) h = rw (same (COUNTS + n) (omega arith) (omega arith), counts-kept n (omega arith))
+  counts-kept n h = counts-same w w′ n (λ k l. same (COUNTS + k) (omega arith) (omega arith))

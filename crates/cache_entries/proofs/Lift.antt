@@ -23,10 +23,6 @@ map-adjust f g e [] = refl
 map-adjust f g zero (x ∷ xs) = refl
 map-adjust f g (suc e) (x ∷ xs) = ap {B = List Entry} (λ r. entry-of f x ∷ r) (map-adjust f g e xs)
 
-pub length-map : {A B : Type 0} (f : A → B) (xs : List A) → length (map f xs) ≡ length xs
-length-map f [] = refl
-length-map f (x ∷ xs) = ap suc (length-map f xs)
-
 pub length-adjust : (g : List (ℕ × Bool) → List (ℕ × Bool)) (e : ℕ) (xs : List Row) → length (adjust-row e g xs) ≡ length xs
 length-adjust g e [] = refl
 length-adjust g zero (x ∷ xs) = refl

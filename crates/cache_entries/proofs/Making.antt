@@ -5,7 +5,7 @@ use mathlib.Core.Path.{_≡_, refl, sym, ap, _∙_, subst}
 use mathlib.Core.List.{List, [], _∷_, _++_, map}
 use mathlib.Core.Option.{Option, none, some}
 use native.Mathlib.Omega.{arith}
-use lib.ListN.{length, getD, length-append}
+use lib.ListN.{length, getD, length-append, length-map}
 use Rattle.words.specs.Choice.{by-lt}
 use Rattle.words.specs.Words.{at}
 use Rattle.words.proofs.Words.{map-append}
@@ -16,7 +16,7 @@ use Rattle.work_layout.specs.Rows.{Row, rows-of, new-row, adjust-row, Sound}
 use Rattle.cache_entries.specs.table.Contracts.{find-row, found-or-added, Interned}
 use Rattle.cache_entries.specs.Meaning.{key-of, entry-of, Tables, KeyOK, entry-or-none, Whole, Holds}
 use Rattle.cache_entries.specs.Contracts.{Action, Acts, Made}
-use Rattle.cache_entries.proofs.Lift.{no-row, map-adjust, length-map, left-adjust, right-adjust, length-rows, left-at, right-at, getD-end, getD-before}
+use Rattle.cache_entries.proofs.Lift.{no-row, map-adjust, left-adjust, right-adjust, length-rows, left-at, right-at, getD-end, getD-before}
 use Rattle.cache_entries.proofs.Frames.{handles-kept, key-kept}
 
 -- ---- when the words are whole again
@@ -146,7 +146,7 @@ module _ (w w′ : List ℕ) (l r n x : ℕ) (i : Interned w w′ l r n x) (wh :
           record {
             holds = subst (λ (z : Cache × ℕ). Holds f w′ (z .0)) (sym (act none e)) ho′;
             answer =
-                ap (λ (z : List Row × ℕ). z .1) q ∙ sym (length-map (entry-of f) (rows-of w)) ∙ ap length (sym (ho .entries))
+                ap (λ (z : List Row × ℕ). z .1) q ∙ sym (length-map (rows-of w) (entry-of f)) ∙ ap length (sym (ho .entries))
                 ∙ ap (λ (z : Cache × ℕ). z .1) (sym (act none e));
           }
 

@@ -22,8 +22,9 @@ ghost use Rattle.cache_entries.specs.Meaning.{entry-or-none, Names, Whol
 ghost use Rattle.cache_entries.specs.Contracts.{is-listed, Stands, Measured};
 ghost use Rattle.cache_entries.specs.table.Contracts.{option-of};
 
+// A word as a length, or as a half of one.
 fn long(x: u32) -> u64
-    ensures { λ r. ⌜ r ≡ x ⌝ }
+    ensures { λ r. ⌜ (r ≡ x) × (r < 2 ^ 32) ⌝ }
 {
     x as u64
 }

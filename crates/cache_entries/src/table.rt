@@ -5,19 +5,12 @@ use allocator::NodePtr;
 use words::wide;
 use work_layout::EntryIndex;
 ghost use mathlib.Core.Path.{_≡_};
-ghost use Prim.Native.Nat.{_^_, _<_};
+ghost use Prim.Native.Nat.{_<_};
 ghost use Rattle.words.specs.Words.{at};
 ghost use Rattle.work_layout.specs.Layout.{USED};
 ghost use Rattle.work_layout.specs.Rows.{length-of, rows-of, slot-of, Sound};
 ghost use Rattle.cache_entries.specs.Meaning.{entry-or-none};
 ghost use Rattle.cache_entries.specs.table.Contracts.{first-word, second-word, find-row, option-of};
-
-// A word as a half of a length.
-fn long(x: u32) -> u64
-    ensures { λ r. ⌜ (r ≡ x) × (r < 2 ^ 32) ⌝ }
-{
-    x as u64
-}
 
 // The length of entry e.
 pub fn length_of(work: &[u32], e: EntryIndex) -> u64
@@ -25,8 +18,8 @@ pub fn length_of(work: &[u32], e: EntryIndex) -> u64
     ensures { λ n. ⌜ n ≡ length-of (now (work .entry)) (e .0) ⌝ }
 {
     let i = wide(e.0);
-    let low = long(work[work_layout::LOW + i]);
-    let high = long(work[work_layout::HIGH + i]);
+    let low = crate::long(work[work_layout::LOW + i]);
+    let high = crate::long(work[work_layout::HIGH + i]);
     low + high * 4294967296
 }
 

@@ -1,18 +1,18 @@
 -- The lookup of an atom's bytes in the chain of their slot: what is passed, and what is found.
 -- Assumes nothing.
-use Prim.Native.Nat.{ℕ, suc, _+_, _-_, _≤_, _<_}
+use Prim.Native.Nat.{ℕ, suc, _+_, _-_, _<_}
 use mathlib.Core.Path.{_≡_, sym, ap, _∙_}
 use mathlib.Core.Bool.{true, false, false≢true}
 use mathlib.Core.List.{List}
 use native.Mathlib.Omega.{arith}
 use native.Mathlib.Nat.{le-antisymm}
-use native.Mathlib.Decide.{ℕ-discrete, decLt}
 use Rattle.words.specs.Choice.{by-lt}
 use Rattle.words.specs.Lists.{same, same-refl, same-eq}
 use Rattle.words.specs.Words.{at}
 use Rattle.work_layout.specs.Layout.{ATOM-HEADS, ATOM-NEXT}
 use Rattle.work_layout.specs.Rows.{prev}
-use Rattle.work_layout.specs.Prev.{prev-le, prev-prev, prev-slot, prev-above}
+use Rattle.work_layout.specs.Prev.{prev-le}
+use Rattle.work_layout.proofs.Seek.{Seek, seek-first, seek-past, seek-here}
 use Rattle.file_tables.specs.Listed.{slot-of}
 use Rattle.file_tables.proofs.listed_atoms.Slots.{slot-low}
 use Rattle.file_tables.specs.Chains.{first-of, chain-of, Loading}
@@ -20,35 +20,30 @@ use Rattle.file_tables.proofs.First.{first-of-le, first-of-bytes, first
 use Rattle.file_tables.proofs.Chains.{chain-first, chain-is-first}
 
 -- A lookup of atom i in chain s at h: no first atom from h on has its bytes.
-pub record Seek (b : ℕ → List ℕ) (i s h : ℕ) : Type 0 where
-  pub low : h ≤ i
-  pub chain : prev (chain-of b) s h ≡ h
-  pub passed : (j : ℕ) → h ≤ j → j < i → first-of b j ≡ j → b j ≡ b i → ⊥
+abbrev pub Sought : (b : ℕ → List ℕ) → (i s h : ℕ) → Type 0
+Sought b i s h = Seek (chain-of b) (λ j. (first-of b j ≡ j) × (b j ≡ b i)) s i h
 
 module _ (b : ℕ → List ℕ) (w : List ℕ) (i s : ℕ) (L : Loading b w i) (hs : s ≡ slot-of (b i)) where
   s-low : s < 1024
   s-low = omega (arith, slot-low (b i))
 
-  -- From n to the next one of the chain no first atom has the bytes.
-  between : (n j : ℕ) → prev (chain-of b) s n ≤ j → j < n → first-of b j ≡ j → b j ≡ b i → ⊥
-  between n j h l q e = prev-above (chain-of b) s n j h l (chain-first b j q ∙ ap slot-of e ∙ sym hs)
+  slot : (j : ℕ) → (first-of b j ≡ j) × (b j ≡ b i) → chain-of b j ≡ s
+  slot j t = chain-first b j (t .0) ∙ ap slot-of (t .1) ∙ sym hs
 
-  pub seek-start : (h : ℕ) → h ≡ at w (ATOM-HEADS + s) → Seek b i s h
-  seek-start h q =
-      rw (q ∙ L .heads s s-low)
-      (record { low = prev-le (chain-of b) s i; chain = prev-prev (chain-of b) s i; passed = between i })
+  pub seek-start : (h : ℕ) → h ≡ at w (ATOM-HEADS + s) → Sought b i s h
+  seek-start h q = rw (q ∙ L .heads s s-low) (seek-first slot)
 
-  pub seek-none : (h : ℕ) → Seek b i s h → h ≡ 0 → i ≡ first-of b i
+  pub seek-none : (h : ℕ) → Sought b i s h → h ≡ 0 → i ≡ first-of b i
   seek-none h k z =
-      by-lt (first-of b i) i (λ l. absurd (k .passed (first-of b i) (omega arith) l (first-of-first b i) (first-of-bytes b i)))
+      by-lt (first-of b i) i (λ l. absurd (k .passed (first-of b i) (omega arith) l (first-of-first b i, first-of-bytes b i)))
       (λ l. le-antisymm l (first-of-le b i))
 
-  module _ (h : ℕ) (k : Seek b i s h) (ne : h ≡ 0 → ⊥) where
+  module _ (h : ℕ) (k : Sought b i s h) (ne : h ≡ 0 → ⊥) where
     is-suc : h ≡ suc (h - 1)
     is-suc = omega arith
 
     here : chain-of b (h - 1) ≡ s
-    here = prev-slot (chain-of b) s (h - 1) (ap (prev (chain-of b) s) (sym is-suc) ∙ k .chain ∙ is-suc)
+    here = seek-here (h - 1) k is-suc
 
     is-first : first-of b (h - 1) ≡ h - 1
     is-first = chain-is-first b (h - 1) s s-low here
@@ -68,15 +63,7 @@ module _ (b : ℕ → List ℕ) (w : List ℕ) (i s : ℕ) (L : Loading b w i) (
       pub seek-less : x < h
       seek-less = let p = prev-le (chain-of b) s (h - 1) in omega (arith, q, next)
 
-      pub seek-next : same (b (h - 1)) (b i) ≡ false → Seek b i s x
+      pub seek-next : same (b (h - 1)) (b i) ≡ false → Sought b i s x
       seek-next d =
-          rw (q ∙ next) (record {
-            low = let p = prev-le (chain-of b) s (h - 1) in omega (arith, k .low);
-            chain = prev-prev (chain-of b) s (h - 1);
-            passed = λ j a l. go j a l (decLt j (h - 1)) (ℕ-discrete j (h - 1));
-          })
-        where
-          go : (j : ℕ) → prev (chain-of b) s (h - 1) ≤ j → j < i → Dec (j < h - 1) → Dec (j ≡ h - 1) → first-of b j ≡ j → b j ≡ b i → ⊥
-          go j a l (yes m) _ f e = between (h - 1) j a m f e
-          go j a l (no m) (yes p) f e = false≢true (sym d ∙ ap (λ (y : List ℕ). same y (b i)) (ap b (sym p) ∙ e) ∙ same-refl (b i))
-          go j a l (no m) (no p) f e = k .passed j (omega arith) l f e
+          rw (q ∙ next)
+          (seek-past slot (h - 1) k is-suc (λ t. false≢true (sym d ∙ ap (λ (y : List ℕ). same y (b i)) (t .1) ∙ same-refl (b i))))

@@ -6,7 +6,7 @@ use mathlib.Core.Bool.{Bool}
 use mathlib.Core.List.{List, [], _∷_}
 use native.Mathlib.Omega.{arith}
 use lib.Dec.{ltb}
-use lib.ListN.{length}
+use lib.ListN.{length, length-map}
 use borrow.Author.Tests.{lt-ltb, ltb-true}
 use Rattle.words.specs.Choice.{by-cond, by-lt, cond-true}
 use Rattle.words.specs.Words.{at, part}
@@ -17,7 +17,7 @@ use Rattle.work_layout.specs.Layout.{USED, ENTRIES}
 use Rattle.work_layout.specs.Rows.{rows-of, parents-of, length-of, Sound}
 use Rattle.search_list.specs.State.{parents-of-all}
 use Rattle.cache_entries.specs.Meaning.{entry-of, Holds}
-use Rattle.cache_entries.proofs.Lift.{length-map, length-rows, length-of-rows, parents-of-rows}
+use Rattle.cache_entries.proofs.Lift.{length-rows, length-of-rows, parents-of-rows}
 use Rattle.search_find.specs.Contracts.{LengthOf}
 
 -- ---- beyond the last entry
@@ -38,7 +38,7 @@ unused-parents w x s h l = rw (s .unused x h l)
 
 module _ (f : File) (w : List ℕ) (c : Cache) (ho : Holds f w c) where
   entry-count : length (c .entries) ≡ at w USED
-  entry-count = ap length (ho .entries) ∙ length-map (entry-of f) (rows-of w) ∙ length-rows w
+  entry-count = ap length (ho .entries) ∙ length-map (rows-of w) (entry-of f) ∙ length-rows w
 
   parents-each : Sound w → (x : ℕ) → parents-in c x ≡ parents-of-all w x
   unfolding parents-of-all

@@ -1,26 +1,23 @@
 -- The bytes of items read as the items: what the plain reader makes of the output is what the reader over items makes of the items.
 -- Assumes nothing.
 use Prim.Native.Nat.{ℕ, zero, suc, _+_, _≤_}
-use mathlib.Core.Path.{_≡_, refl, sym, ap, ap₂, _∙_, subst}
-use mathlib.Core.Bool.{Bool, true, false}
+use mathlib.Core.Path.{_≡_, refl, sym, ap, _∙_, subst}
+use mathlib.Core.Bool.{Bool, true}
 use mathlib.Core.List.{List, [], _∷_, _++_}
 use mathlib.Core.Option.{Option, none, some, bind, Option·none-ne-some, Option·some-injective}
 use native.Mathlib.Omega.{arith}
-use lib.Dec.{eqb}
 use lib.ListN.{length, length-append}
-use lib.Seq.{drop-at}
-use borrow.Author.Tests.{eqb-true}
-use Rattle.words.specs.Choice.{clash}
 use Rattle.words.specs.Lists.{All}
 use Rattle.atom.specs.Prefix.{encode}
-use Rattle.atom.specs.Parse.{Parse, blob, refused, ones, size-of, parse}
 use Rattle.atom.specs.ParseLaws.{parse-nil}
 use Rattle.atom.specs.RoundTrip.{read-back}
-use Rattle.spec_reading.specs.Tree.{Tree, atom, cons, follow, as-list}
-use Rattle.path.specs.Bytes.{path-bytes, read-path}
+use Rattle.spec_reading.specs.Tree.{Tree, atom, cons, follow, as-list, lead, referred}
+use Rattle.spec_reading.specs.Blobs.{refused-not-blob}
+use Rattle.spec_reading.specs.GrammarLaws.{atom-step, reference-step}
+use Rattle.path.specs.Bytes.{path-bytes}
 use Rattle.path.specs.BytesLaws.{round-trip}
-use Rattle.spec_reading.specs.Format.{ParseOp, SExp, Cons, Step, go, stop, accepted, at-end, settle, step, then, run, read, next-item, pushed, path-item, atom-item as read-atom}
-use Rattle.spec_reading.specs.Plain.{Plain, found, push-path-plain, plain-values, read-plain}
+use Rattle.spec_reading.specs.Format.{ParseOp, SExp, Cons, Step, go, stop, accepted, at-end, settle, step, then, run, read, next-item}
+use Rattle.spec_reading.specs.Plain.{Plain, plain-values, read-plain}
 use Rattle.spec_session.specs.Items.{Item, cons-item, atom-item, reference-item, bytes-or-none, output, Op, want, make, Reading, collapse, feed, whole, read-items}
 
 -- An item that has bytes: no atom of it is too long for a prefix.
@@ -36,33 +33,6 @@ ops-of (make ∷ k) = Cons ∷ ops-of k
 
 abbrev kept : List Tree → ℕ → Plain
 kept vs m = record { trees = vs; made = m }
-
--- ---- an atom's first byte is no mark
-
-parse-ff : (s : List ℕ) → parse (0xff ∷ s) ≡ refused 14
-unfolding parse size-of ones
-parse-ff s = refl
-
-parse-fe : (s : List ℕ) → parse (0xfe ∷ s) ≡ refused 14
-unfolding parse size-of ones
-parse-fe s = refl
-
-not-both : (n start end : ℕ) (p : Parse) → p ≡ refused n → p ≡ blob start end → ⊥
-not-both n start end p e f = clash cc
-
-next-atom : (s : List ℕ) (start end : ℕ) → parse s ≡ blob start end → (ops : List ParseOp) (v : Plain)
-    → next-item plain-values s ops v ≡ read-atom plain-values (blob start end) s ops v
-next-atom [] start end e ops v = absurd (not-both 14 start end (parse []) parse-nil e)
-next-atom (b ∷ s) start end e ops v = by-ff (eqb b 0xff) refl
-  where
-    by-fe : (c d : Bool) → eqb b 0xff ≡ c → c ≡ false → eqb b 0xfe ≡ d → next-item plain-values (b ∷ s) ops v ≡ read-atom plain-values (blob start end) (b ∷ s) ops v
-    by-fe c true f g h =
-        absurd (not-both 14 start end (parse (b ∷ s)) (ap (λ (x : ℕ). parse (x ∷ s)) (eqb-true b 0xfe h) ∙ parse-fe s) e)
-    by-fe c false f g h = rw (f, g, h, e)
-
-    by-ff : (c : Bool) → eqb b 0xff ≡ c → next-item plain-values (b ∷ s) ops v ≡ read-atom plain-values (blob start end) (b ∷ s) ops v
-    by-ff true f = absurd (not-both 14 start end (parse (b ∷ s)) (ap (λ (x : ℕ). parse (x ∷ s)) (eqb-true b 0xff f) ∙ parse-ff s) e)
-    by-ff false f = by-fe false (eqb b 0xfe) f refl refl
 
 -- ---- after a value
 
@@ -134,7 +104,7 @@ valued is ih k v vs m n t f e h =
 -- ---- each kind of item
 
 pub nonempty : (a b : List ℕ) → encode a ≡ some b → 1 ≤ length b
-nonempty a [] e = let r = read-back a [] [] e in absurd (not-both 14 (r .start) 0 (parse []) parse-nil (r .parsed-is))
+nonempty a [] e = let r = read-back a [] [] e in refused-not-blob 14 (r .start) 0 (sym parse-nil ∙ r .parsed-is)
 nonempty a (x ∷ b) e = omega arith
 
 -- Where a step comes to the value v, the reader goes on with it.
@@ -147,22 +117,9 @@ stepped rest is ih k v vs m n t f q e h =
     let g = valued is ih k v vs (m + 1) n t f e h in
     (g .0, ap (λ (x : Step Plain). then plain-values x (λ b. run plain-values n b)) q ∙ g .1)
 
-module _ (b : List ℕ) (is : List Item) (k : List Op) (vs : List Tree) (m : ℕ) where
-  atom-step : (a : List ℕ) → encode a ≡ some b
-      → next-item plain-values (b ++ output is) (ops-of k) (kept vs m) ≡ settle plain-values (output is) (ops-of k) (kept (atom a ∷ vs) (m + 1))
-  atom-step a e =
-      let r = read-back a b (output is) e in
-      next-atom (b ++ output is) (r .start) (length b) (r .parsed-is) (ops-of k) (kept vs m)
-      ∙ ap₂ (λ (l x : List ℕ). settle plain-values l (ops-of k) (kept (atom x ∷ vs) (m + 1))) (drop-at b (output is) (length b) refl) (r .blob-is)
-
-  path-step : (path : List Bool) (v : Tree) → encode (path-bytes (path ++ true ∷ [])) ≡ some b → follow path (as-list vs) ≡ some v
-      → next-item plain-values (0xfe ∷ (b ++ output is)) (ops-of k) (kept vs m) ≡ settle plain-values (output is) (ops-of k) (kept (v ∷ vs) (m + 1))
-  path-step path v e q =
-      let r = read-back (path-bytes (path ++ true ∷ [])) b (output is) e in
-      ap (λ (x : Parse). path-item plain-values x (b ++ output is) (ops-of k) (kept vs m)) (r .parsed-is)
-      ∙ ap₂ (λ (l x : List ℕ). pushed plain-values (push-path-plain (read-path x) (kept vs m)) l (ops-of k)) (drop-at b (output is) (length b) refl) (r .blob-is)
-      ∙ ap (λ (o : Option (List Bool)). pushed plain-values (push-path-plain o (kept vs m)) (output is) (ops-of k)) (round-trip path)
-      ∙ ap (λ (o : Option Tree). pushed plain-values (found o (kept vs m)) (output is) (ops-of k)) q
+path-referred : (path : List Bool) (vs : List Tree) (v : Tree) → follow path (as-list vs) ≡ some v → referred (path-bytes (path ++ true ∷ [])) vs ≡ some v
+unfolding referred
+path-referred path vs v q = ap (λ (o : Option (List Bool)). lead o (as-list vs)) (round-trip path) ∙ q
 
 abbrev Reaches : List ℕ → List Op → List Tree → ℕ → ℕ → Tree → Type 0
 Reaches rest k vs m n t = (c : ℕ) × (run plain-values n (record { rest = rest; ops = ops-of k; values = kept vs m }) ≡ accepted (kept (t ∷ []) c))
@@ -177,7 +134,7 @@ module _ (is : List Item) (ih : Goes is) (k : List Op) (vs : List Tree) (m : ℕ
       → length (b ++ output is) ≤ n → Reaches (b ++ output is) k vs m n t
   atom-case a b q zero e l = absurd (omega (arith, nonempty a b q, length-append b (output is)))
   atom-case a b q (suc n) e l =
-      stepped (b ++ output is) is ih k (atom a) vs m n t f (atom-step b is k vs m a q) e (omega (arith, nonempty a b q, length-append b (output is)))
+      stepped (b ++ output is) is ih k (atom a) vs m n t f (atom-step b (output is) (ops-of k) vs m a q) e (omega (arith, nonempty a b q, length-append b (output is)))
 
   path-case : (path : List Bool) (b : List ℕ) → encode (path-bytes (path ++ true ∷ [])) ≡ some b → (o : Option Tree) → follow path (as-list vs) ≡ o
       → bind (bind (bind o (λ v. some (collapse k (v ∷ vs)))) (feed is)) (λ r. whole (r .0) (r .1)) ≡ some t
@@ -186,7 +143,7 @@ module _ (is : List Item) (ih : Goes is) (k : List Op) (vs : List Tree) (m : ℕ
   path-case path b q none g e n l = absurd (Option·none-ne-some t e)
   path-case path b q (some v) g e zero l = absurd (omega arith)
   path-case path b q (some v) g e (suc n) l =
-      stepped (0xfe ∷ (b ++ output is)) is ih k v vs m n t f (path-step b is k vs m path v q g) e (omega (arith, length-append b (output is)))
+      stepped (0xfe ∷ (b ++ output is)) is ih k v vs m n t f (reference-step b (output is) (ops-of k) vs m (path-bytes (path ++ true ∷ [])) v q (path-referred path vs v g)) e (omega (arith, length-append b (output is)))
 
 pub goes : (is : List Item) → Goes is
 unfolding bind

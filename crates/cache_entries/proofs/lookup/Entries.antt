@@ -2,7 +2,7 @@
 -- Assumes nothing.
 use Prim.Native.Nat.{ℕ, _+_, _<_}
 use mathlib.Core.Path.{_≡_, sym, ap, _∙_}
-use mathlib.Core.Bool.{true}
+use mathlib.Core.Bool.{true, false≢true}
 use mathlib.Core.List.{List}
 use mathlib.Core.Option.{none, some}
 use native.Mathlib.Omega.{arith}
@@ -15,10 +15,9 @@ use Rattle.work_layout.specs.Layout.{MAPS, USED, PAIR-COUNT}
 use Rattle.work_layout.specs.Rows.{row-of, rows-of}
 use Rattle.cache_entries.specs.declared.table.Found.{Found}
 use Rattle.cache_entries.specs.table.Contracts.{find-row, option-of}
-use Rattle.cache_entries.proofs.table.Rows.{find-low, word-some}
+use Rattle.cache_entries.proofs.table.Rows.{find-at, word-some}
 use Rattle.cache_entries.specs.Meaning.{ATOM-KEY, bytes-named, entry-or-none, Tables, Whole, Holds}
 use Rattle.cache_entries.specs.Contracts.{Stands}
-use Rattle.cache_entries.proofs.Atoms.{not-true}
 use Rattle.cache_entries.proofs.Keys.{find-atom}
 use Rattle.cache_entries.specs.lookup.Contracts.{PairEntry, AtomEntry, EntryOf}
 
@@ -48,7 +47,7 @@ module _ {w : List ℕ} {h key : ℕ} (wh : Whole w) (s : Stands w h key) (r : F
   pub atom-at : {e : ℕ} → option-of r ≡ some e → AtomEntry w h e
   unfolding rows-of
   atom-at {e} p =
-      let l = find-low (at w USED) (row-of w) ATOM-KEY key e (sym q ∙ p) in
+      let l = find-at (at w USED) (row-of w) ATOM-KEY key e (sym q ∙ p) .0 in
       record { low = omega (arith, wh .sound .used); is = λ f c t ho. looked-up f c t ho ∙ ap or-zero p }
 
   pub atom-none : option-of r ≡ none → AtomEntry w h 0
@@ -58,12 +57,12 @@ module _ {w : List ℕ} {h key : ℕ} (wh : Whole w) (s : Stands w h key) (r : F
 
 pub entry-of-atom : {w : List ℕ} {h e : ℕ} → is-atom (node-of h) ≡ true → AtomEntry w h e → EntryOf w h e
 entry-of-atom a x =
-    record { low = x .low; of-pair = λ i q. absurd (not-true (sym (ap is-atom q) ∙ a)); of-atom = λ b. x }
+    record { low = x .low; of-pair = λ i q. absurd (false≢true (sym (ap is-atom q) ∙ a)); of-atom = λ b. x }
 
 pub entry-of-pair : {w : List ℕ} {h e i : ℕ} → node-of h ≡ pair i → PairEntry w i e → EntryOf w h e
 entry-of-pair {w} {h} {e} {i} n x =
     record {
       low = x .low;
       of-pair = λ j q. let z : i ≡ j = cc in rw (sym z) x;
-      of-atom = λ b. absurd (not-true (sym (ap is-atom n) ∙ b));
+      of-atom = λ b. absurd (false≢true (sym (ap is-atom n) ∙ b));
     }

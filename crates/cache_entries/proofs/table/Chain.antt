@@ -5,12 +5,12 @@ use mathlib.Core.Path.{_≡_, sym, ap, _∙_}
 use mathlib.Core.List.{List}
 use mathlib.Core.Option.{none, some}
 use native.Mathlib.Omega.{arith}
-use native.Mathlib.Decide.{ℕ-discrete, decLt}
 use Rattle.words.specs.Words.{at}
 use Rattle.work_layout.specs.Layout.{USED, LEFT, RIGHT, NEXT, HEADS, PARENTS, ENTRIES}
 use Rattle.work_layout.specs.Rows.{row-of, rows-of, slot-of, slot-at, prev, Chained, Distinct, Sound}
-use Rattle.work_layout.specs.Prev.{prev-le, prev-prev, prev-slot, prev-same, prev-above}
-use Rattle.cache_entries.specs.table.Contracts.{find-row}
+use Rattle.work_layout.specs.Prev.{prev-le, prev-same}
+use Rattle.work_layout.proofs.Seek.{Seek, seek-first, seek-past, seek-here}
+use Rattle.cache_entries.specs.table.Contracts.{find-row, HasKey}
 use Rattle.cache_entries.proofs.table.Rows.{find-none, find-some}
 
 -- The chains, and that keys are distinct, rest on the words from LEFT to PARENTS, and on USED.
@@ -42,65 +42,39 @@ module _ (w w′ : List ℕ) (same : (k : ℕ) → LEFT ≤ k → k < PARENTS �
           d .distinct i j l (omega arith) (omega (arith, left i (omega arith), left j (omega arith))) (omega (arith, right i (omega arith), right j (omega arith)))
 
 -- A search at h: none of the entries from h on has the key.
-pub record Seek (w : List ℕ) (l r s h : ℕ) : Type 0 where
-  pub slot : s ≡ slot-of l r
-  pub low : h ≤ at w USED
-  pub chain : prev (slot-at w) s h ≡ h
-  pub passed : (k : ℕ) → h ≤ k → k < at w USED → at w (LEFT + k) ≡ l → at w (RIGHT + k) ≡ r → ⊥
+abbrev pub Sought : (w : List ℕ) (l r s h : ℕ) → Type 0
+Sought w l r s h = Seek (slot-at w) (λ k. HasKey w k l r) s (at w USED) h
 
-module _ (w : List ℕ) (so : Sound w) (l r s : ℕ) where
-  -- From n to the next one of the chain none has the key.
-  between : (n : ℕ) → s ≡ slot-of l r → (k : ℕ) → prev (slot-at w) s n ≤ k → k < n → at w (LEFT + k) ≡ l → at w (RIGHT + k) ≡ r → ⊥
-  between n q k h m a b = prev-above (slot-at w) s n k h m (rw (a, b) (sym q))
+module _ (w : List ℕ) (so : Sound w) (l r s : ℕ) (q : s ≡ slot-of l r) where
+  slot : (k : ℕ) → HasKey w k l r → slot-at w k ≡ s
+  slot k t = rw (t .0, t .1) (sym q)
 
-  pub seek-start : s ≡ slot-of l r → Seek w l r s (at w (HEADS + s))
-  seek-start q =
-      let e = so .chained .heads s (omega arith) in
-      rw e (record { slot = q; low = prev-le (slot-at w) s (at w USED); chain = prev-prev (slot-at w) s (at w USED); passed = between (at w USED) q })
+  pub seek-start : Sought w l r s (at w (HEADS + s))
+  seek-start = rw (so .chained .heads s (omega arith)) (seek-first slot)
 
-  module _ (h e : ℕ) (k : Seek w l r s h) (ne : h ≡ 0 → ⊥) (he : e ≡ h - 1) where
+  module _ (h e : ℕ) (k : Sought w l r s h) (ne : h ≡ 0 → ⊥) (he : e ≡ h - 1) where
     is-suc : h ≡ suc e
     is-suc = omega arith
 
-    pub seek-low : e < at w USED
-    seek-low = omega (arith, k .low)
-
-    here : slot-at w e ≡ s
-    here = prev-slot (slot-at w) s e (rw is-suc at (k .chain))
+    low : e < at w USED
+    low = omega (arith, k .low)
 
     next : at w (NEXT + e) ≡ prev (slot-at w) s e
-    next = so .chained .nexts e seek-low ∙ ap (λ (x : ℕ). prev (slot-at w) x e) here
+    next = so .chained .nexts e low ∙ ap (λ (x : ℕ). prev (slot-at w) x e) (seek-here e k is-suc)
 
     -- No earlier entry has the same key, so the last one is the first one.
-    pub seek-found : at w (LEFT + e) ≡ l → at w (RIGHT + e) ≡ r → some (h - 1) ≡ find-row l r (rows-of w)
+    pub seek-found : HasKey w e l r → some (h - 1) ≡ find-row l r (rows-of w)
     unfolding rows-of
-    seek-found a b =
+    seek-found t =
         ap (λ (x : ℕ). some x) (sym he)
-        ∙ sym (find-some (at w USED) (row-of w) l r e seek-low a b (λ i m p q. so .distinct .distinct i e m seek-low (p ∙ sym a) (q ∙ sym b)))
+        ∙ sym (find-some (at w USED) (row-of w) l r e low (t .0) (t .1) (λ i m a b. so .distinct .distinct i e m low (a ∙ sym (t .0)) (b ∙ sym (t .1))))
 
     pub seek-less : at w (NEXT + e) < h
     seek-less = let p = prev-le (slot-at w) s e in omega (arith, next)
 
-    seek-next : (at w (LEFT + e) ≡ l → at w (RIGHT + e) ≡ r → ⊥) → Seek w l r s (at w (NEXT + e))
-    seek-next d =
-        rw next (record {
-          slot = k .slot;
-          low = let p = prev-le (slot-at w) s e in omega (arith, k .low);
-          chain = prev-prev (slot-at w) s e;
-          passed = λ i a b. go i a b (decLt i e) (ℕ-discrete i e);
-        })
-      where
-        go : (i : ℕ) → prev (slot-at w) s e ≤ i → i < at w USED → Dec (i < e) → Dec (i ≡ e) → at w (LEFT + i) ≡ l → at w (RIGHT + i) ≡ r → ⊥
-        go i a b (yes m) t p q = between e (k .slot) i a m p q
-        go i a b (no m) (yes t) p q = d (ap (λ (x : ℕ). at w (LEFT + x)) (sym t) ∙ p) (ap (λ (x : ℕ). at w (RIGHT + x)) (sym t) ∙ q)
-        go i a b (no m) (no t) p q = k .passed i (omega arith) b p q
+    pub seek-next : (HasKey w e l r → ⊥) → Sought w l r s (at w (NEXT + e))
+    seek-next d = rw next (seek-past slot e k is-suc d)
 
-    pub skip-left : (at w (LEFT + e) ≡ l → ⊥) → Seek w l r s (at w (NEXT + e))
-    skip-left d = seek-next (λ p q. d p)
-
-    pub skip-right : at w (LEFT + e) ≡ l → (at w (RIGHT + e) ≡ r → ⊥) → Seek w l r s (at w (NEXT + e))
-    skip-right a d = seek-next (λ p q. d q)
-
-pub seek-none : (w : List ℕ) (l r s h : ℕ) → Seek w l r s h → h ≡ 0 → none ≡ find-row l r (rows-of w)
+pub seek-none : (w : List ℕ) (l r s h : ℕ) → Sought w l r s h → h ≡ 0 → none ≡ find-row l r (rows-of w)
 unfolding rows-of
-seek-none w l r s h k e = sym (find-none (at w USED) (row-of w) l r (λ i m. k .passed i (omega arith) m))
+seek-none w l r s h k e = sym (find-none (at w USED) (row-of w) l r (λ i m a b. k .passed i (omega arith) m (a, b)))

@@ -1,7 +1,7 @@
 -- Laws of the entries as rows: one row changed, a row looked up by its key, the parents counted.
 -- Assumes nothing.
-use Prim.Native.Nat.{ℕ, zero, suc, _+_, _-_, _*_, _<_}
-use mathlib.Core.Path.{_≡_, refl, ap, _∙_}
+use Prim.Native.Nat.{ℕ, zero, suc, _+_, _-_, _*_, _^_, _<_}
+use mathlib.Core.Path.{_≡_, refl, ap, _∙_, subst}
 use mathlib.Core.Bool.{Bool, true, false, cond, _&&_}
 use mathlib.Core.List.{List, _∷_}
 use mathlib.Core.Option.{Option, none, some}
@@ -9,23 +9,26 @@ use native.Mathlib.Omega.{arith}
 use native.Mathlib.Nat.{not-suc-le-zero}
 use native.Mathlib.Decide.{ℕ-discrete}
 use lib.Dec.{eqb}
-use lib.ListN.{length, getD}
+use lib.ListN.{length}
 use borrow.Author.Tests.{eq-eqb, eqb-true}
 use Rattle.words.specs.Words.{at, tabulate}
-use Rattle.words.proofs.Words.{tabulate-same, length-tabulate, getD-tabulate}
+use Rattle.words.proofs.Words.{part-same, tabulate-same}
 use Rattle.spec_session.specs.Cache.{later}
-use Rattle.work_layout.specs.Layout.{USED, COUNTS, LOW, HIGH}
-use Rattle.work_layout.specs.Rows.{length-of, Row, row-of, rows-of, with-parents, adjust-row, all-counts}
+use Rattle.work_layout.specs.Layout.{USED, COUNTS, LEFT, RIGHT, LOW, HIGH, PARENTS}
+use Rattle.work_layout.specs.Rows.{Sound, length-of, Row, parents-of, row-of, with-parents, adjust-row, all-counts}
 use Rattle.cache_entries.specs.Meaning.{entry-or-none}
 use Rattle.cache_entries.specs.table.Contracts.{find-row}
 
-pub length-rows : (w : List ℕ) → length (rows-of w) ≡ at w USED
-unfolding rows-of
-length-rows w = length-tabulate (at w USED) (row-of w)
-
-pub row-at : (w : List ℕ) (e : ℕ) (d : Row) → e < at w USED → getD (rows-of w) e d ≡ row-of w e
-unfolding rows-of
-row-at w e d h = getD-tabulate (at w USED) (row-of w) e d h
+-- An entry rests on its own words.
+pub row-same : (w w′ : List ℕ) (k : ℕ) → Sound w → length w′ ≡ length w → k < at w USED → at w′ (LEFT + k) ≡ at w (LEFT + k)
+    → at w′ (RIGHT + k) ≡ at w (RIGHT + k) → at w′ (LOW + k) ≡ at w (LOW + k) → at w′ (HIGH + k) ≡ at w (HIGH + k) → at w′ (COUNTS + k) ≡ at w (COUNTS + k)
+    → ((i : ℕ) → i < 100 → at w′ (PARENTS + k * 100 + i) ≡ at w (PARENTS + k * 100 + i)) → row-of w′ k ≡ row-of w k
+unfolding parents-of
+row-same w w′ k so len h a b l m c q =
+    let d = so .counts k (omega (arith, so .used)) in
+    let p = part-same w w′ (PARENTS + k * 100) (at w (COUNTS + k)) (omega (arith, so .used, so .long)) len (λ i z. q i (omega arith)) in
+    let ps : parents-of w′ k ≡ parents-of w k = rw (c, p) in
+    λ i. record { left = a i; right = b i; parents = ps i; len = l i + 2 ^ 32 * m i }
 
 -- What `length_of` gives, at the place i of the entry e.
 pub length-is : (w : List ℕ) (e i a b : ℕ) → i ≡ e → a ≡ at w (LOW + i) → b ≡ at w (HIGH + i) → a + b * 4294967296 ≡ length-of w e
@@ -97,17 +100,25 @@ find-some (suc n) f l r zero h a b m = rw (eq-eqb (f 0 .left) l a, eq-eqb (f 0 .
 find-some (suc n) f l r (suc e) h a b m =
     rw (both (f 0 .left) l (f 0 .right) r (m 0 (omega arith)), find-some n (λ k. f (suc k)) l r e (omega arith) a b (λ k q. m (suc k) (omega arith)))
 
--- What is found is there.
-pub find-low : (n : ℕ) (f : ℕ → Row) (l r e : ℕ) → find-row l r (tabulate n f) ≡ some e → e < n
+-- What is found is there, and has the key.
+pub find-at : (n : ℕ) (f : ℕ → Row) (l r e : ℕ) → find-row l r (tabulate n f) ≡ some e → (e < n) × (f e .left ≡ l) × (f e .right ≡ r)
 unfolding tabulate
-find-low zero f l r e q = absurd (let z : _≡_ {A = ℕ} 0 1 = cc in omega arith)
-find-low (suc n) f l r e q =
-    go (eqb (f 0 .left) l && eqb (f 0 .right) r) (find-row l r (tabulate n (λ j. f (suc j)))) q (λ d. find-low n (λ j. f (suc j)) l r d)
+find-at zero f l r e q = absurd (let z : _≡_ {A = ℕ} 0 1 = cc in omega arith)
+find-at (suc n) f l r e q =
+    go (eqb (f 0 .left) l) (eqb (f 0 .right) r) (find-row l r (tabulate n (λ j. f (suc j)))) refl refl q (λ d. find-at n (λ j. f (suc j)) l r d)
   where
-    go : (t : Bool) (o : Option ℕ) → cond t (some 0) (later o) ≡ some e → ((d : ℕ) → o ≡ some d → d < n) → e < suc n
-    go true o p f = let y : 0 ≡ e = cc in omega arith
-    go false none p f = absurd (let z : _≡_ {A = ℕ} 0 1 = cc in omega arith)
-    go false (some d) p f = let y : suc d ≡ e = cc in omega (arith, f d refl)
+    Is : ℕ → Type 0
+    Is d = (d < suc n) × (f d .left ≡ l) × (f d .right ≡ r)
+
+    rest : (o : Option ℕ) → later o ≡ some e → ((d : ℕ) → o ≡ some d → (d < n) × (f (suc d) .left ≡ l) × (f (suc d) .right ≡ r)) → Is e
+    rest none p g = absurd (let z : _≡_ {A = ℕ} 0 1 = cc in omega arith)
+    rest (some d) p g = let y : suc d ≡ e = cc in let z = g d refl in subst Is y (omega arith, z .1, z .2)
+
+    go : (a b : Bool) (o : Option ℕ) → eqb (f 0 .left) l ≡ a → eqb (f 0 .right) r ≡ b → cond (a && b) (some 0) (later o) ≡ some e
+        → ((d : ℕ) → o ≡ some d → (d < n) × (f (suc d) .left ≡ l) × (f (suc d) .right ≡ r)) → Is e
+    go true true o x y p g = let z : 0 ≡ e = cc in subst Is z (omega arith, eqb-true (f 0 .left) l x, eqb-true (f 0 .right) r y)
+    go true false o x y p g = rest o p g
+    go false b o x y p g = rest o p g
 
 -- ---- a word that stands for an entry, as one more, or for none
 

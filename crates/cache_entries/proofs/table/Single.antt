@@ -3,16 +3,15 @@
 use Prim.Native.Nat.{ℕ, _+_, _*_, _≤_, _<_}
 use mathlib.Core.Path.{_≡_, ap, _∙_}
 use mathlib.Core.Bool.{Bool}
-use mathlib.Core.List.{List, map}
+use mathlib.Core.List.{List}
 use native.Mathlib.Omega.{arith}
 use native.Mathlib.Decide.{ℕ-discrete}
 use lib.ListN.{length}
-use Rattle.words.specs.Words.{at, part, tabulate}
-use Rattle.words.proofs.Words.{part-same}
+use Rattle.words.specs.Words.{at, tabulate}
 use Rattle.work_layout.specs.Layout.{USED, COUNTS, LEFT, RIGHT, LOW, HIGH, PARENTS, SEEN, ENTRIES}
-use Rattle.work_layout.specs.Rows.{parent-of, parents-of, row-of, rows-of, with-parents, adjust-row, length-of, Sound, all-counts}
+use Rattle.work_layout.specs.Rows.{parents-of, row-of, rows-of, with-parents, adjust-row, length-of, Sound, all-counts}
 use Rattle.cache_entries.specs.table.Contracts.{SameKeys}
-use Rattle.cache_entries.proofs.table.Rows.{adjust-tabulate, counts-but}
+use Rattle.cache_entries.proofs.table.Rows.{row-same, adjust-tabulate, counts-but}
 use Rattle.cache_entries.proofs.table.Chain.{chained-kept, distinct-kept}
 
 -- From USED on, w′ differs from w in the count and the row of entry e alone.
@@ -44,21 +43,11 @@ module _ (w w′ : List ℕ) (e : ℕ) (s : Sound w) (h : e < at w USED) (r : Ro
   pub row-keys : SameKeys w w′
   row-keys k l = let u = s .used in (key-same (LEFT + k) (omega arith) (omega arith), key-same (RIGHT + k) (omega arith) (omega arith))
 
-  parents-same : (k : ℕ) → k < ENTRIES → (k ≡ e → ⊥) → parents-of w′ k ≡ parents-of w k
-  unfolding parents-of
-  parents-same k l d =
-      let c = s .counts k l in
-      ap (λ (n : ℕ). map parent-of (part w′ (PARENTS + k * 100) n)) (count-same k l d)
-      ∙ ap (map parent-of) (part-same w w′ (PARENTS + k * 100) (at w (COUNTS + k)) (omega (arith, s .long)) (r .len) (λ i p. link-same k i (omega arith) d))
-
-  row-same : (k : ℕ) → k < at w USED → (k ≡ e → ⊥) → row-of w′ k ≡ row-of w k
-  row-same k l d =
+  other-row : (k : ℕ) → k < at w USED → (k ≡ e → ⊥) → row-of w′ k ≡ row-of w k
+  other-row k l d =
       let u = s .used in
-      let a = key-same (LEFT + k) (omega arith) (omega arith) in
-      let b = key-same (RIGHT + k) (omega arith) (omega arith) in
-      let p = parents-same k (omega arith) d in
-      let n : length-of w′ k ≡ length-of w k = rw (key-same (LOW + k) (omega arith) (omega arith), key-same (HIGH + k) (omega arith) (omega arith)) in
-      λ i. record { left = a i; right = b i; parents = p i; len = n i }
+      row-same w w′ k s (r .len) l (key-same (LEFT + k) (omega arith) (omega arith)) (key-same (RIGHT + k) (omega arith) (omega arith))
+      (key-same (LOW + k) (omega arith) (omega arith)) (key-same (HIGH + k) (omega arith) (omega arith)) (count-same k (omega arith) d) (λ i m. link-same k i m d)
 
   pub row-sound : Sound w′
   row-sound =
@@ -93,7 +82,7 @@ module _ (w w′ : List ℕ) (e : ℕ) (s : Sound w) (h : e < at w USED) (r : Ro
       let b = key-same (RIGHT + e) (omega arith) (omega arith) in
       let n : length-of w′ e ≡ length-of w e = rw (key-same (LOW + e) (omega arith) (omega arith), key-same (HIGH + e) (omega arith) (omega arith)) in
       let m : row-of w′ e ≡ with-parents (f (parents-of w e)) (row-of w e) = λ i. record { left = a i; right = b i; parents = q i; len = n i } in
-      ap (λ (x : ℕ). tabulate x (row-of w′)) row-used ∙ adjust-tabulate (at w USED) e (row-of w′) (row-of w) f h row-same m
+      ap (λ (x : ℕ). tabulate x (row-of w′)) row-used ∙ adjust-tabulate (at w USED) e (row-of w′) (row-of w) f h other-row m
 
   pub row-counts : all-counts w′ ENTRIES + at w (COUNTS + e) ≡ all-counts w ENTRIES + at w′ (COUNTS + e)
   row-counts = counts-but w w′ ENTRIES e e-low count-same

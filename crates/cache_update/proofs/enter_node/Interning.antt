@@ -1,39 +1,16 @@
 -- What `find_or_add` leaves.
 -- Assumes nothing.
-use Prim.Native.Nat.{ℕ, zero, suc}
-use mathlib.Core.Path.{_≡_, refl, sym, _∙_, subst}
-use mathlib.Core.Bool.{Bool, true, false, cond, _&&_}
+use Prim.Native.Nat.{ℕ}
+use mathlib.Core.Path.{_≡_, refl, sym, _∙_}
 use mathlib.Core.List.{List}
-use mathlib.Core.Option.{Option, none, some}
+use mathlib.Core.Option.{none, some}
 use native.Mathlib.Omega.{arith}
-use lib.Dec.{eqb}
-use borrow.Author.Tests.{eqb-true}
-use Rattle.words.specs.Words.{at, tabulate}
-use Rattle.spec_session.specs.Cache.{later}
+use Rattle.words.specs.Words.{at}
 use Rattle.work_layout.specs.Layout.{USED}
-use Rattle.work_layout.specs.Rows.{Row, row-of, rows-of, Sound}
+use Rattle.work_layout.specs.Rows.{row-of, rows-of, Sound}
 use Rattle.cache_entries.specs.table.Contracts.{find-row, Inserted, Interned}
-use Rattle.cache_entries.proofs.table.Rows.{length-rows, find-low}
-
--- What is found has the key.
-find-has : (n : ℕ) (f : ℕ → Row) (l r e : ℕ) → find-row l r (tabulate n f) ≡ some e → (f e .left ≡ l) × (f e .right ≡ r)
-unfolding tabulate
-find-has zero f l r e q = absurd (let z : _≡_ {A = ℕ} 0 1 = cc in omega arith)
-find-has (suc n) f l r e q =
-    go (eqb (f 0 .left) l) (eqb (f 0 .right) r) (find-row l r (tabulate n (λ j. f (suc j)))) refl refl q (λ d. find-has n (λ j. f (suc j)) l r d)
-  where
-    Has : ℕ → Type 0
-    Has d = (f d .left ≡ l) × (f d .right ≡ r)
-
-    rest : (o : Option ℕ) → later o ≡ some e → ((d : ℕ) → o ≡ some d → Has (suc d)) → Has e
-    rest none p g = absurd (let z : _≡_ {A = ℕ} 0 1 = cc in omega arith)
-    rest (some d) p g = let y : suc d ≡ e = cc in subst Has y (g d refl)
-
-    go : (a b : Bool) (o : Option ℕ) → eqb (f 0 .left) l ≡ a → eqb (f 0 .right) r ≡ b → cond (a && b) (some 0) (later o) ≡ some e
-        → ((d : ℕ) → o ≡ some d → Has (suc d)) → Has e
-    go true true o x y p g = let z : 0 ≡ e = cc in subst Has z (eqb-true (f 0 .left) l x, eqb-true (f 0 .right) r y)
-    go true false o x y p g = rest o p g
-    go false b o x y p g = rest o p g
+use Rattle.cache_entries.proofs.table.Rows.{find-at}
+use Rattle.cache_entries.proofs.Lift.{length-rows}
 
 -- An entry was found.
 pub found-interned : (w : List ℕ) (l r len e : ℕ) → Sound w → some e ≡ find-row l r (rows-of w) → Interned w w l r len e
@@ -41,9 +18,9 @@ unfolding rows-of
 found-interned w l r len e so q = record {
   sound = so;
   made = rw (← q);
-  low = find-low (at w USED) (row-of w) l r e (sym q);
+  low = find-at (at w USED) (row-of w) l r e (sym q) .0;
   keys = λ k h. (refl, refl);
-  key = find-has (at w USED) (row-of w) l r e (sym q);
+  key = let k = find-at (at w USED) (row-of w) l r e (sym q) in (k .1, k .2);
   new = λ k a b. absurd (omega arith);
   more = omega arith;
   few = omega arith;

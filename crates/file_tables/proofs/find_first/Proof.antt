@@ -6,12 +6,12 @@ use native.Mathlib.Omega.{arith}
 use borrow.Author.Needs.{needs}
 use Rattle.work_layout.specs.Rows.{atom-bytes}
 use Rattle.file_tables.proofs.listed_atoms.Slots.{slot-low}
-use Rattle.file_tables.proofs.Seeking.{Seek, seek-start, seek-low, seek-found, seek-less, seek-next, seek-none}
+use Rattle.file_tables.proofs.Seeking.{Sought, seek-start, seek-low, seek-found, seek-less, seek-next, seek-none}
 use Rattle.file_tables.proofs.find_first.Statement.{statement}
 use Rattle.file_tables.proofs.find_first.Tie as tie
 
 abbrev Inv-loop : tie.InvT-loop
-Inv-loop work file i slot head₀ head = Seek (atom-bytes file work) i slot head
+Inv-loop work file i slot head₀ head = Sought (atom-bytes file work) i slot head
 
 abbrev μ-loop : tie.MeasureT-loop
 μ-loop work file i slot head₀ head = head

@@ -5,12 +5,12 @@ use mathlib.Core.Logic.{⊎-elim}
 use borrow.Author.Needs.{needs}
 use Rattle.work_layout.specs.Rows.{rows-of}
 use Rattle.cache_entries.specs.table.Contracts.{find-row}
-use Rattle.cache_entries.proofs.table.Chain.{Seek, seek-start, seek-found, seek-less, skip-left, skip-right, seek-none}
+use Rattle.cache_entries.proofs.table.Chain.{Sought, seek-start, seek-found, seek-less, seek-next, seek-none}
 use Rattle.cache_entries.proofs.table.find_key.Statement.{statement}
 use Rattle.cache_entries.proofs.table.find_key.Tie as tie
 
 abbrev Inv-loop : tie.InvT-loop
-Inv-loop work k slot head₀ head = Seek work (k .left) (k .right) slot head
+Inv-loop work k slot head₀ head = Sought work (k .left) (k .right) slot head
 
 abbrev μ-loop : tie.MeasureT-loop
 μ-loop work k slot head₀ head = head
@@ -71,8 +71,8 @@ returns c =
     let k = t .before .before in
     let s = start k in
     let words = k .before .before .before .words-of .ensures in
-    seek-found (s .args .work .now) (s .pre) _ _ _ (k .loop .head) (t .wide .result) (k .loop .inv) (t .before .loop-test .taken) (t .wide .ensures)
-    (f .if1 .taken) (c .if2 .taken)
+    seek-found (s .args .work .now) (s .pre) _ _ _ (k .before .before .slot-of .ensures) (k .loop .head) (t .wide .result) (k .loop .inv) (t .before .loop-test .taken) (t .wide .ensures)
+    (f .if1 .taken, c .if2 .taken)
     ∙ (λ j. find-row (words .0 j) (words .1 j) (rows-of (s .args .work .now)))
 
 add-head-2 : tie.Need-add-head-2 Inv-loop μ-loop
@@ -89,17 +89,15 @@ loop-less c =
     let t = c .before .before .before .before in
     let k = t .before .before in
     let s = start k in
-    seek-less (s .args .work .now) (s .pre) _ _ _ (k .loop .head) (t .wide .result) (k .loop .inv) (t .before .loop-test .taken) (t .wide .ensures)
+    seek-less (s .args .work .now) (s .pre) _ _ _ (k .before .before .slot-of .ensures) (k .loop .head) (t .wide .result) (k .loop .inv) (t .before .loop-test .taken) (t .wide .ensures)
 
 loop-again : tie.Need-loop-again Inv-loop μ-loop
 loop-again c =
     let t = c .before .before .before .before in
     let k = t .before .before in
     let s = start k in
-    ⊎-elim
-    (λ x. skip-right (s .args .work .now) (s .pre) _ _ _ (k .loop .head) (t .wide .result) (k .loop .inv) (t .before .loop-test .taken) (t .wide .ensures) (x .0 .taken) (x .3 .left))
-    (λ x. skip-left (s .args .work .now) (s .pre) _ _ _ (k .loop .head) (t .wide .result) (k .loop .inv) (t .before .loop-test .taken) (t .wide .ensures) (x .left))
-    (c .before .if1 .came)
+    seek-next (s .args .work .now) (s .pre) _ _ _ (k .before .before .slot-of .ensures) (k .loop .head) (t .wide .result) (k .loop .inv) (t .before .loop-test .taken) (t .wide .ensures)
+    (λ has. ⊎-elim (λ x. x .3 .left (has .1)) (λ x. x .left (has .0)) (c .before .if1 .came))
 
 returns-2 : tie.Need-returns-2 Inv-loop μ-loop
 returns-2 c =

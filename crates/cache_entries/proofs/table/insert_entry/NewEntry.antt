@@ -13,13 +13,13 @@ use lib.Dec.{eqb}
 use lib.ListN.{length}
 use borrow.Author.Tests.{eq-eqb, ne-eqb}
 use Rattle.words.specs.Words.{at, part, tabulate}
-use Rattle.words.proofs.Words.{part-same, Store, stores, Misses, miss, hits, length-stores, tabulate-more}
+use Rattle.words.proofs.Words.{Store, stores, Misses, miss, hits, length-stores, tabulate-more}
 use Rattle.spec_session.specs.Cache.{later}
 use Rattle.work_layout.specs.Layout.{USED, COUNTS, LEFT, RIGHT, LOW, HIGH, NEXT, HEADS, PARENTS, SLOTS, ENTRIES}
 use Rattle.work_layout.specs.Rows.{Row, parents-of, row-of, rows-of, new-row, length-of, slot-of, slot-at, prev, Chained, Distinct, Sound}
 use Rattle.work_layout.specs.Prev.{prev-same}
 use Rattle.cache_entries.specs.table.Contracts.{find-row, Inserted}
-use Rattle.cache_entries.proofs.table.Rows.{counts-same, Missing}
+use Rattle.cache_entries.proofs.table.Rows.{row-same, counts-same, Missing}
 
 later-none : (o : Option ℕ) → later o ≡ none → o ≡ none
 later-none none q = refl
@@ -165,18 +165,10 @@ module _ (w : List ℕ) (l r len n s : ℕ) (so : Sound w) (room : at w USED < E
       links e i h m = omega (arith, used, link-kept (PARENTS + e * 100 + i) (omega arith), so .links e i h m)
 
   row-kept : (k : ℕ) → k < n → row-of w′ k ≡ row-of w k
-  unfolding parents-of
   row-kept k h =
       let z = s-low in
-      let a = left-kept k h in
-      let b = right-kept k h in
-      let c = count-kept k (omega arith) in
-      let d = so .counts k (omega arith) in
-      let p : part w′ (PARENTS + k * 100) (at w (COUNTS + k)) ≡ part w (PARENTS + k * 100) (at w (COUNTS + k)) =
-      part-same w w′ (PARENTS + k * 100) (at w (COUNTS + k)) (omega (arith, so .long)) long (λ i q. link-kept (PARENTS + k * 100 + i) (omega arith)) in
-      let ps : parents-of w′ k ≡ parents-of w k = rw (c, p) in
-      let ln : length-of w′ k ≡ length-of w k = rw (same (LOW + k) (omega arith), same (HIGH + k) (omega arith)) in
-      λ i. record { left = a i; right = b i; parents = ps i; len = ln i }
+      row-same w w′ k so long (omega arith) (left-kept k h) (right-kept k h) (same (LOW + k) (omega arith)) (same (HIGH + k) (omega arith))
+      (count-kept k (omega arith)) (λ i q. link-kept (PARENTS + k * 100 + i) (omega arith))
 
   row-new : row-of w′ n ≡ new-row l r len
   unfolding parents-of part
