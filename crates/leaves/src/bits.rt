@@ -20,7 +20,7 @@ fn child_pos(bit: u8) -> ChildPos {
 }
 
 // The path with these bits, pushed in this order.
-fn push_all(store: &mut [u32], bits: &[u8]) -> PathBuilder
+fn push_all(store: &mut [u8], bits: &[u8]) -> PathBuilder
     requires { ⌜ (length (now bits) ≤ 5120) × (length (now bits) ≤ 8 * length (now store)) ⌝ }
     ensures { λ r. ⌜ Sound (now (store .exit)) r ⌝ }
 {
@@ -34,7 +34,7 @@ fn push_all(store: &mut [u32], bits: &[u8]) -> PathBuilder
 }
 
 // `len`, `serialized_length` and the bytes of `done`.
-fn print_path(store: &mut [u32], builder: PathBuilder)
+fn print_path(store: &mut [u8], builder: PathBuilder)
     requires { ⌜ Sound (now store) builder ⌝ }
 {
     text::decimal(builder.len() as u64);
@@ -42,7 +42,7 @@ fn print_path(store: &mut [u32], builder: PathBuilder)
     text::decimal(builder.serialized_length(store) as u64);
     text::space();
     let n = builder.done(store);
-    print::hex_words(&store[..n]);
+    text::hex(&store[..n]);
 }
 
 // `b`: the path with these bits; 0 is a step to the left, any other byte one to the right.
@@ -50,7 +50,7 @@ pub fn path_of_bits(bits: &[u8]) -> bool {
     if MAX_BITS < bits.len() {
         return false;
     }
-    let mut store = [0u32; MAX_BYTES];
+    let mut store = [0u8; MAX_BYTES];
     let builder = push_all(&mut store, bits);
     print_path(&mut store, builder);
     true

@@ -15,12 +15,3 @@ pub fn bad_record() {
 pub fn none() {
     io::write_all(1, b"none");
 }
-
-// The words in hexadecimal, two digits for each that is a byte.
-pub fn hex_words(words: &[u32]) {
-    let mut i = 0;
-    while i < words.len() {
-        io::print_hex(1, words[i] as u64, 2);
-        i += 1;
-    }
-}

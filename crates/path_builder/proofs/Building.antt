@@ -10,9 +10,9 @@ use native.Mathlib.Numerals.{add-one}
 use native.Mathlib.Decide.{ℕ-discrete}
 use borrow.Author.Tests.{eq-eqb, ne-eqb}
 use lib.ListN.{length, getD, take, drop, set, length-set}
-use lib.Seq.{take-suc, take-suc-set, drop-set-lt, length-take-le, take-take, getD-take}
+use lib.Seq.{take-suc, take-suc-set, drop-set-lt}
 use lib.Pow.{shl-shr, shl-lt, shr-lt, split}
-use Rattle.words.specs.Lists.{Bytes, all-append, all-take, all-at}
+use Rattle.words.specs.Lists.{Bytes, all-at}
 use Rattle.path.specs.Bytes.{bit, value, low-bits, all-bits}
 use Rattle.path.specs.BytesLaws.{odd-value, half-value, shifted-split, value-last}
 use Rattle.path_builder.specs.declared.push_bit.BitPlace.{BitPlace}
@@ -73,18 +73,17 @@ module _ (k x : ℕ) (b : Bool) (h : k < 8) (small : x < 256) (clear : x % 2 ^ s
 
 -- That byte stands at m, after the whole bytes.
 module _ (s s′ : List ℕ) (p p′ : PathBuilder) (b : Bool) (m k x : ℕ) (h : k < 8) (small : x < 256) (clear : x % 2 ^ suc k ≡ 0) where
-  pub grown : m < length s → length s′ ≡ length s → Bytes (take m s) → 8 * suc m < 2 ^ 32
+  pub grown : m < length s → length s′ ≡ length s → 8 * suc m < 2 ^ 32
       → take (suc m) s′ ≡ take m s ++ (x + bit b * 2 ^ k) ∷ [] → drop (suc m) s′ ≡ drop (suc m) s
       → p′ .«in_use» ≡ suc m → p′ .«bit_pos» ≡ (k + 7) % 8 → built s p ≡ drop (suc k) (all-bits (take m s ++ x ∷ [])) → Pushed s p b s′ p′
   unfolding built
-  grown within len bytes few front back used place was =
+  grown within len few front back used place was =
       let f : free p′ ≡ k = omega arith in
       let t : take (p′ .«in_use») s′ ≡ take m s ++ (x + bit b * 2 ^ k) ∷ [] = ap (λ (n : ℕ). take n s′) used ∙ front in
       record {
         sound = record {
           counts = record { place = omega arith; begun = omega arith; few = omega arith };
           within = omega arith;
-          bytes = subst (λ (l : List ℕ). Bytes l) (sym t) (all-append (λ (n : ℕ). n < 256) (take m s) ((x + bit b * 2 ^ k) ∷ []) bytes (put-small k x b h small clear, tt));
           unset = ap₂ {C = ℕ} (λ (n : ℕ) (l : List ℕ). value (take n (all-bits l))) f t ∙ value-last k (take m s) (x + bit b * 2 ^ k) (omega arith) ∙ put-clear k x b h small clear;
         };
         bits = ap₂ {C = List Bool} (λ (n : ℕ) (l : List ℕ). drop n (all-bits l)) f t ∙ put-bits k x b h small clear (take m s) ∙ ap (λ (l : List Bool). b ∷ l) (sym was);
@@ -94,11 +93,11 @@ module _ (s s′ : List ℕ) (p p′ : PathBuilder) (b : Bool) (m k x : ℕ) (h 
 pub fresh : Fresh (record { «in_use» = 0; «bit_pos» = 7 })
 unfolding built all-bits
 fresh = record {
-  sound = λ store. record { counts = record { place = omega arith; begun = omega arith; few = omega arith }; within = omega arith; bytes = tt; unset = refl };
+  sound = λ store. record { counts = record { place = omega arith; begun = omega arith; few = omega arith }; within = omega arith; unset = refl };
   none = λ store. refl;
 }
 
-module _ (s : List ℕ) (p : PathBuilder) (b : Bool) (sound : Sound s p) (room : Room s p) where
+module _ (s : List ℕ) (p : PathBuilder) (b : Bool) (sound : Sound s p) (room : Room s p) (bytes : Bytes s) where
   -- There is room for the byte that the next bit goes to.
   pub next-within : p .«in_use» + (p .«bit_pos» + 1) / 8 ≤ length s
   next-within = omega (arith, length-built s p sound, room .bytes, sound .counts .place, sound .within)
@@ -108,17 +107,16 @@ module _ (s : List ℕ) (p : PathBuilder) (b : Bool) (sound : Sound s p) (room :
   module _ (s′ : List ℕ) (p′ : PathBuilder) (place : p′ .«bit_pos» ≡ (p .«bit_pos» + 7) % 8) where
     new-byte : p .«bit_pos» ≡ 7 → s′ ≡ set s (p .«in_use») (bit b * 2 ^ 7) → p′ .«in_use» ≡ p .«in_use» + 1 → Pushed s p b s′ p′
     unfolding built low-bits
-    new-byte e words used =
+    new-byte e stored used =
         let f : free p ≡ 0 = omega arith in
         let byte : bit b * 2 ^ 7 ≡ 0 + bit b * 2 ^ 7 = omega arith in
         let within : p .«in_use» < length s = omega (arith, next-within) in
         grown s s′ p p′ b (p .«in_use») 7 0 (omega arith) (omega arith) refl
         within
-        (ap length words ∙ length-set s (p .«in_use») (bit b * 2 ^ 7))
-        (sound .bytes)
+        (ap length stored ∙ length-set s (p .«in_use») (bit b * 2 ^ 7))
         (omega (arith, length-built s p sound, room .count))
-        (ap (take (suc (p .«in_use»))) words ∙ take-suc-set s (p .«in_use») (bit b * 2 ^ 7) within ∙ ap (λ (v : ℕ). take (p .«in_use») s ++ v ∷ []) byte)
-        (ap (drop (suc (p .«in_use»))) words ∙ drop-set-lt (suc (p .«in_use»)) s (p .«in_use») (bit b * 2 ^ 7) (omega arith))
+        (ap (take (suc (p .«in_use»))) stored ∙ take-suc-set s (p .«in_use») (bit b * 2 ^ 7) within ∙ ap (λ (v : ℕ). take (p .«in_use») s ++ v ∷ []) byte)
+        (ap (drop (suc (p .«in_use»))) stored ∙ drop-set-lt (suc (p .«in_use»)) s (p .«in_use») (bit b * 2 ^ 7) (omega arith))
         (used ∙ add-one (p .«in_use»))
         (place ∙ ap (λ (n : ℕ). (n + 7) % 8) e)
         (ap (λ (n : ℕ). drop n (all-bits (take (p .«in_use») s))) f ∙ sym (shifted-split 8 (take (p .«in_use») s) 0 (omega arith)))
@@ -134,29 +132,30 @@ module _ (s : List ℕ) (p : PathBuilder) (b : Bool) (sound : Sound s p) (room :
     last-front : take (p .«in_use») s ≡ take (p .«in_use» - 1) s ++ getD s (p .«in_use» - 1) 0 ∷ []
     last-front = ap (λ (n : ℕ). take n s) last-used ∙ take-suc s (p .«in_use» - 1) 0 (omega (arith, last-used, sound .within))
 
-    pub last-small : getD s (p .«in_use» - 1) 0 < 256
-    last-small =
-        rw (getD-take (p .«in_use») s (p .«in_use» - 1) 0 (omega (arith, last-used))) at
-        (all-at (λ (n : ℕ). n < 256) (take (p .«in_use») s) 0 (p .«in_use» - 1) (sound .bytes) (omega (arith, last-used, length-take-le (p .«in_use») s (sound .within))))
+    last-small : getD s (p .«in_use» - 1) 0 < 256
+    last-small = all-at (λ (n : ℕ). n < 256) s 0 (p .«in_use» - 1) bytes (omega (arith, last-used, sound .within))
 
     last-clear : getD s (p .«in_use» - 1) 0 % 2 ^ suc (p .«bit_pos») ≡ 0
     last-clear =
         sym (value-last (suc (p .«bit_pos»)) (take (p .«in_use» - 1) s) (getD s (p .«in_use» - 1) 0) (sound .counts .place))
         ∙ ap₂ {C = ℕ} (λ (n : ℕ) (l : List ℕ). value (take n (all-bits l))) (sym last-free) (sym last-front) ∙ sound .unset
 
+    -- The bit fits into the byte.
+    pub last-fits : getD s (p .«in_use» - 1) 0 + bit b * 2 ^ p .«bit_pos» < 256
+    last-fits = put-small (p .«bit_pos») (getD s (p .«in_use» - 1) 0) b (sound .counts .place) last-small last-clear
+
     more-bits : (s′ : List ℕ) (p′ : PathBuilder) → p′ .«bit_pos» ≡ (p .«bit_pos» + 7) % 8
         → s′ ≡ set s (p .«in_use» - 1) (getD s (p .«in_use» - 1) 0 + bit b * 2 ^ p .«bit_pos») → p′ .«in_use» ≡ p .«in_use» → Pushed s p b s′ p′
     unfolding built
-    more-bits s′ p′ place words used =
+    more-bits s′ p′ place stored used =
         let v : ℕ = getD s (p .«in_use» - 1) 0 + bit b * 2 ^ p .«bit_pos» in
         grown s s′ p p′ b (p .«in_use» - 1) (p .«bit_pos») (getD s (p .«in_use» - 1) 0)
         (sound .counts .place) last-small last-clear
         (omega (arith, last-used, sound .within))
-        (ap length words ∙ length-set s (p .«in_use» - 1) v)
-        (subst (λ (l : List ℕ). Bytes l) (take-take (p .«in_use» - 1) (p .«in_use») s (omega arith)) (all-take (λ (n : ℕ). n < 256) (p .«in_use» - 1) (take (p .«in_use») s) (sound .bytes)))
+        (ap length stored ∙ length-set s (p .«in_use» - 1) v)
         (omega (arith, last-used, sound .counts .few))
-        (ap (take (suc (p .«in_use» - 1))) words ∙ take-suc-set s (p .«in_use» - 1) v (omega (arith, last-used, sound .within)))
-        (ap (drop (suc (p .«in_use» - 1))) words ∙ drop-set-lt (suc (p .«in_use» - 1)) s (p .«in_use» - 1) v (omega arith))
+        (ap (take (suc (p .«in_use» - 1))) stored ∙ take-suc-set s (p .«in_use» - 1) v (omega (arith, last-used, sound .within)))
+        (ap (drop (suc (p .«in_use» - 1))) stored ∙ drop-set-lt (suc (p .«in_use» - 1)) s (p .«in_use» - 1) v (omega arith))
         (used ∙ last-used)
         place
         (ap₂ {C = List Bool} (λ (n : ℕ) (l : List ℕ). drop n (all-bits l)) last-free last-front)
@@ -167,9 +166,9 @@ module _ (s : List ℕ) (p : PathBuilder) (b : Bool) (sound : Sound s p) (room :
       → Pushed s p b s′ (record { «in_use» = q .«in_use»; «bit_pos» = q .«bit_pos» })
   pushed v ev s′ q h = go (ℕ-discrete (p .«bit_pos») 7)
     where
-      words : s′ ≡ put s (p .«in_use») (p .«bit_pos») (bit b)
-      words = h .words ∙ ap (put s (p .«in_use») (p .«bit_pos»)) ev
+      stored : s′ ≡ put s (p .«in_use») (p .«bit_pos») (bit b)
+      stored = h .stored ∙ ap (put s (p .«in_use») (p .«bit_pos»)) ev
 
       go : Dec (p .«bit_pos» ≡ 7) → Pushed s p b s′ (record { «in_use» = q .«in_use»; «bit_pos» = q .«bit_pos» })
-      go (yes e) = new-byte s′ _ (h .place) e (rw (eq-eqb (p .«bit_pos») 7 e) at words) (rw (eq-eqb (p .«bit_pos») 7 e) at (h .bytes))
-      go (no d) = more-bits d s′ _ (h .place) (rw (ne-eqb (p .«bit_pos») 7 d) at words) (rw (ne-eqb (p .«bit_pos») 7 d) at (h .bytes))
+      go (yes e) = new-byte s′ _ (h .place) e (rw (eq-eqb (p .«bit_pos») 7 e) at stored) (rw (eq-eqb (p .«bit_pos») 7 e) at (h .bytes))
+      go (no d) = more-bits d s′ _ (h .place) (rw (ne-eqb (p .«bit_pos») 7 d) at stored) (rw (ne-eqb (p .«bit_pos») 7 d) at (h .bytes))

@@ -1,31 +1,26 @@
 -- What follows from a path builder's numbers: the finished path, and the bytes it is counted at.
 -- Assumes nothing.
-use Prim.Native.Nat.{ℕ, zero, suc, _+_, _%_}
-use mathlib.Core.Path.{_≡_, refl, sym, ap, ap₂, subst, _∙_}
+use Prim.Native.Nat.{ℕ, _+_, _%_, _<_}
+use mathlib.Core.Path.{_≡_, refl, sym, ap, ap₂, _∙_}
 use mathlib.Core.Bool.{Bool, _&&_}
 use mathlib.Core.List.{List}
 use native.Mathlib.Omega.{arith}
 use native.Mathlib.Decide.{ℕ-discrete}
-use lib.Dec.{eqb, leb}
-use borrow.Author.Tests.{eq-eqb, ne-eqb}
+use lib.Dec.{eqb, ltb, leb}
+use borrow.Author.Tests.{eq-eqb, ne-eqb, lt-ltb}
 use lib.ListN.{length, getD, take, drop}
 use lib.Seq.{getD-take}
-use Rattle.words.specs.Lists.{Bytes}
+use Rattle.words.specs.Lists.{Bytes, all-take}
 use Rattle.path.specs.Bytes.{octets, path-bytes, all-bits}
 use Rattle.path.specs.BytesLaws.{length-path-bytes, octets-all-bits}
 use Rattle.path.specs.Measure.{counted-bytes, counted}
+use Rattle.path.specs.MeasureLaws.{only-one}
 use Rattle.path_builder.specs.Aligned.{Aligned}
 use Rattle.path_builder.specs.declared.PathBuilder.{PathBuilder}
 use Rattle.path_builder.specs.Builder.{free, built, Sound, Finished}
 use Rattle.path_builder.specs.BuilderLaws.{length-built, in-use-built, path-bytes-built}
 
--- `full` counts for a path of one byte only.
-same-counted : (n : ℕ) (f g : Bool) → (n ≡ 1 → f ≡ g) → counted-bytes f n ≡ counted-bytes g n
-same-counted zero f g e = refl
-same-counted (suc zero) f g e = ap (λ (b : Bool). counted-bytes b 1) (e refl)
-same-counted (suc (suc n)) f g e = rw (ne-eqb (suc (suc n)) 1 (λ q. omega arith))
-
-module _ (s : List ℕ) (p : PathBuilder) (sound : Sound s p) where
+module _ (s : List ℕ) (p : PathBuilder) (sound : Sound s p) (bytes : Bytes s) where
   -- ---- the finished path
 
   bytes-used : p .«in_use» ≡ length (path-bytes (built s p))
@@ -36,7 +31,7 @@ module _ (s : List ℕ) (p : PathBuilder) (sound : Sound s p) where
   full-bytes e =
       let f : free p ≡ 0 = omega arith in
       sym (path-bytes-built s p sound ∙ ap (λ (n : ℕ). octets (p .«in_use») (drop n (all-bits (take (p .«in_use») s)))) f
-      ∙ octets-all-bits (p .«in_use») s (sound .within) (sound .bytes))
+      ∙ octets-all-bits (p .«in_use») s (sound .within) (all-take (λ (n : ℕ). n < 256) (p .«in_use») s bytes))
 
   pub done-full : p .«bit_pos» ≡ 7 → (n : ℕ) → n ≡ p .«in_use» → Finished s p s n
   done-full e n en = record { count = en ∙ bytes-used; bytes = ap (λ (k : ℕ). take k s) en ∙ full-bytes e; rest = refl }
@@ -50,9 +45,6 @@ module _ (s : List ℕ) (p : PathBuilder) (sound : Sound s p) where
         bytes = a .bytes ∙ ap₂ {C = List ℕ} (λ (k g : ℕ). octets k (drop g (all-bits (take k s)))) en f ∙ sym (path-bytes-built s p sound);
         rest = a .rest;
       }
-
-  pub part-bytes : (n : ℕ) → n ≡ p .«in_use» → Bytes (take n s)
-  part-bytes n en = subst (λ (k : ℕ). Bytes (take k s)) (sym en) (sound .bytes)
 
   -- ---- the bytes it is counted at
 
@@ -75,5 +67,9 @@ module _ (s : List ℕ) (p : PathBuilder) (sound : Sound s p) where
   one-full u (no d) =
       rw (ne-eqb (p .«bit_pos») 7 d, ne-eqb (length (built s p) % 8) 0 (λ q. omega (arith, length-built s p sound, sound .counts .place)))
 
-  pub counted-same : counted-bytes (eqb (p .«bit_pos») 7 && leb 80 (getD s 0 0)) (p .«in_use») ≡ counted (built s p)
-  counted-same = same-counted (p .«in_use») _ _ (λ u. one-full u (ℕ-discrete (p .«bit_pos») 7)) ∙ sym counted-built
+  -- The first byte is asked for where there is one.
+  pub counted-same : counted-bytes (ltb 0 (p .«in_use») && (eqb (p .«bit_pos») 7 && leb 80 (getD s 0 0))) (p .«in_use») ≡ counted (built s p)
+  counted-same = only-one (ltb 0 (p .«in_use») && (eqb (p .«bit_pos») 7 && leb 80 (getD s 0 0))) full (p .«in_use») one ∙ sym counted-built
+    where
+      one : p .«in_use» ≡ 1 → ltb 0 (p .«in_use») && (eqb (p .«bit_pos») 7 && leb 80 (getD s 0 0)) ≡ full
+      one u = rw (lt-ltb 0 (p .«in_use») (omega arith)) (one-full u (ℕ-discrete (p .«bit_pos») 7))

@@ -5,7 +5,6 @@ use mathlib.Core.Path.{_≡_}
 use mathlib.Core.Bool.{Bool, true, false}
 use mathlib.Core.List.{List, [], _∷_}
 use lib.ListN.{length, take, drop}
-use Rattle.words.specs.Lists.{Bytes}
 use Rattle.path.specs.Bytes.{value, all-bits, path-bytes}
 use Rattle.path_builder.specs.declared.ChildPos.{ChildPos}
 use Rattle.path_builder.specs.declared.ChildPos.the-variants.{Left, Right}
@@ -30,11 +29,10 @@ pub record Counts (p : PathBuilder) : Type 0 where
   pub begun : free p ≤ 8 * p .«in_use»
   pub few : 8 * p .«in_use» < 2 ^ 32
 
--- A builder with its store, one byte in each word: the free places are 0. Nothing is said of the words after the bytes in use.
+-- A builder with its store: the free places are 0. Nothing is said of the bytes after those in use.
 pub record Sound (store : List ℕ) (p : PathBuilder) : Type 0 where
   pub counts : Counts p
   pub within : p .«in_use» ≤ length store
-  pub bytes : Bytes (take (p .«in_use») store)
   pub unset : value (take (free p) (all-bits (take (p .«in_use») store))) ≡ 0
 
 -- A new builder has no bits, whatever its store.
@@ -47,13 +45,13 @@ pub record Room (store : List ℕ) (p : PathBuilder) : Type 0 where
   pub bytes : length (built store p) < 8 * length store
   pub count : length (built store p) + 8 < 2 ^ 32
 
--- The bit b was pushed. The words after the bytes in use are as they were.
+-- The bit b was pushed. The bytes after those in use are as they were.
 pub record Pushed (store : List ℕ) (p : PathBuilder) (b : Bool) (store′ : List ℕ) (p′ : PathBuilder) : Type 0 where
   pub sound : Sound store′ p′
   pub bits : built store′ p′ ≡ b ∷ built store p
   pub rest : drop (p′ .«in_use») store′ ≡ drop (p′ .«in_use») store
 
--- The first n words are the path's bytes, and the words after them are as they were.
+-- The first n bytes are the path's, and those after them are as they were.
 pub record Finished (store : List ℕ) (p : PathBuilder) (store′ : List ℕ) (n : ℕ) : Type 0 where
   pub count : n ≡ length (path-bytes (built store p))
   pub bytes : take n store′ ≡ path-bytes (built store p)

@@ -18,6 +18,6 @@ used n k = cond (eqb k 7) (n + 1) n
 
 -- The bit b was put after n bytes at place k, and p is where the next one goes.
 pub record Put (store : List ℕ) (n k b : ℕ) (store′ : List ℕ) (p : BitPlace) : Type 0 where
-  pub words : store′ ≡ put store n k b
+  pub stored : store′ ≡ put store n k b
   pub bytes : p .«in_use» ≡ used n k
   pub place : p .«bit_pos» ≡ (k + 7) % 8

@@ -1,9 +1,10 @@
 // Builds a path backwards, from the target. The bytes are big-endian, the left-most at index 0, and the path is built from left to right, since
-// it is followed from right to left. The store is lent, one byte in each word.
+// it is followed from right to left. The store is lent.
 mod path_length;
 mod push_bit;
 mod right_align;
 
+pub use path_length::counted_bytes;
 use words::wide;
 ghost use mathlib.Core.Path.{_≡_};
 ghost use mathlib.Core.List.{List};
@@ -26,7 +27,7 @@ pub struct PathBuilder {
 }
 
 // The bit of a step.
-fn bit_of(dir: ChildPos) -> u32
+fn bit_of(dir: ChildPos) -> u8
     ensures { λ r. ⌜ r ≡ bit (right dir) ⌝ }
 {
     match dir {
@@ -47,7 +48,7 @@ impl PathBuilder {
     }
 
     // One bit more.
-    pub fn push(self, store: &mut [u32], dir: ChildPos) -> PathBuilder
+    pub fn push(self, store: &mut [u8], dir: ChildPos) -> PathBuilder
         requires { ⌜ (Sound (now store) self) × (Room (now store) self) ⌝ }
         ensures { λ r. ⌜ Pushed (now (store .entry)) self (right dir) (now (store .exit)) r ⌝ }
     {
@@ -58,8 +59,8 @@ impl PathBuilder {
         }
     }
 
-    // Right-aligns the path in place: its bytes are the first words of the store, as many as are returned.
-    pub fn done(self, store: &mut [u32]) -> usize
+    // Right-aligns the path in place: its bytes are the first of the store, as many as are returned.
+    pub fn done(self, store: &mut [u8]) -> usize
         requires { ⌜ Sound (now store) self ⌝ }
         ensures { λ r. ⌜ Finished (now (store .entry)) self (now (store .exit)) r ⌝ }
     {
@@ -68,7 +69,7 @@ impl PathBuilder {
         if place == 7 {
             return n;
         }
-        right_align::right_align(store, n, place as u32 + 1);
+        right_align::right_align(store, n, place + 1);
         n
     }
 
@@ -88,11 +89,13 @@ impl PathBuilder {
         path_length::len(self.in_use, self.bit_pos)
     }
 
-    // The number of bytes that the path's atom is counted at.
-    pub fn serialized_length(self, store: &[u32]) -> u32
+    // The number of bytes that the path's atom is counted at. The Rust's 80 is decimal.
+    pub fn serialized_length(self, store: &[u8]) -> u32
         requires { ⌜ Sound (now store) self ⌝ }
         ensures { λ r. ⌜ r ≡ counted (built (now (store .entry)) self) ⌝ }
     {
-        path_length::serialized_length(self.in_use, self.bit_pos, store)
+        let n = self.in_use;
+        let full = 0 < n && (self.bit_pos == 7 && store[0] >= 80);
+        counted_bytes(n, full)
     }
 }

@@ -1,4 +1,4 @@
-// One bit more in a path's store, which is lent, one byte in each word.
+// One bit more in a path's store, which is lent.
 use words::wide;
 ghost use mathlib.Core.Path.{_≡_};
 ghost use Prim.Native.Nat.{_+_, _*_, _-_, _/_, _%_, _^_, _≤_, _<_};
@@ -19,10 +19,10 @@ fn next_place(place: u8) -> u8
     if place == 0 { 7 } else { place - 1 }
 }
 
-// One bit more. A new byte is stored, not added to: nothing is assumed of the words after the bytes in use.
-pub fn push_bit(store: &mut [u32], in_use: u32, place: u8, bit: u32) -> BitPlace
+// One bit more. A new byte is stored, not added to: nothing is assumed of the bytes after those in use.
+pub fn push_bit(store: &mut [u8], in_use: u32, place: u8, bit: u8) -> BitPlace
     requires { ⌜ (place < 8) × (bit < 2) × ((place + 1) % 8 ≤ 8 * «in_use») × («in_use» + (place + 1) / 8 ≤ length (now store))
-        × («in_use» + 1 < 2 ^ 32) × ((place < 7) → getD (now store) («in_use» - 1) 0 < 256) ⌝ }
+        × («in_use» + 1 < 2 ^ 32) × ((place < 7) → getD (now store) («in_use» - 1) 0 + bit * 2 ^ place < 256) ⌝ }
     ensures { λ r. ⌜ Put (now (store .entry)) «in_use» place bit (now (store .exit)) r ⌝ }
 {
     let n = wide(in_use);
@@ -34,7 +34,7 @@ pub fn push_bit(store: &mut [u32], in_use: u32, place: u8, bit: u32) -> BitPlace
         };
     }
     let x = store[n - 1];
-    store[n - 1] = x + (bit << (place as u32));
+    store[n - 1] = x + (bit << place);
     BitPlace {
         in_use: in_use,
         bit_pos: next_place(place),

@@ -4,19 +4,14 @@ use mathlib.Core.Path.{_≡_}
 use mathlib.Core.Bool.{Bool}
 use mathlib.Core.List.{List}
 use mathlib.Core.Option.{Option, none, some}
-use Prim.Native.Nat.{ℕ, _+_, _/_, _%_}
-use lib.Dec.{eqb}
-use Rattle.path.specs.Measure.{counted, counted-bytes}
+use Prim.Native.Nat.{ℕ}
+use Rattle.path.specs.Measure.{counted}
 use Rattle.spec_search.specs.Search.{search, used}
 use Rattle.work_layout.specs.Rows.{stack-of}
 use Rattle.search_find.specs.declared.find_path.Path.{Path}
 use Rattle.search_find.specs.declared.find_path.Path.the-variants.{At, NoPath}
 use Rattle.search_list.specs.State.{parents-of-all, path-at, Readable}
 use Rattle.search_list.specs.Steps.{Kept}
-
--- What `serialized_length` counts for a path of n bits, the first of which is set.
-abbrev pub counted-of : ℕ → ℕ
-counted-of n = counted-bytes (eqb (n % 8) 0) ((n + 7) / 8)
 
 abbrev pub path-of : List ℕ → Path → Option (List Bool)
 path-of w (At i) = some (path-at w i)

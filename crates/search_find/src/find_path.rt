@@ -2,40 +2,22 @@
 use search_passes::Way;
 use work_layout::EntryIndex;
 ghost use mathlib.Core.Path.{_≡_};
+ghost use mathlib.Core.Bool.{Bool};
+ghost use mathlib.Core.List.{List};
 ghost use Prim.Native.Nat.{_≤_, _<_};
+ghost use lib.ListN.{length};
+ghost use Rattle.path.specs.Measure.{counted};
+ghost use Rattle.spec_search.specs.PathBits.{Ends};
 ghost use Rattle.work_layout.specs.Layout.{ENTRIES};
 ghost use Rattle.work_layout.specs.Rows.{Tops, Sound, all-counts};
-ghost use Rattle.search_find.specs.Answers.{counted-of, FoundPath};
+ghost use Rattle.search_find.specs.Answers.{FoundPath};
 
-// What `serialized_length` counts for a path of n bits, the first of which is set.
-fn counted(n: usize) -> usize
+// The bytes that a path of n bits, the first of which is set, is counted at.
+fn counted_bits(n: usize) -> u64
     requires { ⌜ n ≤ 8192 ⌝ }
-    ensures { λ r. ⌜ r ≡ counted-of n ⌝ }
+    ensures { λ r. ⌜ ((bits : List Bool) → n ≡ length bits → Ends bits → r ≡ counted bits) ⌝ }
 {
-    let k = (n + 7) / 8;
-    if k == 0 {
-        return 1;
-    }
-    if n == 8 {
-        return 2;
-    }
-    if k == 1 {
-        return 1;
-    }
-    if k < 64 {
-        return k + 1;
-    }
-    if k < 512 {
-        return k + 2;
-    }
-    k + 3
-}
-
-// A length as 64 bits.
-fn wide_len(n: usize) -> u64
-    ensures { λ r. ⌜ r ≡ n ⌝ }
-{
-    n as u64
+    path_builder::counted_bytes(((n + 7) / 8) as u32, n % 8 == 0) as u64
 }
 
 // The slot of the path that is used, or that none is.
@@ -51,7 +33,7 @@ pub fn find_path(work: &mut [u32], e: EntryIndex, len: u64, depth: usize) -> Pat
 {
     match search_passes::search(work, e, len, depth) {
         Way::By(i) => {
-            if wide_len(counted(search_list::size_of(work, i))) < len {
+            if counted_bits(search_list::size_of(work, i)) < len {
                 return Path::At(i);
             }
             Path::NoPath

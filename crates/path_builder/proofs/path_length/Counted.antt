@@ -2,28 +2,21 @@
 -- Assumes nothing.
 use Prim.Native.Nat.{ℕ, _+_, _≤_, _<_}
 use mathlib.Core.Path.{_≡_, sym, ap, _∙_}
-use mathlib.Core.Bool.{false, cond, _&&_}
+use mathlib.Core.Bool.{Bool, true, false, cond}
 use native.Mathlib.Omega.{arith}
-use lib.Dec.{eqb, ltb, leb}
-use borrow.Author.Tests.{eq-eqb, ne-eqb, lt-ltb, le-ltb, le-leb, lt-leb}
+use lib.Dec.{eqb, ltb}
+use borrow.Author.Tests.{ne-eqb, lt-ltb, le-ltb}
 use Rattle.path.specs.Measure.{counted-bytes}
 
--- k is the place that the next bit goes to, and x the first byte
-module _ (k x n : ℕ) where
-  pub counted-none : n ≡ 0 → 1 ≡ counted-bytes (eqb k 7 && leb 80 x) n
-  counted-none e = sym (ap (counted-bytes (eqb k 7 && leb 80 x)) e)
+module _ (full : Bool) (n : ℕ) where
+  pub counted-none : n ≡ 0 → 1 ≡ counted-bytes full n
+  counted-none e = sym (ap (counted-bytes full) e)
 
-  one-byte : n ≡ 1 → counted-bytes (eqb k 7 && leb 80 x) n ≡ cond (eqb k 7 && leb 80 x) 2 1
-  one-byte e = ap (counted-bytes (eqb k 7 && leb 80 x)) e
+  pub counted-full : n ≡ 1 → full ≡ true → 2 ≡ counted-bytes full n
+  counted-full e f = rw (e, f)
 
-  pub counted-large : n ≡ 1 → k ≡ 7 → 80 ≤ x → 2 ≡ counted-bytes (eqb k 7 && leb 80 x) n
-  counted-large u e l = sym (one-byte u ∙ rw (eq-eqb k 7 e, le-leb 80 x l))
-
-  pub counted-small : n ≡ 1 → k ≡ 7 → x < 80 → 1 ≡ counted-bytes (eqb k 7 && leb 80 x) n
-  counted-small u e l = sym (one-byte u ∙ rw (eq-eqb k 7 e, lt-leb 80 x l))
-
-  pub counted-part : n ≡ 1 → (k ≡ 7 → ⊥) → 1 ≡ counted-bytes (eqb k 7 && leb 80 x) n
-  counted-part u d = sym (one-byte u ∙ rw (ne-eqb k 7 d))
+  pub counted-one : n ≡ 1 → full ≡ false → 1 ≡ counted-bytes full n
+  counted-one e f = rw (e, f)
 
   module _ (more : 1 < n) where
     none : eqb n 0 ≡ false
@@ -32,23 +25,23 @@ module _ (k x n : ℕ) where
     one : eqb n 1 ≡ false
     one = ne-eqb n 1 (λ q. omega arith)
 
-    pub counted-1 : n < 64 → 1 + n ≡ counted-bytes (eqb k 7 && leb 80 x) n
+    pub counted-1 : n < 64 → 1 + n ≡ counted-bytes full n
     counted-1 h = sym (rw (none, one, lt-ltb n 64 h))
 
-    pub counted-2 : 64 ≤ n → n < 512 → 2 + n ≡ counted-bytes (eqb k 7 && leb 80 x) n
+    pub counted-2 : 64 ≤ n → n < 512 → 2 + n ≡ counted-bytes full n
     counted-2 l h = sym (rw (none, one, le-ltb n 64 l, lt-ltb n 512 h))
 
-    pub counted-3 : 512 ≤ n → n < 1048576 → 3 + n ≡ counted-bytes (eqb k 7 && leb 80 x) n
+    pub counted-3 : 512 ≤ n → n < 1048576 → 3 + n ≡ counted-bytes full n
     counted-3 l h = sym (rw (none, one, le-ltb n 64 (omega arith), le-ltb n 512 l, lt-ltb n 1048576 h))
 
-    longer : 1048576 ≤ n → counted-bytes (eqb k 7 && leb 80 x) n ≡ cond (ltb n 16777216) (5 + n) (cond (ltb n 134217728) (4 + n) (5 + n))
+    longer : 1048576 ≤ n → counted-bytes full n ≡ cond (ltb n 16777216) (5 + n) (cond (ltb n 134217728) (4 + n) (5 + n))
     longer l = rw (none, one, le-ltb n 64 (omega arith), le-ltb n 512 (omega arith), le-ltb n 1048576 l)
 
-    pub counted-4 : 16777216 ≤ n → n < 134217728 → 4 + n ≡ counted-bytes (eqb k 7 && leb 80 x) n
+    pub counted-4 : 16777216 ≤ n → n < 134217728 → 4 + n ≡ counted-bytes full n
     counted-4 l h = sym (longer (omega arith) ∙ rw (le-ltb n 16777216 l, lt-ltb n 134217728 h))
 
-    pub counted-5 : 1048576 ≤ n → n < 16777216 → 5 + n ≡ counted-bytes (eqb k 7 && leb 80 x) n
+    pub counted-5 : 1048576 ≤ n → n < 16777216 → 5 + n ≡ counted-bytes full n
     counted-5 l h = sym (longer l ∙ rw (lt-ltb n 16777216 h))
 
-    pub counted-5-long : 134217728 ≤ n → 5 + n ≡ counted-bytes (eqb k 7 && leb 80 x) n
+    pub counted-5-long : 134217728 ≤ n → 5 + n ≡ counted-bytes full n
     counted-5-long l = sym (longer (omega arith) ∙ rw (le-ltb n 16777216 (omega arith), le-ltb n 134217728 l))

@@ -5,49 +5,37 @@ use mathlib.Core.Path.{_≡_, refl, sym, ap, ap₂, subst, _∙_}
 use mathlib.Core.Bool.{Bool}
 use mathlib.Core.List.{List, [], _∷_, _++_, append-assoc, append-nil}
 use native.Mathlib.Omega.{arith}
-use native.Mathlib.Nat.{one-mul, mul-comm, mod-lt, div-le-self}
+use native.Mathlib.Nat.{mul-comm, mul-mod-left}
 use native.Mathlib.Numerals.{add-one}
 use lib.ListN.{length, getD, take, drop, set, length-set, drop-of-length-le}
-use lib.Seq.{take-suc, take-nil, take-set-le, take-set-lt, drop-set-lt, drop-cons, length-take-le, take-take, getD-take, getD-set-same}
-use lib.Pow.{pow-pos, shl-exact, shl-lt}
-use Rattle.words.specs.Lists.{Bytes, all-take, all-at}
+use lib.Seq.{take-suc, take-nil, take-set-le, take-set-lt, drop-set-lt, drop-cons, length-take-le, take-take, getD-set-same}
+use lib.Pow.{mod-pow-add, shl-shr}
 use Rattle.path.specs.Bytes.{value, octets, all-bits}
-use Rattle.path.specs.BytesLaws.{octets-suc, value-shifted, drop-shifted, value-last}
+use Rattle.path.specs.BytesLaws.{octets-suc, value-bound, value-shifted, drop-shifted, value-last}
 use Rattle.path_builder.specs.Aligned.{Aligned}
 
 -- ---- one byte
 
-pub shl-one : (r : ℕ) → r ≤ 8 → 1 * 2 ^ r % 2 ^ 32 ≡ 2 ^ r
-shl-one r h = shl-exact 1 r 32 (omega arith) (omega arith) ∙ one-mul (2 ^ r)
-
-pub shl-one-pos : (r : ℕ) → r ≤ 8 → 0 < 1 * 2 ^ r % 2 ^ 32
-shl-one-pos r h = rw (shl-one r h) (pow-pos r)
-
--- what comes from the byte before
+-- What comes from the byte before.
 carried : ℕ → ℕ → ℕ
-carried r y = (y % (1 * 2 ^ r % 2 ^ 32)) * 2 ^ (8 - r) % 2 ^ 32
+carried r y = y * 2 ^ (8 - r) % 2 ^ 8
 
-carry : (r y : ℕ) → r ≤ 8 → carried r y ≡ 2 ^ (8 - r) * (y % 2 ^ r)
+carry : (r y : ℕ) → r < 8 → carried r y ≡ 2 ^ (8 - r) * (y % 2 ^ r)
 unfolding carried
 carry r y h =
-    ap (λ (n : ℕ). (y % n) * 2 ^ (8 - r) % 2 ^ 32) (shl-one r h) ∙ shl-exact r (8 - r) 32 (mod-lt y (pow-pos r)) (omega arith)
-    ∙ mul-comm (y % 2 ^ r) (2 ^ (8 - r))
-
-carry-small : (r y : ℕ) → r ≤ 8 → carried r y < 256
-carry-small r y h = subst (λ (n : ℕ). n < 256) (sym (carry r y h ∙ mul-comm (2 ^ (8 - r)) (y % 2 ^ r))) (rw whole at (shl-lt r (8 - r) (mod-lt y (pow-pos r))))
+    ap (λ (n : ℕ). y * 2 ^ (8 - r) % 2 ^ n) (sym whole) ∙ mod-pow-add (y * 2 ^ (8 - r)) r (8 - r)
+    ∙ ap₂ {C = ℕ} (λ (q m : ℕ). q % 2 ^ r * 2 ^ (8 - r) + m) (shl-shr y (8 - r)) (mul-mod-left y (2 ^ (8 - r)))
+    ∙ omega (arith, mul-comm (y % 2 ^ r) (2 ^ (8 - r)))
   where
     whole : r + (8 - r) ≡ 8
     whole = omega arith
 
-module _ (s : List ℕ) (i r : ℕ) (within : i < length s) (h : r ≤ 8) (bytes : Bytes (take (i + 1) s)) where
+module _ (s : List ℕ) (i r : ℕ) (within : i < length s) (h : r < 8) (small : getD s i 0 < 256) where
   front : take (i + 1) s ≡ take i s ++ getD s i 0 ∷ []
   front = ap (λ (n : ℕ). take n s) (add-one i) ∙ take-suc s i 0 within
 
-  small : getD s i 0 < 256
-  small = rw (getD-take (i + 1) s i 0 (omega arith)) at (all-at (λ (n : ℕ). n < 256) (take (i + 1) s) 0 i bytes (omega (arith, length-take-le (i + 1) s (omega arith))))
-
   byte : value (take 8 (drop r (all-bits (take (i + 1) s)))) ≡ getD s i 0 / 2 ^ r + 2 ^ (8 - r) * value (take r (all-bits (take i s)))
-  byte = ap (λ (l : List ℕ). value (take 8 (drop r (all-bits l)))) front ∙ value-shifted r (take i s) (getD s i 0) h small
+  byte = ap (λ (l : List ℕ). value (take 8 (drop r (all-bits l)))) front ∙ value-shifted r (take i s) (getD s i 0) (omega arith) small
 
   pub shifted-first : i ≡ 0 → getD s i 0 / 2 ^ r ≡ value (take 8 (drop r (all-bits (take (i + 1) s))))
   unfolding all-bits
@@ -56,21 +44,21 @@ module _ (s : List ℕ) (i r : ℕ) (within : i < length s) (h : r ≤ 8) (bytes
       none : value (take r (all-bits (take i s))) ≡ 0
       none = ap (λ (n : ℕ). value (take r (all-bits (take n s)))) e ∙ ap value (take-nil r)
 
-  pub shifted-next : (i ≡ 0 → ⊥) → getD s i 0 / 2 ^ r + (getD s (i - 1) 0 % (1 * 2 ^ r % 2 ^ 32)) * 2 ^ (8 - r) % 2 ^ 32 ≡ value (take 8 (drop r (all-bits (take (i + 1) s))))
-  unfolding carried
-  shifted-next d = sym (byte ∙ ap (λ (n : ℕ). getD s i 0 / 2 ^ r + 2 ^ (8 - r) * n) last ∙ ap (λ (n : ℕ). getD s i 0 / 2 ^ r + n) (sym (carry r (getD s (i - 1) 0) h)))
-    where
-      one : i ≡ suc (i - 1)
-      one = omega arith
+  module _ (d : i ≡ 0 → ⊥) where
+    pub shifted-next : getD s i 0 / 2 ^ r + getD s (i - 1) 0 * 2 ^ (8 - r) % 2 ^ 8 ≡ value (take 8 (drop r (all-bits (take (i + 1) s))))
+    unfolding carried
+    shifted-next = sym (byte ∙ ap (λ (n : ℕ). getD s i 0 / 2 ^ r + 2 ^ (8 - r) * n) last ∙ ap (λ (n : ℕ). getD s i 0 / 2 ^ r + n) (sym (carry r (getD s (i - 1) 0) h)))
+      where
+        one : i ≡ suc (i - 1)
+        one = omega arith
 
-      last : value (take r (all-bits (take i s))) ≡ getD s (i - 1) 0 % 2 ^ r
-      last =
-          ap (λ (l : List ℕ). value (take r (all-bits l))) (ap (λ (n : ℕ). take n s) one ∙ take-suc s (i - 1) 0 (omega arith))
-          ∙ value-last r (take (i - 1) s) (getD s (i - 1) 0) h
+        last : value (take r (all-bits (take i s))) ≡ getD s (i - 1) 0 % 2 ^ r
+        last =
+            ap (λ (l : List ℕ). value (take r (all-bits l))) (ap (λ (n : ℕ). take n s) one ∙ take-suc s (i - 1) 0 (omega arith))
+            ∙ value-last r (take (i - 1) s) (getD s (i - 1) 0) (omega arith)
 
-  pub shifted-fits : (y : ℕ) → getD s i 0 / 2 ^ r + (y % (1 * 2 ^ r % 2 ^ 32)) * 2 ^ (8 - r) % 2 ^ 32 < 2 ^ 32
-  unfolding carried
-  shifted-fits y = omega (arith, small, div-le-self (getD s i 0) (2 ^ r), carry-small r y h)
+    pub shifted-fits : getD s i 0 / 2 ^ r + getD s (i - 1) 0 * 2 ^ (8 - r) % 2 ^ 8 < 2 ^ 8
+    shifted-fits = rw shifted-next (value-bound 8 (drop r (all-bits (take (i + 1) s))))
 
 -- ---- all of them
 
@@ -82,7 +70,7 @@ pub record Aligning (s₀ : List ℕ) (n r : ℕ) (s : List ℕ) (j : ℕ) : Typ
   pub ahead : octets n (drop r (all-bits (take n s₀))) ≡ octets j (drop r (all-bits (take j s₀))) ++ drop j (take n s)
   pub rest : drop n s ≡ drop n s₀
 
-module _ (s₀ : List ℕ) (n r : ℕ) (long : n ≤ length s₀) (h : r ≤ 8) (bytes : Bytes (take n s₀)) where
+module _ (s₀ : List ℕ) (n r : ℕ) (long : n ≤ length s₀) (h : r < 8) where
   pub align-start : Aligning s₀ n r s₀ n
   align-start = record {
     within = omega arith;
@@ -91,12 +79,6 @@ module _ (s₀ : List ℕ) (n r : ℕ) (long : n ≤ length s₀) (h : r ≤ 8) 
     ahead = sym (ap (λ (l : List ℕ). octets n (drop r (all-bits (take n s₀))) ++ l) (drop-of-length-le (take n s₀) {i = n} (omega (arith, length-take-le n s₀ long))) ∙ append-nil _);
     rest = refl;
   }
-
-  pub align-bytes : (s : List ℕ) (j : ℕ) → Aligning s₀ n r s j → 0 < j → Bytes (take (j - 1 + 1) s)
-  align-bytes s j m l =
-      let e : j - 1 + 1 ≡ j = omega arith in
-      subst (λ (k : ℕ). Bytes (take k s)) (sym e)
-      (subst (λ (x : List ℕ). Bytes x) (take-take j n s₀ (m .within) ∙ sym (m .same)) (all-take (λ (k : ℕ). k < 256) j (take n s₀) bytes))
 
   step : (s : List ℕ) (i b : ℕ) → Aligning s₀ n r s (suc i) → b ≡ value (take 8 (drop r (all-bits (take (suc i) s)))) → Aligning s₀ n r (set s i b) i
   step s i b m e =
@@ -123,7 +105,7 @@ module _ (s₀ : List ℕ) (n r : ℕ) (long : n ≤ length s₀) (h : r ≤ 8) 
       dropped : drop 8 bits ≡ drop r (all-bits (take i s₀))
       dropped =
           ap (λ (l : List ℕ). drop 8 (drop r (all-bits l))) (take-suc s₀ i 0 (omega (arith, m .within)))
-          ∙ drop-shifted r (take i s₀) (getD s₀ i 0) h
+          ∙ drop-shifted r (take i s₀) (getD s₀ i 0) (omega arith)
 
       inside : i < length (take n s)
       inside = omega (arith, m .within, m .len, length-take-le n s (omega (arith, m .len)))

@@ -33,14 +33,14 @@ space-requires-2 c κs = search needs
 done-requires : tie.Need-done-requires
 done-requires c κs = search needs
 
-slice-reshare-prefix-hex-words : tie.Need-slice-reshare-prefix-hex-words
-slice-reshare-prefix-hex-words c = done-within _ _ _ _ (c .before .before .done .ensures)
+slice-reshare-prefix-hex : tie.Need-slice-reshare-prefix-hex
+slice-reshare-prefix-hex c = done-within _ _ _ _ (c .before .before .done .ensures)
 
-slice-aggregate-hex-words : tie.Need-slice-aggregate-hex-words
-slice-aggregate-hex-words c = counted _ _ (done-within _ _ _ _ (c .before .before .before .done .ensures))
+slice-aggregate-hex : tie.Need-slice-aggregate-hex
+slice-aggregate-hex c = counted _ _ (done-within _ _ _ _ (c .before .before .before .done .ensures))
 
-hex-words-requires : tie.Need-hex-words-requires
-hex-words-requires c κs = search needs
+hex-requires : tie.Need-hex-requires
+hex-requires c κs = search needs
 
 same-length : tie.Need-same-length
 same-length c = search needs
@@ -61,8 +61,8 @@ print-path-spec =
     decimal-requires-2
     space-requires-2
     done-requires
-    slice-reshare-prefix-hex-words
-    slice-aggregate-hex-words
-    hex-words-requires
+    slice-reshare-prefix-hex
+    slice-aggregate-hex
+    hex-requires
     same-length
     returns)

@@ -2,7 +2,7 @@
 -- Assumes nothing.
 use Rattle.path_builder.proofs.push_bit.Putting.{put-new, put-fits, put-last}
 use lib.ListN.{getD}
-use Prim.Native.Nat.{_-_, _<_}
+use Prim.Native.Nat.{_+_, _*_, _-_, _^_, _<_}
 use native.Mathlib.Omega.{arith}
 use borrow.Author.Needs.{needs}
 use Rattle.path_builder.proofs.push_bit.push_bit.Statement.{statement}
@@ -11,14 +11,11 @@ use Rattle.path_builder.proofs.push_bit.push_bit.Tie as tie
 wide-requires : tie.Need-wide-requires
 wide-requires c κs = search needs
 
-mul-store : tie.Need-mul-store
-mul-store c = search needs
-
 slice-write-store : tie.Need-slice-write-store
 slice-write-store c = search needs
 
-add-t8 : tie.Need-add-t8
-add-t8 c = search needs
+add-t10 : tie.Need-add-t10
+add-t10 c = search needs
 
 same-length : tie.Need-same-length
 same-length c = search needs
@@ -32,9 +29,6 @@ returns c =
 sub-x : tie.Need-sub-x
 sub-x c = search needs
 
-mul-x : tie.Need-mul-x
-mul-x c = search needs
-
 slice-read-x : tie.Need-slice-read-x
 slice-read-x c = search needs
 
@@ -45,14 +39,12 @@ add-store : tie.Need-add-store
 add-store c =
     let o = c .before .before .before .before in
     let w = c .before .before .wide in
-    let last : getD (o .args .store .now) (w .result - 1) 0 < 256 = rw (w .ensures) (o .pre .5 (omega (arith, o .pre .0, c .before .if1 .left))) in
+    let last : getD (o .args .store .now) (w .result - 1) 0 + o .args .bit * 2 ^ o .args .place < 256 =
+    rw (w .ensures) (o .pre .5 (omega (arith, o .pre .0, c .before .if1 .left))) in
     record { fits = put-fits (o .args .store .now) (o .args .in-use) (o .args .place) (o .args .bit) (o .pre .1) (o .pre .0) _ last }
 
 sub-store : tie.Need-sub-store
 sub-store c = search needs
-
-mul-store-2 : tie.Need-mul-store-2
-mul-store-2 c = search needs
 
 slice-write-store-2 : tie.Need-slice-write-store-2
 slice-write-store-2 c = search needs
@@ -74,18 +66,15 @@ push-bit-spec =
     tie.close
     (tie.spec
     wide-requires
-    mul-store
     slice-write-store
-    add-t8
+    add-t10
     same-length
     returns
     sub-x
-    mul-x
     slice-read-x
     shl-store
     add-store
     sub-store
-    mul-store-2
     slice-write-store-2
     next-place-requires
     same-length-2

@@ -1,7 +1,7 @@
 -- `path_builder::right_align::right_align` meets its contract. The loop's invariant: the bytes from j on are shifted, and those before are as they were.
 -- Assumes nothing.
 use native.Mathlib.Omega.{arith}
-use Rattle.path_builder.proofs.right_align.Aligning.{Aligning, align-start, align-bytes, align-more, align-end}
+use Rattle.path_builder.proofs.right_align.Aligning.{Aligning, align-start, align-more, align-end}
 use Rattle.path_builder.proofs.right_align.right_align.Statement.{statement}
 use Rattle.path_builder.proofs.right_align.right_align.Tie as tie
 
@@ -14,24 +14,16 @@ abbrev μ-loop : tie.MeasureT-loop
 loop-holds : tie.Need-loop-holds Inv-loop μ-loop
 loop-holds c =
     let o = c .before in
-    align-start (o .args .store .now) (o .args .n) (o .args .r) (o .pre .0) (o .pre .1) (o .pre .2)
+    align-start (o .args .store .now) (o .args .n) (o .args .r) (o .pre .0) (o .pre .2)
 
 sub-j : tie.Need-sub-j Inv-loop μ-loop
 sub-j c = omega arith
 
 shifted-requires : tie.Need-shifted-requires Inv-loop μ-loop
 shifted-requires c κs =
-    let o = c .before .before .before .before in (
-      omega (arith, c .before .before .loop .inv .within, c .before .before .loop .inv .len, o .pre .0),
-      o .pre .1,
-      align-bytes (o .args .store .now) (o .args .n) (o .args .r) (o .pre .0) (o .pre .1) (o .pre .2)
-          (c .before .before .loop .store) (c .before .before .loop .j) (c .before .before .loop .inv) (c .before .loop-test .taken),
-    )
-
-mul-store : tie.Need-mul-store Inv-loop μ-loop
-mul-store c =
-    let o = c .before .before .before .before .before in
-    omega (arith, c .before .before .before .loop .inv .within, o .pre .0, o .good .0)
+    let o = c .before .before .before .before in
+    let k = c .before .before .loop .inv in
+    (omega (arith, k .within, k .len, o .pre .0), o .pre .1, o .pre .2)
 
 slice-write-store : tie.Need-slice-write-store Inv-loop μ-loop
 slice-write-store c =
@@ -44,9 +36,9 @@ loop-less c = omega arith
 loop-again : tie.Need-loop-again Inv-loop μ-loop
 loop-again c =
     let o = c .before .before .before .before .before in
-    align-more (o .args .store .now) (o .args .n) (o .args .r) (o .pre .0) (o .pre .1) (o .pre .2) (c .before .before .before .loop .store)
-    (c .before .before .before .loop .j) (c .shifted .result) (c .before .before .before .loop .inv) (c .before .before .loop-test .taken)
-    (c .shifted .ensures)
+    let l = c .before .before .before .loop in
+    align-more (o .args .store .now) (o .args .n) (o .args .r) (o .pre .0) (o .pre .2) (l .store) (l .j) (c .shifted .result) (l .inv)
+    (c .before .before .loop-test .taken) (c .shifted .ensures)
 
 same-length : tie.Need-same-length Inv-loop μ-loop
 same-length c = c .before .loop .inv .len
@@ -54,8 +46,8 @@ same-length c = c .before .loop .inv .len
 returns : tie.Need-returns Inv-loop μ-loop
 returns c =
     let o = c .before .before .before in
-    align-end (o .args .store .now) (o .args .n) (o .args .r) (o .pre .0) (o .pre .1) (o .pre .2) (c .before .loop .store) (c .before .loop .j)
-    (c .before .loop .inv) (c .loop-test .left)
+    let l = c .before .loop in
+    align-end (o .args .store .now) (o .args .n) (o .args .r) (o .pre .0) (o .pre .2) (l .store) (l .j) (l .inv) (c .loop-test .left)
 
 pub right-align-spec : {M : Type 1} → statement M
 right-align-spec =
@@ -66,7 +58,6 @@ right-align-spec =
     loop-holds
     sub-j
     shifted-requires
-    mul-store
     slice-write-store
     loop-less
     loop-again

@@ -3,16 +3,17 @@
 use native.Mathlib.Omega.{arith}
 use mathlib.Core.Path.{_≡_, _∙_}
 use lib.ListN.{length}
+use Rattle.path.specs.Measure as measure
 use Rattle.search_passes.specs.declared.Way.the-variants.{By}
 use Rattle.search_passes.specs.Finds.{Finds}
 use Rattle.search_list.specs.State.{path-at}
 use Rattle.search_list.proofs.Trails.{readable-size}
-use Rattle.search_find.proofs.find_path.Ends.{path-none, path-long, path-used}
+use Rattle.search_find.proofs.find_path.Ends.{path-none, path-ends, path-long, path-used}
 use borrow.Author.Needs.{needs}
 use Rattle.search_find.proofs.find_path.find_path.Statement.{statement}
 use Rattle.search_find.proofs.find_path.find_path.Tie as tie
 
--- The call, from where a path is known to be found; what was found; and its bits, counted.
+-- The call, from where a path is known to be found; what was found; how many bits it has, and what it is counted at.
 abbrev start : tie.After-known-told → tie.Start
 start x = x .before .before .before .before .before .before .before .before
 
@@ -22,6 +23,10 @@ found x = rw (x .before .i .given .1) at (x .before .before .before .before .bef
 
 measured : (x : tie.After-size-of) → x .size-of .result ≡ length (path-at (x .before .before .before .before .before .before .before .search .last .0) (x .before .before .before .i .given .0 .0))
 measured x = x .size-of .ensures ∙ readable-size (x .before .before .before .before .before .before .before .search .last .0) _ (found (x .before .before) .usable)
+
+counted : (x : tie.After-counted-bits)
+    → x .counted-bits .result ≡ measure.counted (path-at (x .before .before .before .before .before .before .before .before .search .last .0) (x .before .before .before .before .i .given .0 .0))
+counted x = x .counted-bits .ensures _ (measured (x .before)) (path-ends (found (x .before .before .before)))
 
 search-requires : tie.Need-search-requires
 search-requires c κs = search needs
@@ -35,19 +40,14 @@ size-of-requires c κs =
     let u = found x .usable in
     (omega (arith, x .before .before .before .before .before .search .kept .0, start x .pre .0 .long), u .slot, u .chain .few)
 
-counted-requires : tie.Need-counted-requires
-counted-requires c κs = let u = found (c .before .before) .usable in omega (arith, c .size-of .ensures, u .short, u .extra)
-
-wide-len-requires : tie.Need-wide-len-requires
-wide-len-requires c κs = search needs
+counted-bits-requires : tie.Need-counted-bits-requires
+counted-bits-requires c κs = let u = found (c .before .before) .usable in omega (arith, c .size-of .ensures, u .short, u .extra)
 
 same-length : tie.Need-same-length
 same-length c = search needs
 
 returns : tie.Need-returns
-returns c =
-    let t = c .before .before .before in
-    path-used (found (t .before .before)) (measured t) (c .before .before .counted .ensures) (rw (c .before .wide-len .ensures) at (c .if1 .taken))
+returns c = path-used (found (c .before .before .before .before)) (counted (c .before)) (c .if1 .taken)
 
 enum-told : tie.Need-enum-told
 enum-told c = search needs
@@ -56,9 +56,7 @@ same-length-2 : tie.Need-same-length-2
 same-length-2 c = search needs
 
 returns-2 : tie.Need-returns-2
-returns-2 c =
-    let t = c .before .before .before in
-    path-long (found (t .before .before)) (measured t) (c .before .before .counted .ensures) (rw (c .before .wide-len .ensures) at (c .if1 .left))
+returns-2 c = path-long (found (c .before .before .before .before)) (counted (c .before)) (c .if1 .left)
 
 same-length-3 : tie.Need-same-length-3
 same-length-3 c = search needs
@@ -73,8 +71,7 @@ find-path-spec =
     search-requires
     enum-known-i
     size-of-requires
-    counted-requires
-    wide-len-requires
+    counted-bits-requires
     same-length
     returns
     enum-told
