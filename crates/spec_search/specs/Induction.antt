@@ -1,20 +1,20 @@
--- What the step of a path keeps, the search keeps: an invariant of the paths of the working list, under the entries seen so far. On the way it is shown that the
+-- What the step of a path keeps, which is asked of its cases, the search keeps: an invariant of the paths of the working list, under the entries seen so far. On the way it is shown that the
 -- paths go in lock step: where pass L begins, every path has L bits or more, the pass steps those that have L, and all have more where it ends.
 -- Assumes nothing.
 use Prim.Native.Nat.{ℕ, zero, suc, _+_, _-_, _*_, _≤_, _<_}
 use mathlib.Core.Path.{_≡_, refl, subst}
-use mathlib.Core.Bool.{Bool, true, cond}
+use mathlib.Core.Bool.{Bool, true, false, cond}
 use mathlib.Core.List.{List, [], _∷_, _++_}
 use mathlib.Core.Option.{Option, none, some}
 use native.Mathlib.Omega.{arith}
 use lib.ListN.{length}
 use lib.Dec.{ltb}
-use borrow.Author.Tests.{lt-ltb, le-ltb}
+use borrow.Author.Tests.{lt-ltb, le-ltb, ltb-true}
 use Rattle.spec_search.specs.Search.{Trail, at-entry, at-stack, Parents, Stepped, result, stays, dropped, capped, member, distance, most-visits}
 use Rattle.spec_search.specs.Search.{upward, sideward, moves, visit, Passed, found, gone, left, step, last-first, goes-on, walk, then, passes}
 use Rattle.spec_search.specs.Search.{search}
 use Rattle.words.specs.Choice.{by-cond, by-lt}
-use Rattle.words.specs.Lists.{All, all-append, all-map}
+use Rattle.words.specs.Lists.{All, all-append, all-each, all-map}
 use Rattle.spec_search.specs.Lists.{all-last-first, size, AtLeast, Longer, shorts, shorts-short, shorts-long, shorts-append, shorts-last-first}
 use Rattle.spec_search.specs.Lists.{shorts-all-long, shorts-le-length, long-of-no-shorts}
 
@@ -39,42 +39,7 @@ module _ (parents : Parents) (stack : List ℕ) (n L : ℕ) (before : List Trail
   unfolding walk
   walk-short p ps seen h = rw (le-ltb L (size p) h, walk)
 
--- ---- a step makes paths that have more bits
-
-module _ (L : ℕ) where
-  abbrev pub Grown : Stepped → Type 0
-  Grown (result bits) = Unit {0}
-  Grown (stays p copies seen) = Longer L p × All (Longer L) copies
-  Grown (dropped copies seen) = All (Longer L) copies
-  Grown capped = Unit {0}
-
-  grown-upward : (seen : List ℕ) (bits : List Bool) → L < length bits → (qs : List (ℕ × Bool)) → All (Longer L) (upward seen bits qs)
-  grown-upward seen bits h [] = tt
-  grown-upward seen bits h (q ∷ qs) =
-      by-cond (All (Longer L)) (member (q .0) seen) (upward seen bits qs) (at-entry bits (q .0) (q .1) ∷ upward seen bits qs)
-      (λ c. grown-upward seen bits h qs) (λ c. (h, grown-upward seen bits h qs))
-
-  grown-sideward : (bits : List Bool) → L < length bits → (o : Option ℕ) → All (Longer L) (sideward bits o)
-  grown-sideward bits h none = tt
-  grown-sideward bits h (some d) = (omega arith, tt)
-
-  grown-moves : (seen : List ℕ) (ps qs : List Trail) → All (Longer L) ps → All (Longer L) qs → Grown (moves ps qs seen)
-  grown-moves seen [] qs h k = k
-  grown-moves seen (p ∷ ps) qs h k = (h .0, all-append (Longer L) ps qs (h .1) k)
-
-  module _ (parents : Parents) (stack : List ℕ) where
-    pub step-grown : (seen : List ℕ) (p : Trail) → AtLeast L p → Grown (step parents stack seen p)
-    step-grown seen (at-stack bits zero) h = tt
-    step-grown seen (at-stack bits (suc d)) h = (omega arith, tt)
-    step-grown seen (at-entry bits x pos) h =
-        by-cond Grown (member x seen) (dropped [] seen) (cond (ltb (length seen) most-visits) (visit parents stack seen bits x pos) capped)
-        (λ c. tt)
-        (λ c. by-cond Grown (ltb (length seen) most-visits) (visit parents stack seen bits x pos) capped
-        (λ c′. grown-moves (x ∷ seen) (upward (x ∷ seen) (pos ∷ bits) (parents x)) (sideward (pos ∷ bits) (distance x stack))
-        (grown-upward (x ∷ seen) (pos ∷ bits) (omega arith) (parents x)) (grown-sideward (pos ∷ bits) (omega arith) (distance x stack)))
-        (λ c′. tt))
-
--- ---- the invariant through a step, a pass and the passes
+-- ---- a step, by its cases
 
 module _ (I : List ℕ → Trail → Type 0) (R : List Bool → Type 0) where
   -- The invariant stays true of a path that is not touched.
@@ -87,6 +52,78 @@ module _ (I : List ℕ → Trail → Type 0) (R : List Bool → Type 0) where
   StepOK seen (dropped copies seen′) = All (I seen′) copies × Later seen seen′
   StepOK seen capped = Unit {0}
 
+module _ (parents : Parents) (stack : List ℕ) (J I : List ℕ → Trail → Type 0) (R : List Bool → Type 0) where
+  -- From J of the path that is stepped: R of a result, and I of the paths that come of it; and I stays true where an entry is seen.
+  pub record Steps : Type 0 where
+    pub arrives : (seen : List ℕ) (bits : List Bool) → J seen (at-stack bits 0) → R bits
+    pub nearer : (seen : List ℕ) (bits : List Bool) (d : ℕ) → J seen (at-stack bits (suc d)) → I seen (at-stack (true ∷ bits) d)
+    pub upwards : (seen : List ℕ) (bits : List Bool) (x : ℕ) (pos : Bool) → length seen < most-visits → J seen (at-entry bits x pos)
+        → All (λ (q : ℕ × Bool). I (x ∷ seen) (at-entry (pos ∷ bits) (q .0) (q .1))) (parents x)
+    pub sidewards : (seen : List ℕ) (bits : List Bool) (x : ℕ) (pos : Bool) → length seen < most-visits → J seen (at-entry bits x pos)
+        → (d : ℕ) → distance x stack ≡ some d → I (x ∷ seen) (at-stack (false ∷ pos ∷ bits) d)
+    pub later : (seen : List ℕ) (x : ℕ) → length seen < most-visits → Later I R seen (x ∷ seen)
+
+  upward-ok : (seen seen′ : List ℕ) (bits : List Bool) (qs : List (ℕ × Bool)) → All (λ (q : ℕ × Bool). I seen′ (at-entry bits (q .0) (q .1))) qs
+      → All (I seen′) (upward seen bits qs)
+  upward-ok seen seen′ bits [] h = tt
+  upward-ok seen seen′ bits (q ∷ qs) h =
+      by-cond (All (I seen′)) (member (q .0) seen) (upward seen bits qs) (at-entry bits (q .0) (q .1) ∷ upward seen bits qs)
+      (λ c. upward-ok seen seen′ bits qs (h .1)) (λ c. (h .0, upward-ok seen seen′ bits qs (h .1)))
+
+  sideward-ok : (seen : List ℕ) (bits : List Bool) (o : Option ℕ) → ((d : ℕ) → o ≡ some d → I seen (at-stack (false ∷ bits) d)) → All (I seen) (sideward bits o)
+  sideward-ok seen bits none h = tt
+  sideward-ok seen bits (some d) h = (h d refl, tt)
+
+  moves-ok : (seen seen′ : List ℕ) (ps qs : List Trail) → Later I R seen seen′ → All (I seen′) ps → All (I seen′) qs → StepOK I R seen (moves ps qs seen′)
+  moves-ok seen seen′ [] qs f h k = (k, f)
+  moves-ok seen seen′ (p ∷ ps) qs f h k = (h .0, all-append (I seen′) ps qs (h .1) k, f)
+
+  pub step-ok : Steps → (seen : List ℕ) (p : Trail) → J seen p → StepOK I R seen (step parents stack seen p)
+  step-ok s seen (at-stack bits zero) h = s .arrives seen bits h
+  step-ok s seen (at-stack bits (suc d)) h = (s .nearer seen bits d h, tt, λ q k. k)
+  step-ok s seen (at-entry bits x pos) h =
+      by-cond (StepOK I R seen) (member x seen) (dropped [] seen) (cond (ltb (length seen) most-visits) (visit parents stack seen bits x pos) capped)
+      (λ c. (tt, λ q k. k))
+      (λ c. by-cond (StepOK I R seen) (ltb (length seen) most-visits) (visit parents stack seen bits x pos) capped (λ c′. visit-ok (ltb-true _ _ c′)) (λ c′. tt))
+    where
+      visit-ok : length seen < most-visits → StepOK I R seen (visit parents stack seen bits x pos)
+      visit-ok l =
+          moves-ok seen (x ∷ seen) (upward (x ∷ seen) (pos ∷ bits) (parents x)) (sideward (pos ∷ bits) (distance x stack)) (s .later seen x l)
+          (upward-ok (x ∷ seen) (x ∷ seen) (pos ∷ bits) (parents x) (s .upwards seen bits x pos l h))
+          (sideward-ok (x ∷ seen) (pos ∷ bits) (distance x stack) (s .sidewards seen bits x pos l h))
+
+-- ---- a step makes paths that have more bits
+
+module _ (L : ℕ) where
+  abbrev pub Grown : Stepped → Type 0
+  Grown (result bits) = Unit {0}
+  Grown (stays p copies seen) = Longer L p × All (Longer L) copies
+  Grown (dropped copies seen) = All (Longer L) copies
+  Grown capped = Unit {0}
+
+  abbrev grown-steps : (parents : Parents) (stack : List ℕ) → Steps parents stack (λ seen. AtLeast L) (λ seen. Longer L) (λ bits. Unit {0})
+  grown-steps parents stack =
+      record {
+        arrives = λ seen bits h. tt;
+        nearer = λ seen bits d h. omega arith;
+        upwards = λ seen bits x pos l h. all-each (λ (q : ℕ × Bool). Longer L (at-entry (pos ∷ bits) (q .0) (q .1))) (λ q. omega arith) (parents x);
+        sidewards = λ seen bits x pos l h d k. omega arith;
+        later = λ seen x l q h. h;
+      }
+
+  pub step-grown : (parents : Parents) (stack seen : List ℕ) (p : Trail) → AtLeast L p → Grown (step parents stack seen p)
+  step-grown parents stack seen p h =
+      go (step parents stack seen p) (step-ok parents stack (λ seen. AtLeast L) (λ seen. Longer L) (λ bits. Unit {0}) (grown-steps parents stack) seen p h)
+    where
+      go : (s : Stepped) → StepOK (λ seen. Longer L) (λ bits. Unit {0}) seen s → Grown s
+      go (result bits) k = tt
+      go (stays q copies seen′) k = (k .0, k .1)
+      go (dropped copies seen′) k = k .0
+      go capped k = tt
+
+-- ---- the invariant through a pass and the passes
+
+module _ (I : List ℕ → Trail → Type 0) (R : List Bool → Type 0) where
   abbrev pub PassOK : ℕ → Passed → Type 0
   PassOK L (found bits) = R bits
   PassOK L gone = Unit {0}
@@ -108,7 +145,7 @@ module _ (I : List ℕ → Trail → Type 0) (R : List Bool → Type 0) where
   WalkOK n L w = (before after : List Trail) (seen : List ℕ) → Midway n L before after seen → PassOK L (w before after seen)
 
   goes-on-ok : (n L : ℕ) (w : List Trail → List Trail → List ℕ → Passed) → WalkOK n L w → (before behind : List Trail) (seen : List ℕ)
-      → Midway n L before behind seen → (s : Stepped) → Grown L s → StepOK seen s → PassOK L (goes-on w before behind s)
+      → Midway n L before behind seen → (s : Stepped) → Grown L s → StepOK I R seen s → PassOK L (goes-on w before behind s)
   goes-on-ok n L w ok before behind seen m (result bits) g h = h
   goes-on-ok n L w ok before behind seen m (stays p copies seen′) g h =
       ok (before ++ p ∷ []) (behind ++ copies) seen′ record {
@@ -129,7 +166,7 @@ module _ (I : List ℕ → Trail → Type 0) (R : List Bool → Type 0) where
   goes-on-ok n L w ok before behind seen m capped g h = tt
 
   module _ (parents : Parents) (stack : List ℕ) (top : ℕ)
-      (steps : (L : ℕ) → L ≤ top → (seen : List ℕ) (p : Trail) → size p ≡ L → I seen p → StepOK seen (step parents stack seen p)) where
+      (steps : (L : ℕ) → L ≤ top → (seen : List ℕ) (p : Trail) → size p ≡ L → I seen p → StepOK I R seen (step parents stack seen p)) where
     pub walk-ok : (n L : ℕ) → L ≤ top → WalkOK n L (walk parents stack n L)
     walk-ok zero L l before after seen m =
         rw (walk-zero parents stack 0 L before after seen)

@@ -1,21 +1,20 @@
 -- The search is sound: the path that it gives leads a reader from its stack to the entry's tree.
 -- Assumes nothing.
-use Prim.Native.Nat.{ℕ, zero, suc, _+_, _-_, _*_, _≤_, _<_}
-use mathlib.Core.Path.{_≡_, refl, ap}
+use Prim.Native.Nat.{ℕ, suc, _+_, _-_, _*_, _≤_, _<_}
+use mathlib.Core.Path.{_≡_, refl, ap, subst}
 use mathlib.Core.Bool.{Bool, true, false, cond}
 use mathlib.Core.List.{List, [], _∷_, _++_, map}
 use mathlib.Core.Option.{Option, none, some, Option·map}
 use native.Mathlib.Omega.{arith}
 use lib.ListN.{length, drop, getD}
 use lib.Seq.{drop-cons}
-use lib.Dec.{eqb, ltb}
-use borrow.Author.Tests.{eqb-true, ltb-true}
+use lib.Dec.{eqb}
+use borrow.Author.Tests.{eqb-true}
 use Rattle.spec_reading.specs.Tree.{Tree, cons, pick, follow, as-list}
-use Rattle.spec_search.specs.Search.{Trail, at-entry, at-stack, Parents, Stepped, dropped, capped, member, distance, upward, sideward, moves, visit, step, search, most-visits}
-use Rattle.words.specs.Choice.{by-cond}
-use Rattle.words.specs.Lists.{All, all-append}
+use Rattle.spec_search.specs.Search.{Trail, at-entry, at-stack, Parents, distance, step, search, most-visits}
+use Rattle.words.specs.Lists.{All, all-each, all-map}
 use Rattle.spec_search.specs.Lists.{size}
-use Rattle.spec_search.specs.Induction.{StepOK, search-ok}
+use Rattle.spec_search.specs.Induction.{StepOK, Steps, step-ok, search-ok}
 
 -- In the trees of the entries, the entry p is a pair that holds the entry x at the position b.
 pub record Holds (T : ℕ → Tree) (x p : ℕ) (b : Bool) : Type 0 where
@@ -79,48 +78,27 @@ module _ (T : ℕ → Tree) (parents : Parents) (stack : List ℕ) (e : ℕ) whe
   abbrev pub Reaches : List Bool → Type 0
   Reaches bits = Leads bits (as-list (map T stack)) (T e)
 
-  abbrev pub GoodStep : List ℕ → Stepped → Type 0
-  GoodStep = StepOK (λ seen. Good) Reaches
-
-  good-upward : (seen : List ℕ) (bits : List Bool) (x : ℕ) → Leads bits (T x) (T e) → (qs : List (ℕ × Bool))
-      → All (λ (q : ℕ × Bool). Holds T x (q .0) (q .1)) qs → All Good (upward seen bits qs)
-  unfolding Good
-  good-upward seen bits x h [] k = tt
-  good-upward seen bits x h (q ∷ qs) k =
-      let r : All Good (upward seen bits qs) = good-upward seen bits x h qs (k .1) in
-      by-cond (All Good) (member (q .0) seen) (upward seen bits qs) (at-entry bits (q .0) (q .1) ∷ upward seen bits qs)
-      (λ c. r) (λ c. (leads-up T x (q .0) (q .1) bits (T e) (k .0) h, r))
-
-  good-sideward : (bits : List Bool) (x : ℕ) → Leads bits (T x) (T e) → (o : Option ℕ) → Found x stack o → All Good (sideward bits o)
-  unfolding Found Good
-  good-sideward bits x h none k = tt
-  good-sideward bits x h (some d) k = ((rw (k .1) (leads-step false bits (T x) (from T stack (suc d)) (T e) h), k .0), tt)
-
-  good-moves : (seen seen′ : List ℕ) (ps qs : List Trail) → All Good ps → All Good qs → GoodStep seen (moves ps qs seen′)
-  good-moves seen seen′ [] qs h k = (k, λ q g. g)
-  good-moves seen seen′ (p ∷ ps) qs h k = (h .0, all-append Good ps qs (h .1) k, λ q g. g)
-
   module _ (linked : Linked T parents) where
-    good-visit : (seen : List ℕ) (bits : List Bool) (x : ℕ) (pos : Bool) → Leads (pos ∷ bits) (T x) (T e) → GoodStep seen (visit parents stack seen bits x pos)
-    good-visit seen bits x pos h =
-        good-moves seen (x ∷ seen) (upward (x ∷ seen) (pos ∷ bits) (parents x)) (sideward (pos ∷ bits) (distance x stack))
-        (good-upward (x ∷ seen) (pos ∷ bits) x h (parents x) (linked x))
-        (good-sideward (pos ∷ bits) x h (distance x stack) (found-distance x stack))
-
-    good-step : (seen : List ℕ) (p : Trail) → Good p → GoodStep seen (step parents stack seen p)
-    unfolding Good
-    good-step seen (at-stack bits zero) h = h .0
-    good-step seen (at-stack bits (suc d)) h =
-        ((rw (drop-cons stack d 0 (omega arith)) (leads-step true bits (T (getD stack d 0)) (from T stack (suc d)) (T e) (h .0)), omega arith), tt, λ q k. k)
-    good-step seen (at-entry bits x pos) h =
-        by-cond (GoodStep seen) (member x seen) (dropped [] seen) (cond (ltb (length seen) most-visits) (visit parents stack seen bits x pos) capped)
-        (λ c. (tt, λ q k. k))
-        (λ c. by-cond (GoodStep seen) (ltb (length seen) most-visits) (visit parents stack seen bits x pos) capped (λ c′. good-visit seen bits x pos h) (λ c′. tt))
+    good-steps : Steps parents stack (λ seen. Good) (λ seen. Good) Reaches
+    unfolding Good Found
+    good-steps =
+        record {
+          arrives = λ seen bits h. h .0;
+          nearer = λ seen bits d h.
+              (rw (drop-cons stack d 0 (omega arith)) (leads-step true bits (T (getD stack d 0)) (from T stack (suc d)) (T e) (h .0)), omega arith);
+          upwards = λ seen bits x pos l h.
+              all-map (λ (q : ℕ × Bool). Holds T x (q .0) (q .1)) (λ (q : ℕ × Bool). Good (at-entry (pos ∷ bits) (q .0) (q .1)))
+              (λ q k. leads-up T x (q .0) (q .1) (pos ∷ bits) (T e) k h) (parents x) (linked x);
+          sidewards = λ seen bits x pos l h d k.
+              let f = subst (Found x stack) k (found-distance x stack) in
+              (rw (f .1) (leads-step false (pos ∷ bits) (T x) (from T stack (suc d)) (T e) h), f .0);
+          later = λ seen x l q h. h;
+        }
 
     leads : (len : ℕ) (bits : List Bool) → search parents stack len e ≡ some bits → Reaches bits
     unfolding Good
     leads len bits q =
-        search-ok (λ seen. Good) Reaches parents stack len e bits (λ L l seen p s h. good-step seen p h) (record { steps = []; ends = refl; arrives = refl }) q
+        search-ok (λ seen. Good) Reaches parents stack len e bits (λ L l seen p s h. step-ok parents stack (λ seen. Good) (λ seen. Good) Reaches good-steps seen p h) (record { steps = []; ends = refl; arrives = refl }) q
 
 -- ---- how many bits the result has
 
@@ -133,43 +111,24 @@ module _ (parents : Parents) (stack : List ℕ) where
   abbrev pub Few : List Bool → Type 0
   Few bits = length bits ≤ most-visits + length stack
 
-  abbrev SmallStep : List ℕ → Stepped → Type 0
-  SmallStep = StepOK Small Few
-
   small-later : (seen : List ℕ) (x : ℕ) → length seen < most-visits → (q : Trail) → Small seen q → Small (x ∷ seen) q
   unfolding Small
   small-later seen x h (at-entry bits y pos) k = omega arith
   small-later seen x h (at-stack bits d) k = omega arith
 
-  small-upward : (seen seen′ : List ℕ) (bits : List Bool) → length bits ≤ length seen′ → length seen′ ≤ most-visits → (qs : List (ℕ × Bool)) → All (Small seen′) (upward seen bits qs)
-  unfolding Small
-  small-upward seen seen′ bits h l [] = tt
-  small-upward seen seen′ bits h l (q ∷ qs) =
-      by-cond (All (Small seen′)) (member (q .0) seen) (upward seen bits qs) (at-entry bits (q .0) (q .1) ∷ upward seen bits qs)
-      (λ c. small-upward seen seen′ bits h l qs) (λ c. ((h, l), small-upward seen seen′ bits h l qs))
+  small-steps : Steps parents stack Small Small Few
+  unfolding Small Found
+  small-steps =
+      record {
+        arrives = λ seen bits h. omega arith;
+        nearer = λ seen bits d h. omega arith;
+        upwards = λ seen bits x pos l h. all-each (λ (q : ℕ × Bool). Small (x ∷ seen) (at-entry (pos ∷ bits) (q .0) (q .1))) (λ q. omega arith) (parents x);
+        sidewards = λ seen bits x pos l h d k. let f = subst (Found x stack) k (found-distance x stack) in omega arith;
+        later = small-later;
+      }
 
-  small-sideward : (seen : List ℕ) (bits : List Bool) (x : ℕ) → length bits ≤ length seen → length seen ≤ most-visits → (o : Option ℕ) → Found x stack o → All (Small seen) (sideward bits o)
-  unfolding Found Small
-  small-sideward seen bits x h l none k = tt
-  small-sideward seen bits x h l (some d) k = (omega arith, tt)
-
-  small-moves : (seen seen′ : List ℕ) (ps qs : List Trail) → ((q : Trail) → Small seen q → Small seen′ q) → All (Small seen′) ps → All (Small seen′) qs → SmallStep seen (moves ps qs seen′)
-  small-moves seen seen′ [] qs f h k = (k, f)
-  small-moves seen seen′ (p ∷ ps) qs f h k = (h .0, all-append (Small seen′) ps qs (h .1) k, f)
-
-  pub small-step : (seen : List ℕ) (p : Trail) → Small seen p → SmallStep seen (step parents stack seen p)
-  unfolding Small
-  small-step seen (at-stack bits zero) h = omega arith
-  small-step seen (at-stack bits (suc d)) h = (omega arith, tt, λ q k. k)
-  small-step seen (at-entry bits x pos) h =
-      by-cond (SmallStep seen) (member x seen) (dropped [] seen) (cond (ltb (length seen) most-visits) (visit parents stack seen bits x pos) capped)
-      (λ c. (tt, λ q k. k))
-      (λ c. by-cond (SmallStep seen) (ltb (length seen) most-visits) (visit parents stack seen bits x pos) capped
-      (λ c′. small-moves seen (x ∷ seen) (upward (x ∷ seen) (pos ∷ bits) (parents x)) (sideward (pos ∷ bits) (distance x stack))
-      (small-later seen x (ltb-true _ _ c′))
-      (small-upward (x ∷ seen) (x ∷ seen) (pos ∷ bits) (omega arith) (omega (arith, ltb-true)) (parents x))
-      (small-sideward (x ∷ seen) (pos ∷ bits) x (omega arith) (omega (arith, ltb-true)) (distance x stack) (found-distance x stack)))
-      (λ c′. tt))
+  pub small-step : (seen : List ℕ) (p : Trail) → Small seen p → StepOK Small Few seen (step parents stack seen p)
+  small-step = step-ok parents stack Small Small Few small-steps
 
   pub few : (len e : ℕ) (bits : List Bool) → search parents stack len e ≡ some bits → Few bits
   unfolding Small
@@ -180,30 +139,24 @@ module _ (parents : Parents) (stack : List ℕ) where
   abbrev Any : List ℕ → Trail → Type 0
   Any seen p = Unit {0}
 
-  all-any : (seen : List ℕ) (ps : List Trail) → All (Any seen) ps
-  all-any seen [] = tt
-  all-any seen (p ∷ ps) = (tt, all-any seen ps)
-
   module _ (top : ℕ) where
     abbrev Within : List Bool → Type 0
     Within bits = length bits ≤ top
 
-    within-moves : (seen seen′ : List ℕ) (ps qs : List Trail) → StepOK Any Within seen (moves ps qs seen′)
-    within-moves seen seen′ [] qs = (all-any seen′ qs, λ q k. tt)
-    within-moves seen seen′ (p ∷ ps) qs = (tt, all-any seen′ (ps ++ qs), λ q k. tt)
-
-    within-step : (seen : List ℕ) (p : Trail) → size p ≤ top → StepOK Any Within seen (step parents stack seen p)
-    within-step seen (at-stack bits zero) h = h
-    within-step seen (at-stack bits (suc d)) h = (tt, tt, λ q k. tt)
-    within-step seen (at-entry bits x pos) h =
-        by-cond (StepOK Any Within seen) (member x seen) (dropped [] seen) (cond (ltb (length seen) most-visits) (visit parents stack seen bits x pos) capped)
-        (λ c. (tt, λ q k. tt))
-        (λ c. by-cond (StepOK Any Within seen) (ltb (length seen) most-visits) (visit parents stack seen bits x pos) capped
-        (λ c′. within-moves seen (x ∷ seen) (upward (x ∷ seen) (pos ∷ bits) (parents x)) (sideward (pos ∷ bits) (distance x stack))) (λ c′. tt))
+    within-steps : Steps parents stack (λ seen p. size p ≤ top) Any Within
+    within-steps =
+        record {
+          arrives = λ seen bits h. h;
+          nearer = λ seen bits d h. tt;
+          upwards = λ seen bits x pos l h. all-each (λ (q : ℕ × Bool). Unit {0}) (λ q. tt) (parents x);
+          sidewards = λ seen bits x pos l h d k. tt;
+          later = λ seen x l q h. tt;
+        }
 
   within : (len e : ℕ) (bits : List Bool) → search parents stack len e ≡ some bits → length bits ≤ 8 * (len - 1)
   within len e bits q =
-      search-ok Any (Within (8 * (len - 1))) parents stack len e bits (λ L l seen p s h. within-step (8 * (len - 1)) seen p (omega arith)) tt q
+      search-ok Any (Within (8 * (len - 1))) parents stack len e bits
+      (λ L l seen p s h. step-ok parents stack (λ seen p. size p ≤ 8 * (len - 1)) Any (Within (8 * (len - 1))) (within-steps (8 * (len - 1))) seen p (omega arith)) tt q
 
 -- What the result of a search is.
 pub record Sound (T : ℕ → Tree) (stack : List ℕ) (len e : ℕ) (bits : List Bool) : Type 0 where

@@ -9,6 +9,7 @@ use native.Mathlib.Omega.{arith}
 use lib.Dec.{eqb, ltb}
 use lib.ListN.{length, set, take, length-append, length-set, length-drop}
 use borrow.Author.Tests.{eqb-true, eqb-false, eq-eqb, ne-eqb, ltb-true, ltb-false}
+use Rattle.spec_session.specs.Cached.{lookup-both}
 use Rattle.allocator.specs.HandleLaws.{pair-handle}
 use Rattle.words.specs.Choice.{by-cond, by-lt}
 use Rattle.words.specs.Lists.{All, all-append, all-drop, all-take, all-map, all-or}
@@ -191,15 +192,15 @@ mapped-few n ms m = omega (arith, mapped-and-free n ms m)
 
 -- A new handle's place in the list is all one to a lookup.
 lookup-moved : (j h e : ℕ) (ms : List (ℕ × ℕ)) → Absent h ms → lookup j (ms ++ (h, e) ∷ []) ≡ lookup j ((h, e) ∷ ms)
-lookup-moved j h e [] a = refl
-lookup-moved j h e (m ∷ ms) a = rw (lookup-moved j h e ms (a .1)) (go (eqb j h) refl (eqb j (m .0)) refl)
+lookup-moved j h e ms a = lookup-both j ms ((h, e) ∷ []) ∙ go (eqb j h) refl
   where
-    go : (b : Bool) → eqb j h ≡ b → (d : Bool) → eqb j (m .0) ≡ d
-        → cond d (some (m .1)) (cond b (some e) (lookup j ms)) ≡ cond b (some e) (cond d (some (m .1)) (lookup j ms))
-    go true p true q = absurd (a .0 (sym (eqb-true j (m .0) q) ∙ eqb-true j h p))
-    go true p false q = refl
-    go false p true q = refl
-    go false p false q = refl
+    or-none : (o : Option ℕ) → or-known o none ≡ o
+    or-none none = refl
+    or-none (some x) = refl
+
+    go : (b : Bool) → eqb j h ≡ b → or-known (lookup j ms) (cond b (some e) none) ≡ cond b (some e) (lookup j ms)
+    go true p = rw (eqb-true j h p, lookup-absent h ms a) refl
+    go false p = or-none (lookup j ms)
 
 free-same : (n : ℕ) (xs ys : List (ℕ × ℕ)) → ((j : ℕ) → lookup j xs ≡ lookup j ys) → free n xs ≡ free n ys
 free-same zero xs ys h = refl

@@ -1,6 +1,6 @@
 -- What the cache keeps true, with a list T of trees beside its entries: entry e stands for the tree T[e] as it is now, in which a gap is the one
 -- present open place.
-use mathlib.Core.Path.{_≡_, refl, ap, _∙_}
+use mathlib.Core.Path.{_≡_, refl, sym, ap, _∙_}
 use mathlib.Core.Logic.{_⊎_, inl, inr}
 use mathlib.Core.List.{List, [], _∷_, _++_, map}
 use mathlib.Core.Option.{Option, none, some}
@@ -10,6 +10,7 @@ use native.Mathlib.Omega.{arith}
 use lib.Dec.{eqb, ltb}
 use lib.ListN.{length, set, drop}
 use borrow.Author.Tests.{eqb-true, eq-eqb}
+use Rattle.spec_session.specs.Steps.{or-known}
 use Rattle.words.specs.Choice.{clash}
 use Rattle.spec_reading.specs.Tree.{Tree, atom, cons, pick}
 use Rattle.spec_session.specs.Cache.{sentinel-key, atom-key, pair-key, Key, Parent, Entry, same-key, later, find-key, lookup, adjust, parents-at, length-at, add-parent, move-parents, new-entry}
@@ -62,37 +63,29 @@ find-adjust k e f [] = refl
 find-adjust k zero f (x ∷ es) = refl
 find-adjust k (suc e) f (x ∷ es) = rw (find-adjust k e f es)
 
-pub lookup-append : (h : ℕ) (l m : List (ℕ × ℕ)) (e : ℕ) → lookup h l ≡ some e → lookup h (l ++ m) ≡ some e
-lookup-append h [] m e q = cc
-lookup-append h (x ∷ l) m e q = go (eqb h (x .0)) q (lookup-append h l m e)
+-- The first list's answer, or else the second's.
+pub lookup-both : (h : ℕ) (l m : List (ℕ × ℕ)) → lookup h (l ++ m) ≡ or-known (lookup h l) (lookup h m)
+lookup-both h [] m = refl
+lookup-both h (x ∷ l) m = rw (lookup-both h l m) (go (eqb h (x .0)))
   where
-    go : (b : Bool) → cond b (some (x .1)) (lookup h l) ≡ some e → (lookup h l ≡ some e → lookup h (l ++ m) ≡ some e)
-        → cond b (some (x .1)) (lookup h (l ++ m)) ≡ some e
-    go true q ih = q
-    go false q ih = ih q
+    go : (b : Bool) → cond b (some (x .1)) (or-known (lookup h l) (lookup h m)) ≡ or-known (cond b (some (x .1)) (lookup h l)) (lookup h m)
+    go true = refl
+    go false = refl
+
+pub lookup-append : (h : ℕ) (l m : List (ℕ × ℕ)) (e : ℕ) → lookup h l ≡ some e → lookup h (l ++ m) ≡ some e
+lookup-append h l m e q = lookup-both h l m ∙ ap (λ (o : Option ℕ). or-known o (lookup h m)) q
 
 -- A handle that is found after one is added was found before, or is the one added.
 pub lookup-end : (h : ℕ) (l : List (ℕ × ℕ)) (m : ℕ × ℕ) (e : ℕ) → lookup h (l ++ m ∷ []) ≡ some e → (lookup h l ≡ some e) ⊎ (h ≡ m .0)
-lookup-end h [] m e q = go (eqb h (m .0)) refl q
+lookup-end h l m e q = go (lookup h l) (eqb h (m .0)) refl (sym (lookup-both h l (m ∷ [])) ∙ q)
   where
-    go : (b : Bool) → eqb h (m .0) ≡ b → cond b (some (m .1)) none ≡ some e → (_≡_ {A = Option ℕ} none (some e)) ⊎ (h ≡ m .0)
-    go true f q = inr (eqb-true h (m .0) f)
-    go false f q = inl q
-lookup-end h (x ∷ l) m e q = go (eqb h (x .0)) q (lookup-end h l m e)
-  where
-    go : (b : Bool) → cond b (some (x .1)) (lookup h (l ++ m ∷ [])) ≡ some e → (lookup h (l ++ m ∷ []) ≡ some e → (lookup h l ≡ some e) ⊎ (h ≡ m .0))
-        → (cond b (some (x .1)) (lookup h l) ≡ some e) ⊎ (h ≡ m .0)
-    go true q ih = inl q
-    go false q ih = ih q
+    go : (o : Option ℕ) (b : Bool) → eqb h (m .0) ≡ b → or-known o (cond b (some (m .1)) none) ≡ some e → (o ≡ some e) ⊎ (h ≡ m .0)
+    go (some d) b f q = inl q
+    go none true f q = inr (eqb-true h (m .0) f)
+    go none false f q = inl q
 
 pub lookup-new : (h : ℕ) (l : List (ℕ × ℕ)) (e : ℕ) → lookup h l ≡ none → lookup h (l ++ (h, e) ∷ []) ≡ some e
-lookup-new h [] e q = rw (eq-eqb h h refl)
-lookup-new h (x ∷ l) e q = go (eqb h (x .0)) q (lookup-new h l e)
-  where
-    go : (b : Bool) → cond b (some (x .1)) (lookup h l) ≡ none → (lookup h l ≡ none → lookup h (l ++ (h, e) ∷ []) ≡ some e)
-        → cond b (some (x .1)) (lookup h (l ++ (h, e) ∷ [])) ≡ some e
-    go true q ih = cc
-    go false q ih = ih q
+lookup-new h l e q = lookup-both h l ((h, e) ∷ []) ∙ rw (q, eq-eqb h h refl) refl
 
 -- ## Entries and their trees
 

@@ -23,7 +23,8 @@ use Rattle.spec_session.specs.BytesRead.{Formed, nonempty}
 abbrev pub Atom : List ℕ → Type 0
 Atom bytes = (length bytes < 2 ^ 34) × Bytes bytes
 
-encoded : (a : List ℕ) → length a < 2 ^ 34 → (b : List ℕ) × (encode a ≡ some b)
+-- Every atom of fewer than 2^34 bytes has a form.
+pub encoded : (a : List ℕ) → length a < 2 ^ 34 → (b : List ℕ) × (encode a ≡ some b)
 encoded a h = go (encode a) refl
   where
     go : (o : Option (List ℕ)) → encode a ≡ o → (b : List ℕ) × (encode a ≡ some b)
@@ -40,11 +41,12 @@ bytes-encoded a b h e = go (prefix-width a) refl
         (all-append (λ (x : ℕ). x < 256) (prefix w (length a)) a (bytes-big-endian w (mark w + length a)) h)
 
 -- An item takes a byte at least, and the sizes add up.
+pub atom-byte : (a : List ℕ) → length a < 2 ^ 34 → 1 ≤ length (item-bytes (atom-item a))
+atom-byte a h = let e = encoded a h in omega (arith, nonempty a (e .0) (e .1), ap (λ (o : Option (List ℕ)). length (bytes-or-none o)) (e .1))
+
 item-byte : (i : Item) (n : ℕ) → Fine Atom n i → 1 ≤ item-size i
 item-byte cons-item n f = omega arith
-item-byte (atom-item a) n f =
-    let e = encoded a (f .0) in
-    omega (arith, nonempty a (e .0) (e .1), item-size-is (atom-item a), ap (λ (o : Option (List ℕ)). length (bytes-or-none o)) (e .1))
+item-byte (atom-item a) n f = omega (arith, atom-byte a (f .0), item-size-is (atom-item a))
 item-byte (reference-item path) n f = omega arith
 
 pub count-size : (items : List Item) (n : ℕ) → All (Fine Atom n) items → length items ≤ size-of items

@@ -19,6 +19,10 @@ module _ {ℓ} {A : Type ℓ} (P : A → Type 0) where
   all-append [] ys h k = k
   all-append (x ∷ xs) ys h k = (h .0, all-append xs ys (h .1) k)
 
+  pub all-each : ((x : A) → P x) → (xs : List A) → All P xs
+  all-each f [] = tt
+  all-each f (x ∷ xs) = (f x, all-each f xs)
+
   pub all-take : (n : ℕ) (xs : List A) → All P xs → All P (take n xs)
   all-take zero [] h = tt
   all-take (suc n) [] h = tt

@@ -1,9 +1,9 @@
 -- An item put into the output: one byte, or an atom.
 -- Assumes nothing.
 use Prim.Native.Nat.{ℕ, suc, _+_, _-_, _^_, _≤_, _<_}
-use mathlib.Core.Path.{_≡_, refl, sym, ap, _∙_}
+use mathlib.Core.Path.{_≡_, sym, ap, _∙_}
 use mathlib.Core.List.{List, [], _∷_, _++_}
-use mathlib.Core.Option.{Option, none, some}
+use mathlib.Core.Option.{Option, some}
 use mathlib.Core.Bool.{Bool, true, false, not}
 use native.Mathlib.Omega.{arith}
 use native.Mathlib.Numerals.{add-one}
@@ -11,9 +11,9 @@ use lib.Dec.{leb}
 use borrow.Author.Tests.{le-leb, lt-leb, leb-true, leb-false, not-true, not-false}
 use lib.ListN.{length, take, drop, set}
 use lib.Seq.{paste, set-split, append-snoc}
+use Rattle.spec_session.specs.Formed.{encoded}
 use Rattle.words.specs.Choice.{by-lt, clash}
 use Rattle.atom.specs.Prefix.{encode}
-use Rattle.atom.specs.RoundTrip.{has-form}
 use Rattle.atom.specs.Write.{next, full, too-long, Written, put}
 use Rattle.atom.specs.WriteLaws.{put-full, put-room}
 use Rattle.spec_session.specs.Items.{bytes-or-none}
@@ -46,11 +46,7 @@ put-byte out p b h =
 
 -- An atom whose size has at most 34 bits has bytes.
 pub encode-there : (atom : List ℕ) → length atom < 2 ^ 34 → encode atom ≡ some (bytes-or-none (encode atom))
-encode-there atom h = go (encode atom) refl
-  where
-    go : (o : Option (List ℕ)) → encode atom ≡ o → encode atom ≡ some (bytes-or-none (encode atom))
-    go (some bytes) e = e ∙ ap {B = Option (List ℕ)} (λ (o : Option (List ℕ)). some (bytes-or-none o)) (sym e)
-    go none e = absurd (has-form atom h e)
+encode-there atom h = let e = encoded atom h in e .1 ∙ ap {B = Option (List ℕ)} (λ (o : Option (List ℕ)). some (bytes-or-none o)) (sym (e .1))
 
 -- An answer is one of three.
 not-full : {X : Type 0} → too-long ≡ full → X

@@ -1,23 +1,20 @@
 -- One item more in the output.
 -- Assumes nothing.
-use Prim.Native.Nat.{ℕ, _+_, _^_, _≤_, _<_}
+use Prim.Native.Nat.{ℕ, _+_, _≤_, _<_}
 use mathlib.Core.Path.{_≡_, refl, sym, ap, _∙_}
 use mathlib.Core.Bool.{false}
 use mathlib.Core.List.{List, _++_}
-use mathlib.Core.Option.{Option, none, some}
+use mathlib.Core.Option.{some}
 use native.Mathlib.Omega.{arith}
 use lib.ListN.{length, take}
 use lib.Seq.{paste, take-take, take-at, take-length, take-paste, length-take-le, length-paste}
 use borrow.Author.Tests.{lt-ltb, le-ltb}
 use Rattle.words.specs.Choice.{by-lt, clash}
-use Rattle.atom.specs.Prefix.{encode}
-use Rattle.atom.specs.RoundTrip.{has-form}
 use Rattle.atom.specs.Write as atom
 use Rattle.atom.specs.Write.{put}
 use Rattle.atom.specs.WriteLaws.{put-full, put-room}
-use Rattle.spec_session.specs.Items.{Item, cons-item, atom-item, reference-item, item-size, size-of, bytes-or-none, item-bytes, output}
+use Rattle.spec_session.specs.Items.{Item, cons-item, atom-item, reference-item, item-size, size-of, item-bytes, output}
 use Rattle.spec_session.specs.Output.{item-size-is}
-use Rattle.spec_session.specs.BytesRead.{nonempty}
 use Rattle.spec_session.specs.Writer.{Todo, Written}
 use Rattle.spec_session.specs.Steps.{too-deep, room-in}
 use Rattle.write_item.specs.declared.Put.the-variants.{Next, Full}
@@ -69,15 +66,6 @@ module _ (out out′ : List ℕ) (p : ℕ) (bytes : List ℕ) where
 
     pub length-stays : length out′ ≡ length out
     length-stays = ap length (q .is) ∙ length-paste out p bytes (length bytes) (q .fits) (omega arith)
-
--- ---- the bytes of an item
-
-pub atom-bytes : (a : List ℕ) → length a < 2 ^ 34 → 1 ≤ length (item-bytes (atom-item a))
-atom-bytes a h = go (encode a) refl
-  where
-    go : (o : Option (List ℕ)) → encode a ≡ o → 1 ≤ length (bytes-or-none o)
-    go none e = absurd (has-form a h e)
-    go (some b) e = nonempty a b e
 
 -- ---- the questions: 12 is asked of a pair's mark alone
 

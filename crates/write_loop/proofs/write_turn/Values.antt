@@ -8,6 +8,7 @@ use mathlib.Core.Option.{Option, some}
 use native.Mathlib.Omega.{arith}
 use lib.Dec.{eqb, ltb}
 use lib.ListN.{length}
+use Rattle.spec_session.specs.Formed.{atom-byte}
 use Rattle.spec_session.specs.FindPathLaws.{without-end}
 use Rattle.allocator.specs.HandleLaws.{is-pair-handle}
 use Rattle.words.specs.Words.{at}
@@ -45,7 +46,7 @@ use Rattle.write_loop.specs.declared.write_turn.Next.the-variants.{Parse
 use Rattle.write_place.specs.State.{AtomsThere, todo-of, Writes}
 use Rattle.write_loop.specs.Contracts.{Runs, goes-on, Turns, Falls, Found, AtomPut, Stacks, Pushes}
 use Rattle.write_loop.proofs.write_turn.Frames.{only-same, holds-stay, Beside, beside-only, todo-stays, standing-stays}
-use Rattle.write_loop.proofs.write_turn.Items.{PutNext, put-next, put-none, taken-all, taken-before, length-stays, atom-bytes, WholeItem, whole-fits, whole-lacks}
+use Rattle.write_loop.proofs.write_turn.Items.{PutNext, put-next, put-none, taken-all, taken-before, length-stays, WholeItem, whole-fits, whole-lacks}
 
 -- ---- an entry goes on the stack
 
@@ -240,7 +241,7 @@ module _ {w w′ out out′ : List ℕ} {p : Place} {h : NodePtr} {e : ℕ} (len
   pub atom-turns : {file : List ℕ} (fo : Found w out p (h .0) e NoPath) → is-atom (node-of (h .0)) ≡ true → AtomPut file w (h .0) out out′ (p .size) x
       → (Turns file w w′ out out′ (Parse p h) r) × Falls (length out) (Parse p h) r
   atom-turns {file} fo a b =
-      value-after file w w′ out out′ p h e (atom-item (b .bytes)) (fo .running) tt (atom-bytes (b .bytes) (b .short))
+      value-after file w w′ out out′ p h e (atom-item (b .bytes)) (fo .running) tt (atom-byte (b .bytes) (b .short))
       (atom-stands file fo a (b .bytes) (b .are)) len x r (b .answer) pu
 
 -- ---- what `push_value` leaves
