@@ -34,6 +34,7 @@ pub fn read_all(
         bytes: 0,
         ghosts: 0,
     };
+    // As many turns as there are bytes are enough: each item takes one at least. Where they do not end the reading, the input ends too early.
     let mut left = input.len();
     while 0 < left {
         match read_item::next_item(input, work, pairs, atoms, bytes, r) {
