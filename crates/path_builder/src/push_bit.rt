@@ -11,15 +11,8 @@ pub struct BitPlace {
     pub bit_pos: u8,
 }
 
-// The place below; after place 0 it is place 7 of the next byte.
-fn next_place(place: u8) -> u8
-    requires { ⌜ place < 8 ⌝ }
-    ensures { λ r. ⌜ r ≡ (place + 7) % 8 ⌝ }
-{
-    if place == 0 { 7 } else { place - 1 }
-}
-
-// One bit more. A new byte is stored, not added to: nothing is assumed of the bytes after those in use.
+// One bit more, and then the place below; after place 0 it is place 7 of the next byte. A new byte is stored, not added to: nothing is assumed of
+// the bytes after those in use.
 pub fn push_bit(store: &mut [u8], in_use: u32, place: u8, bit: u8) -> BitPlace
     requires { ⌜ (place < 8) × (bit < 2) × ((place + 1) % 8 ≤ 8 * «in_use») × («in_use» + (place + 1) / 8 ≤ length (now store))
         × («in_use» + 1 < 2 ^ 32) × ((place < 7) → getD (now store) («in_use» - 1) 0 + bit * 2 ^ place < 256) ⌝ }
@@ -37,6 +30,6 @@ pub fn push_bit(store: &mut [u8], in_use: u32, place: u8, bit: u8) -> BitPlace
     store[n - 1] = x + (bit << place);
     BitPlace {
         in_use: in_use,
-        bit_pos: next_place(place),
+        bit_pos: (place + 7) % 8,
     }
 }

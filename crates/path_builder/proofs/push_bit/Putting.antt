@@ -1,7 +1,7 @@
 -- A bit put into a path's store: a new byte, and a place of the last one.
 -- Assumes nothing.
 use Prim.Native.Nat.{ℕ, _+_, _*_, _-_, _%_, _^_, _<_}
-use mathlib.Core.Path.{_≡_, ap₂}
+use mathlib.Core.Path.{_≡_, refl, ap₂}
 use mathlib.Core.List.{List}
 use native.Mathlib.Omega.{arith}
 use lib.ListN.{getD, set}
@@ -27,10 +27,10 @@ module _ (s : List ℕ) (n k b : ℕ) (small : b < 2) where
     pub put-fits : (x : ℕ) → x + b * 2 ^ k < 256 → x + b * 2 ^ k % 2 ^ 8 < 2 ^ 8
     put-fits x l = omega (arith, exact)
 
-    pub put-last : (k ≡ 7 → ⊥) → (m q : ℕ) → m ≡ n → q ≡ (k + 7) % 8
-        → Put s n k b (set s (m - 1) (getD s (m - 1) 0 + b * 2 ^ k % 2 ^ 8)) (record { «in_use» = n; «bit_pos» = q })
-    put-last d m q em eq = record {
+    pub put-last : (k ≡ 7 → ⊥) → (m : ℕ) → m ≡ n
+        → Put s n k b (set s (m - 1) (getD s (m - 1) 0 + b * 2 ^ k % 2 ^ 8)) (record { «in_use» = n; «bit_pos» = (k + 7) % 8 })
+    put-last d m em = record {
       stored = rw (ne-eqb k 7 d) (ap₂ {C = List ℕ} (λ (i v : ℕ). set s (i - 1) (getD s (i - 1) 0 + v)) em exact);
       bytes = rw (ne-eqb k 7 d);
-      place = eq;
+      place = refl;
     }

@@ -11,12 +11,11 @@ use borrow.Rule.Slice.PartMut.{putMid}
 use lib.Seq.{paste, take-all, drop-drop, length-take-le}
 use Rattle.words.specs.BigEndian.{length-big-endian}
 use Rattle.atom.specs.Prefix.{mark, prefix, prefix-width, encode}
-use Rattle.atom.specs.Write.{next, full, Written, put}
+use Rattle.atom.specs.Write.{next, full, put}
 use Rattle.atom.specs.WriteLaws.{encode-some, length-encoded, put-full, put-room, paste-paste}
 use Rattle.path.specs.Bytes.{path-bytes}
 use Rattle.path.specs.BytesLaws.{length-path-bytes}
 use Rattle.search_list.specs.State.{path-at}
-use Rattle.search_bytes.specs.Bits as path-read
 use Rattle.spec_session.specs.Items.{bytes-or-none, reference-item, item-bytes}
 use Rattle.write_item.proofs.Puts.{set-paste}
 
@@ -74,24 +73,23 @@ module _ (out : List ℕ) (p b : ℕ) (atom : List ℕ) (w : ℕ) (e : prefix-wi
 
 -- ---- a path
 
--- The path's bytes in a part of the output that was lent.
-pub put-path : (w : List ℕ) (slot : ℕ) (out : List ℕ) (start count : ℕ) (r : List ℕ) → count ≡ (length (path-at w slot) + 7) / 8
-    → start + count ≤ length out → length r ≡ length (take (start + count - start) (drop start out))
-    → path-read.Written w slot (take (start + count - start) (drop start out)) r → putMid start (start + count - start) out r ≡ paste out start (path-bytes (path-at w slot)) count
-put-path w slot out start count r e h l m =
-    ap (λ (k : ℕ). putMid start k out r) same ∙ ap (λ (x : List ℕ). take start out ++ (x ++ drop count (drop start out))) bytes
-    ∙ sym (append-assoc (take start out) (path-bytes (path-at w slot)) (drop count (drop start out)))
-    ∙ ap (λ (x : List ℕ). take start out ++ path-bytes (path-at w slot) ++ x) (drop-drop count start out)
-    ∙ ap (λ (x : List ℕ). take start out ++ x ++ drop (start + count) out) (sym (take-all count (path-bytes (path-at w slot)) (omega (arith, length-path-bytes (path-at w slot)))))
-  where
-    same : start + count - start ≡ count
-    same = omega arith
+module _ (w : List ℕ) (slot : ℕ) (out : List ℕ) (start count : ℕ) (e : count ≡ (length (path-at w slot) + 7) / 8) (h : start + count ≤ length out) where
+  same : start + count - start ≡ count
+  same = omega arith
 
-    long : length r ≡ count
-    long = l ∙ ap (λ (k : ℕ). length (take k (drop start out))) same ∙ length-take-le count (drop start out) (simp length-drop (omega arith))
+  -- The part of the output that is lent is as long as the path.
+  pub part-long : length (take (start + count - start) (drop start out)) ≡ length (path-bytes (path-at w slot))
+  part-long =
+      ap (λ (k : ℕ). length (take k (drop start out))) same ∙ length-take-le count (drop start out) (simp length-drop (omega arith))
+      ∙ omega (arith, length-path-bytes (path-at w slot))
 
-    bytes : r ≡ path-bytes (path-at w slot)
-    bytes = sym (take-all ((length (path-at w slot) + 7) / 8) r (omega (arith, long))) ∙ m .bytes
+  -- It came back with the path's bytes.
+  pub put-path : (r : List ℕ) → r ≡ path-bytes (path-at w slot) → putMid start (start + count - start) out r ≡ paste out start (path-bytes (path-at w slot)) count
+  put-path r bytes =
+      ap (λ (k : ℕ). putMid start k out r) same ∙ ap (λ (x : List ℕ). take start out ++ (x ++ drop count (drop start out))) bytes
+      ∙ sym (append-assoc (take start out) (path-bytes (path-at w slot)) (drop count (drop start out)))
+      ∙ ap (λ (x : List ℕ). take start out ++ path-bytes (path-at w slot) ++ x) (drop-drop count start out)
+      ∙ ap (λ (x : List ℕ). take start out ++ x ++ drop (start + count) out) (sym (take-all count (path-bytes (path-at w slot)) (omega (arith, length-path-bytes (path-at w slot)))))
 
 -- ---- a reference
 

@@ -49,17 +49,17 @@ sub-store c = search needs
 slice-write-store-2 : tie.Need-slice-write-store-2
 slice-write-store-2 c = search needs
 
-next-place-requires : tie.Need-next-place-requires
-next-place-requires c κs = search needs
+add-t13 : tie.Need-add-t13
+add-t13 c = search needs
 
 same-length-2 : tie.Need-same-length-2
 same-length-2 c = search needs
 
 returns-2 : tie.Need-returns-2
 returns-2 c =
-    let o = c .before .before .before .before .before in
-    put-last (o .args .store .now) (o .args .in-use) (o .args .place) (o .args .bit) (o .pre .1) (o .pre .0) (c .before .before .if1 .left)
-    (c .before .before .before .wide .result) (c .next-place .result) (c .before .before .before .wide .ensures) (c .next-place .ensures)
+    let w = c .before .before .wide in
+    let o = c .before .before .before .before in
+    put-last (o .args .store .now) (o .args .in-use) (o .args .place) (o .args .bit) (o .pre .1) (o .pre .0) (c .before .if1 .left) (w .result) (w .ensures)
 
 pub push-bit-spec : {M : Type 1} → statement M
 push-bit-spec =
@@ -76,6 +76,6 @@ push-bit-spec =
     add-store
     sub-store
     slice-write-store-2
-    next-place-requires
+    add-t13
     same-length-2
     returns-2)

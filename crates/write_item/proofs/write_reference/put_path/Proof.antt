@@ -18,7 +18,9 @@ part-path-bytes-end : tie.Need-part-path-bytes-end
 part-path-bytes-end c = search needs
 
 path-bytes-requires : tie.Need-path-bytes-requires
-path-bytes-requires c κs = search needs
+path-bytes-requires c κs =
+    let s = c .before .before .before in
+    (s .pre .0, s .pre .1, references.part-long (s .args .work .now) (s .args .slot) (s .args .output .now) (s .args .start) (s .args .count) (s .pre .2) (s .pre .3))
 
 same-length : tie.Need-same-length
 same-length c = search needs
@@ -26,7 +28,7 @@ same-length c = search needs
 returns : tie.Need-returns
 returns c = let s = c .before .before .before .before .before .before in
     let p = c .before .before .path-bytes in
-    references.put-path (s .args .work .now) (s .args .slot) (s .args .output .now) (s .args .start) (s .args .count) (p .last .1 .1 .0) (s .pre .2) (s .pre .3) (p .kept .1 .1 .0) (p .ensures)
+    references.put-path (s .args .work .now) (s .args .slot) (s .args .output .now) (s .args .start) (s .args .count) (s .pre .2) (s .pre .3) (p .last .1 .1 .0) (p .ensures)
 
 pub put-path-spec : {M : Type 1} → statement M
 put-path-spec =
