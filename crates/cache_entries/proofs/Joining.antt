@@ -1,18 +1,19 @@
 -- A pair joined: its entry found or added, made a parent of its sides, and mapped.
 -- Assumes nothing.
 use Prim.Native.Nat.{ℕ, _+_, _≤_, _<_}
-use mathlib.Core.Path.{_≡_, refl, sym, ap, _∙_, subst}
+use mathlib.Core.Path.{_≡_, sym, ap, _∙_, subst}
 use mathlib.Core.Bool.{Bool, true, false, cond}
 use mathlib.Core.List.{List, [], _∷_, _++_, map}
-use mathlib.Core.Option.{Option, none, some}
+use mathlib.Core.Option.{none, some}
 use native.Mathlib.Omega.{arith}
 use native.Mathlib.Numerals.{add-one}
 use native.Mathlib.Decide.{ℕ-discrete}
 use lib.Dec.{eqb}
 use lib.ListN.{length, set, length-set}
 use lib.Seq.{getD-set-same, getD-set-other}
-use borrow.Author.Tests.{eq-eqb, ne-eqb}
+use borrow.Author.Tests.{ne-eqb}
 use Rattle.words.specs.Words.{at}
+use Rattle.spec_session.specs.Cached.{lookup-new}
 use Rattle.spec_session.specs.File.{File}
 use Rattle.spec_session.specs.Cache.{Cache, lookup, adjust, add-parent, with-entries, link-pair}
 use Rattle.work_layout.specs.Layout.{PAIR-COUNT, MAPS, SENTINEL-ENTRY, USED, LEFT, RIGHT, SEEN, ENTRIES}
@@ -29,16 +30,6 @@ use Rattle.cache_entries.proofs.Making.{whole-of, adjusted-whole, adjus
 lookup-other : (j i x : ℕ) (ms : List (ℕ × ℕ)) → (j ≡ i → ⊥) → lookup j (ms ++ (i, x) ∷ []) ≡ lookup j ms
 lookup-other j i x [] q = rw (ne-eqb j i q)
 lookup-other j i x (m ∷ ms) q = ap (cond (eqb j (m .0)) (some (m .1))) (lookup-other j i x ms q)
-
-not-none : (o : Option ℕ) (b : Bool) (y : ℕ) → cond b (some y) o ≡ none → b ≡ false
-not-none o true y e = let z : _≡_ {A = ℕ} 0 1 = cc in absurd (omega arith)
-not-none o false y e = refl
-
-lookup-new : (i x : ℕ) (ms : List (ℕ × ℕ)) → lookup i ms ≡ none → lookup i (ms ++ (i, x) ∷ []) ≡ some x
-lookup-new i x [] e = rw (eq-eqb i i refl)
-lookup-new i x (m ∷ ms) e =
-    let b = not-none (lookup i ms) (eqb i (m .0)) (m .1) e in
-    rw b (lookup-new i x ms (rw b at e))
 
 -- ---- a parent added
 
@@ -148,7 +139,7 @@ module _ {w w₁ w₂ w₃ : List ℕ} (i : ℕ) {l r x : ℕ} (wh : Whole w) (n
       unknown-yet = let p = t .pair-count in let n = named in h₃ .mapped i (omega arith) ∙ ap entry-or-none (maps₃ i low-i ∙ z)
 
       mapped : (j : ℕ) → j < length (f .pairs) → Dec (j ≡ i) → lookup j (pair-action l r f c .0 .mapped ++ (i, x) ∷ []) ≡ entry-or-none (at w₄ (MAPS + j))
-      mapped j h (yes q) = rw q (lookup-new i x (pair-action l r f c .0 .mapped) unknown-yet ∙ ap entry-or-none (sym (here ∙ add-one x)))
+      mapped j h (yes q) = rw q (lookup-new i (pair-action l r f c .0 .mapped) x unknown-yet ∙ ap entry-or-none (sym (here ∙ add-one x)))
       mapped j h (no q) =
           lookup-other j i x (pair-action l r f c .0 .mapped) q ∙ h₃ .mapped j h ∙ ap entry-or-none (sym (other (MAPS + j) (λ e. q (omega arith))))
 

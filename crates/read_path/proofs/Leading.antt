@@ -8,6 +8,7 @@ use mathlib.Core.Option.{Option, none, some}
 use native.Mathlib.Omega.{arith}
 use native.Mathlib.Numerals.{add-one}
 use lib.ListN.{length, take, drop}
+use Rattle.words.specs.Choice.{clash}
 use Rattle.words.specs.Words.{at}
 use Rattle.words.specs.Lists.{Bytes}
 use Rattle.path.specs.Bytes.{read-path}
@@ -41,12 +42,12 @@ pub counted-some : (path : List ℕ) (count : ℕ) → path-bits.Bits count ≡ 
 counted-some path count e = go (read-path path) refl e
   where
     go : (o : Option (List Bool)) → read-path path ≡ o → path-bits.Bits count ≡ counted o → Counted path count
-    go none q f = absurd (let z : _≡_ {A = ℕ} 0 1 = cc in omega arith)
+    go none q f = clash cc
     go (some bits) q f = let l : count ≡ length bits = cc in record { bits = bits; is = q; long = l }
 
 pub counted-none : (o : Option (List Bool)) → path-bits.Nil ≡ counted o → o ≡ none
 counted-none none e = refl
-counted-none (some bits) e = absurd (let z : _≡_ {A = ℕ} 0 1 = cc in omega arith)
+counted-none (some bits) e = clash cc
 
 pub count-within : (path : List ℕ) (count : ℕ) → Bytes path → Counted path count → count ≤ 8 * length path
 count-within path count b q = omega (arith, q .long, lowest path (q .bits) b (q .is) .short)
@@ -83,7 +84,7 @@ pub lead-value : (bits : List Bool) (vs : List Value) (s : Store) (k : ℕ) → 
     → drop k vs ≡ v ∷ below → lead bits vs s ≡ led-to (walk s (drop (suc k) bits) (node-of (v .node))) vs s
 unfolding down lead
 lead-value [] vs s k e h v below q = absurd (omega arith)
-lead-value (b ∷ bs) [] s zero e h v below q = absurd (let z : _≡_ {A = ℕ} 0 1 = cc in omega arith)
+lead-value (b ∷ bs) [] s zero e h v below q = clash cc
 lead-value (b ∷ bs) [] s (suc k) e h v below q = absurd (omega arith)
 lead-value (false ∷ bs) (u ∷ vs) s zero e h v below q = let f : u ≡ v = cc in ap (λ (x : Value). led-to (walk s bs (node-of (x .node))) (u ∷ vs) s) f
 lead-value (false ∷ bs) (u ∷ vs) s (suc k) e h v below q = absurd (omega arith)

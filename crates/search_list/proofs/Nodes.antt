@@ -1,7 +1,7 @@
 -- The nodes: their bits, and the entries visited.
 -- Assumes nothing.
 use mathlib.Core.Path.{_≡_, refl, sym, ap, ap₂, subst, _∙_}
-use mathlib.Core.Bool.{Bool, true, false, _||_}
+use mathlib.Core.Bool.{Bool, _||_}
 use mathlib.Core.List.{List, _∷_}
 use Prim.Native.Nat.{ℕ, zero, suc, _+_, _*_, _/_, _≤_, _<_}
 use native.Mathlib.Omega.{arith}
@@ -15,6 +15,7 @@ use Rattle.work_layout.specs.Layout.{PREVS, NODES, LENS, PATHS, SEEN, ENTRIES}
 use Rattle.search_list.specs.State.{chain, node-bits, seen-of, seen-at, node-at, place-at}
 use Rattle.search_list.specs.Steps.{Nodes, Marked, Visited}
 use Rattle.path.specs.Bytes.{odd}
+use Rattle.search_list.proofs.Room.{or-true, or-false}
 
 module _ (w : List ℕ) (m : ℕ) (prev : (k : ℕ) → k < m → at w (PREVS + suc k) ≤ k) where
   pub chain-enough : (f g k : ℕ) → k ≤ f → k ≤ g → k ≤ m → chain w f k ≡ chain w g k
@@ -81,12 +82,6 @@ module _ (w w′ : List ℕ) (m : ℕ) (ok : Nodes w m) (low : (k : ℕ) → k <
       }
 
 -- ---- one node more
-
-or-true : (a b : Bool) → a ≡ true → (a || b) ≡ true
-or-true a b e = rw e
-
-or-false : (a b : Bool) → a ≡ false → (a || b) ≡ b
-or-false a b e = rw e
 
 module _ (w x y : List ℕ) (c m : ℕ) (ok : Nodes w m) (h : m < most-visits) (hn : node-at w c ≤ m) (hp : place-at w c < 2 * ENTRIES)
     (prev : at x (PREVS + (m + 1)) ≡ node-at w c) (node : at x (NODES + (m + 1)) ≡ place-at w c) (len : at x (LENS + (m + 1)) ≡ at w (LENS + node-at w c) + 1)

@@ -11,10 +11,10 @@ use Rattle.spec_search.specs.Search.{member}
 use Rattle.words.specs.Choice.{cond-true, cond-false}
 use Rattle.search_list.specs.Steps.{unseen}
 
-or-false : (a b : Bool) → a ≡ false → (a || b) ≡ b
+pub or-false : (a b : Bool) → a ≡ false → (a || b) ≡ b
 or-false a b e = rw e
 
-or-true : (a b : Bool) → a ≡ true → (a || b) ≡ true
+pub or-true : (a b : Bool) → a ≡ true → (a || b) ≡ true
 or-true a b e = rw e
 
 module _ (f : ℕ → ℕ) (seen : List ℕ) (x : ℕ) where

@@ -7,6 +7,7 @@ use mathlib.Core.List.{List, _++_, append-nil}
 use native.Mathlib.Omega.{arith}
 use lib.ListN.{length, take, drop, replicate, length-take, drop-of-length-le}
 use lib.Seq.{length-take-le, take-take}
+use Rattle.words.specs.Choice.{clash}
 use Rattle.words.specs.Lists.{Bytes}
 use Rattle.path.specs.Measure.{counted}
 use Rattle.spec_reading.specs.Call.{zeroed, filled}
@@ -95,7 +96,7 @@ module _ (input w ws : List ℕ) (cs : List Checkpoint) (o : List ℕ) where
     where
       go : (b : Bool) → cond b (file version-1 input) (refused 1) ≡ got f rest → contents-of (file version-1 input) ≡ f
       go true q = ap contents-of q
-      go false q = absurd (let z : _≡_ {A = ℕ} 0 1 = cc in omega arith)
+      go false q = clash cc
 
   -- The run of a file that passed is the definition's.
   file-run : (f : File) (rest : List ℕ) → the-asked ≡ got f rest

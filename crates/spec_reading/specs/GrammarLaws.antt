@@ -10,6 +10,7 @@ use lib.Dec.{eqb}
 use lib.ListN.{length, drop, take, length-append, take-append-drop}
 use lib.Seq.{drop-at}
 use borrow.Author.Tests.{eqb-true}
+use Rattle.words.specs.Choice.{clash}
 use Rattle.words.specs.Lists.{Bytes, all-drop}
 use Rattle.atom.specs.Prefix.{encode}
 use Rattle.atom.specs.Parse.{Parse, blob, refused, ones, size-of, parse, blob-of}
@@ -109,7 +110,7 @@ FirstWithin n =
     (rest : List ℕ) → length rest ≤ n → Bytes rest → (ops : List ParseOp) (ts : List Tree) (m : ℕ) (p : Plain) → from rest ops ts m ≡ accepted p → First rest ops ts p
 
 not-accepted : {X : Type 0} (n : ℕ) (p : Plain) → turned-down n ≡ accepted p → X
-not-accepted n p e = absurd (let z : _≡_ {A = ℕ} 0 1 = cc in omega arith)
+not-accepted n p e = clash cc
 
 bytes-after : (xs ys : List ℕ) → Bytes (xs ++ ys) → Bytes ys
 bytes-after xs ys h = subst Bytes (drop-at xs ys (length xs) refl) (all-drop (λ (n : ℕ). n < 256) (length xs) (xs ++ ys) h)

@@ -9,6 +9,7 @@ use native.Mathlib.Omega.{arith}
 use lib.Dec.{eqb, ltb}
 use lib.ListN.{length, set, take, length-append, length-set, length-drop}
 use borrow.Author.Tests.{eqb-true, eqb-false, eq-eqb, ne-eqb, ltb-true, ltb-false}
+use Rattle.spec_reading.specs.Sound.{one-if-none}
 use Rattle.spec_session.specs.Cached.{lookup-both}
 use Rattle.allocator.specs.HandleLaws.{pair-handle}
 use Rattle.words.specs.Choice.{by-cond, by-lt}
@@ -145,10 +146,6 @@ mapped-more n ms h e m l a = record {
   handles = all-append (λ (q : ℕ × ℕ). q .0 < n) ms ((h, e) ∷ []) (m .handles) (l, tt);
   distinct = distinct-more ms h e (m .distinct) a;
 }
-
-abbrev pub one-if-none : Option ℕ → ℕ
-one-if-none none = 1
-one-if-none (some e) = 0
 
 -- How many of the handles below n are not mapped.
 abbrev pub free : ℕ → List (ℕ × ℕ) → ℕ

@@ -3,12 +3,13 @@
 -- Assumes nothing.
 use Prim.Native.Nat.{ℕ, _≤_, min}
 use mathlib.Core.Path.{_≡_, refl, sym, ap, _∙_, subst}
-use mathlib.Core.Bool.{Bool, true, false, _&&_}
+use mathlib.Core.Bool.{Bool, true, _&&_}
 use mathlib.Core.List.{List, [], _∷_}
 use native.Mathlib.Omega.{arith}
 use lib.Dec.{ltb}
 use lib.ListN.{length, take, getD, replicate, length-replicate}
 use borrow.Author.Tests.{ltb-true, le-leb}
+use Rattle.words.specs.Choice.{both-true}
 use Rattle.words.specs.BigEndian.{big-endian}
 use Rattle.words.specs.Words.{at}
 use Rattle.words.specs.Lists.{Bytes}
@@ -37,11 +38,7 @@ all-below-256 (b ∷ bs) = ltb b 256 && all-below-256 bs
 
 tested : (bs : List ℕ) → all-below-256 bs ≡ true → Bytes bs
 tested [] e = tt
-tested (b ∷ bs) e = go (ltb b 256) refl e (tested bs)
-  where
-    go : (x : Bool) → ltb b 256 ≡ x → (x && all-below-256 bs) ≡ true → (all-below-256 bs ≡ true → Bytes bs) → Bytes (b ∷ bs)
-    go true f e rest = (ltb-true b 256 f, rest e)
-    go false f e rest = let z : _≡_ {A = ℕ} 0 1 = cc in absurd (omega arith)
+tested (b ∷ bs) e = let both = both-true (ltb b 256) (all-below-256 bs) e in (ltb-true b 256 (both .0), tested bs (both .1))
 
 whole-bytes : Bytes whole-case
 whole-bytes = tested whole-case refl

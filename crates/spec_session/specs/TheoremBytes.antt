@@ -7,6 +7,7 @@ use mathlib.Core.Bool.{Bool}
 use mathlib.Core.List.{List, [], _∷_, map}
 use mathlib.Core.Option.{none, some}
 use native.Mathlib.Omega.{arith}
+use Rattle.words.specs.Choice.{clash}
 use Rattle.words.specs.Lists.{All, Bytes}
 use Rattle.spec_reading.specs.Tree.{Tree}
 use Rattle.spec_reading.specs.Format.{Read, accepted, turned-down}
@@ -41,7 +42,7 @@ pub record BytesReadBack (space : ℕ) (f : File) (handles : List ℕ) (items : 
   pub short : size-of items ≤ space
 
 not-down : (n : ℕ) (p : Plain) (r : Read Plain) → r ≡ turned-down n → r ≡ accepted p → ⊥
-not-down n p r e f = let z : _≡_ {A = ℕ} 0 1 = cc in omega arith
+not-down n p r e f = clash cc
 
 same-accepted : (p q : Plain) (r : Read Plain) → r ≡ accepted p → r ≡ accepted q → p ≡ q
 same-accepted p q r e f = cc

@@ -11,6 +11,7 @@ use native.Mathlib.Decide.{ℕ-discrete}
 use lib.Dec.{eqb}
 use lib.ListN.{length}
 use borrow.Author.Tests.{eq-eqb, eqb-true}
+use Rattle.words.specs.Choice.{clash}
 use Rattle.words.specs.Words.{at, tabulate}
 use Rattle.words.proofs.Words.{part-same, tabulate-same}
 use Rattle.spec_session.specs.Cache.{later}
@@ -103,7 +104,7 @@ find-some (suc n) f l r (suc e) h a b m =
 -- What is found is there, and has the key.
 pub find-at : (n : ℕ) (f : ℕ → Row) (l r e : ℕ) → find-row l r (tabulate n f) ≡ some e → (e < n) × (f e .left ≡ l) × (f e .right ≡ r)
 unfolding tabulate
-find-at zero f l r e q = absurd (let z : _≡_ {A = ℕ} 0 1 = cc in omega arith)
+find-at zero f l r e q = clash cc
 find-at (suc n) f l r e q =
     go (eqb (f 0 .left) l) (eqb (f 0 .right) r) (find-row l r (tabulate n (λ j. f (suc j)))) refl refl q (λ d. find-at n (λ j. f (suc j)) l r d)
   where
@@ -111,7 +112,7 @@ find-at (suc n) f l r e q =
     Is d = (d < suc n) × (f d .left ≡ l) × (f d .right ≡ r)
 
     rest : (o : Option ℕ) → later o ≡ some e → ((d : ℕ) → o ≡ some d → (d < n) × (f (suc d) .left ≡ l) × (f (suc d) .right ≡ r)) → Is e
-    rest none p g = absurd (let z : _≡_ {A = ℕ} 0 1 = cc in omega arith)
+    rest none p g = clash cc
     rest (some d) p g = let y : suc d ≡ e = cc in let z = g d refl in subst Is y (omega arith, z .1, z .2)
 
     go : (a b : Bool) (o : Option ℕ) → eqb (f 0 .left) l ≡ a → eqb (f 0 .right) r ≡ b → cond (a && b) (some 0) (later o) ≡ some e
@@ -127,9 +128,9 @@ some-word zero n = absurd (n refl)
 some-word (suc k) n = ap {B = Option ℕ} some (omega arith)
 
 pub word-some : (k e : ℕ) → some e ≡ entry-or-none k → k ≡ e + 1
-word-some zero e q = absurd (let z : _≡_ {A = ℕ} 0 1 = cc in omega arith)
+word-some zero e q = clash cc
 word-some (suc k) e q = let z : e ≡ k = cc in omega arith
 
 pub word-none : (k : ℕ) → none ≡ entry-or-none k → k ≡ 0
 word-none zero q = refl
-word-none (suc k) q = absurd (let z : _≡_ {A = ℕ} 0 1 = cc in omega arith)
+word-none (suc k) q = clash cc

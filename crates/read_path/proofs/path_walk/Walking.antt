@@ -9,6 +9,7 @@ use native.Mathlib.Omega.{arith}
 use native.Mathlib.Numerals.{add-one}
 use lib.ListN.{length, getD, take, drop, drop-of-length-le}
 use lib.Seq.{drop-cons, getD-take}
+use Rattle.words.specs.Choice.{clash}
 use Rattle.words.specs.Words.{at}
 use Rattle.allocator.specs.Handle.{Node, pair, listed-atom, small-atom, unknown, node-of, index-of, is-pair}
 use Rattle.spec_reading.specs.Store.{Store, walk, pick-word}
@@ -30,7 +31,7 @@ down-clear : (b : Bool) (bs : List Bool) (d : ℕ) → b ≡ false → down (b �
 unfolding down
 down-clear false bs zero e = refl
 down-clear false bs (suc d) e = refl
-down-clear true bs d e = absurd (let z : _≡_ {A = ℕ} 0 1 = cc in omega arith)
+down-clear true bs d e = clash cc
 
 down-set : (b : Bool) (bs : List Bool) (d : ℕ) → b ≡ true → 0 < d → down (b ∷ bs) d ≡ 1 + down bs (d - 1)
 unfolding down
@@ -39,7 +40,7 @@ down-set true bs (suc d) e h = ap suc (ap (down bs) less) ∙ omega arith
   where
     less : d ≡ suc d - 1
     less = omega arith
-down-set false bs d e h = absurd (let z : _≡_ {A = ℕ} 0 1 = cc in omega arith)
+down-set false bs d e h = clash cc
 
 -- i set bits are passed.
 abbrev pub Down : List Bool → (depth i : ℕ) → Type 0
@@ -81,13 +82,13 @@ down-more bits depth i d h l e =
 
 pub pair-within : (m : ℕ) (n : Node) → is-pair n ≡ true → Within m n → index-of n < m
 pair-within m (pair i) e w = w
-pair-within m (listed-atom i) e w = absurd (let z : _≡_ {A = ℕ} 0 1 = cc in omega arith)
-pair-within m (small-atom v) e w = absurd (let z : _≡_ {A = ℕ} 0 1 = cc in omega arith)
-pair-within m (unknown k i) e w = absurd (let z : _≡_ {A = ℕ} 0 1 = cc in omega arith)
+pair-within m (listed-atom i) e w = clash cc
+pair-within m (small-atom v) e w = clash cc
+pair-within m (unknown k i) e w = clash cc
 
 walk-into : (s : Store) (b : Bool) (bs : List Bool) (n : Node) → is-pair n ≡ false → walk s (b ∷ bs) n ≡ none
 unfolding walk
-walk-into s b bs (pair i) e = absurd (let z : _≡_ {A = ℕ} 0 1 = cc in omega arith)
+walk-into s b bs (pair i) e = clash cc
 walk-into s b bs (listed-atom i) e = refl
 walk-into s b bs (small-atom v) e = refl
 walk-into s b bs (unknown k i) e = refl
@@ -96,9 +97,9 @@ walk-down : (s : Store) (b : Bool) (bs : List Bool) (n : Node) → is-pair n ≡
     → walk s (b ∷ bs) n ≡ walk s bs (node-of (at (s .pairs) (2 * index-of n + pick-word b)))
 unfolding walk
 walk-down s b bs (pair i) e = refl
-walk-down s b bs (listed-atom i) e = absurd (let z : _≡_ {A = ℕ} 0 1 = cc in omega arith)
-walk-down s b bs (small-atom v) e = absurd (let z : _≡_ {A = ℕ} 0 1 = cc in omega arith)
-walk-down s b bs (unknown k i) e = absurd (let z : _≡_ {A = ℕ} 0 1 = cc in omega arith)
+walk-down s b bs (listed-atom i) e = clash cc
+walk-down s b bs (small-atom v) e = clash cc
+walk-down s b bs (unknown k i) e = clash cc
 
 side-low : (b : Bool) (k n : ℕ) → k < n → 2 * k + pick-word b < 2 * n
 side-low false k n l = omega arith

@@ -5,15 +5,9 @@ use mathlib.Core.Path.{_≡_, sym, ap, _∙_}
 use mathlib.Core.List.{List}
 use native.Mathlib.Omega.{arith}
 use lib.ListN.{length, take}
-use lib.Seq.{length-take-le, take-all}
-use Rattle.words.specs.Choice.{by-lt}
+use lib.Seq.{length-take-le}
+use Rattle.words.proofs.Words.{take-lesser}
 use Rattle.spec_reading.specs.Call as read
-
--- Where the size is past the end, the whole list is taken.
-take-lesser : (m n : ℕ) (l : List ℕ) → m ≡ min n (length l) → take m l ≡ take n l
-take-lesser m n l e =
-    by-lt n (length l) (λ h. let same : m ≡ n = omega arith in ap (λ (k : ℕ). take k l) same)
-    (λ h. take-all m l (omega arith) ∙ sym (take-all n l h))
 
 -- The count of bytes that are lent.
 pub lesser-many : (m n : ℕ) (l : List ℕ) → m ≡ min n (length l) → m ≡ length (take m l)

@@ -12,6 +12,7 @@ use native.Mathlib.Decide.{ℕ-discrete}
 use lib.Dec.{eqb}
 use lib.ListN.{length}
 use borrow.Author.Tests.{eq-eqb, ne-eqb}
+use Rattle.words.specs.Choice.{clash}
 use Rattle.words.specs.Words.{at, part, tabulate}
 use Rattle.words.proofs.Words.{Store, stores, Misses, miss, hits, length-stores, tabulate-more}
 use Rattle.spec_session.specs.Cache.{later}
@@ -23,7 +24,7 @@ use Rattle.cache_entries.proofs.table.Rows.{row-same, counts-same, Miss
 
 later-none : (o : Option ℕ) → later o ≡ none → o ≡ none
 later-none none q = refl
-later-none (some e) q = absurd (let z : _≡_ {A = ℕ} 0 1 = cc in omega arith)
+later-none (some e) q = clash cc
 
 -- Where nothing is found, no row has the key.
 none-missing : (n : ℕ) (f : ℕ → Row) (l r : ℕ) → find-row l r (tabulate n f) ≡ none → Missing f l r n
@@ -31,13 +32,13 @@ unfolding tabulate
 none-missing zero f l r q k h a b = not-suc-le-zero h
 none-missing (suc n) f l r q zero h a b =
     let z : _≡_ {A = Option ℕ} (some 0) none = rw (eq-eqb (f 0 .left) l a, eq-eqb (f 0 .right) r b) at q in
-    let y : _≡_ {A = ℕ} 0 1 = cc in omega arith
+    clash cc
 none-missing (suc n) f l r q (suc k) h a b =
     go (eqb (f 0 .left) l && eqb (f 0 .right) r) (find-row l r (tabulate n (λ j. f (suc j)))) q
     (λ p. none-missing n (λ j. f (suc j)) l r p k (omega arith) a b)
   where
     go : (t : Bool) (o : Option ℕ) → cond t (some 0) (later o) ≡ none → (o ≡ none → ⊥) → ⊥
-    go true o p g = let y : _≡_ {A = ℕ} 0 1 = cc in omega arith
+    go true o p g = clash cc
     go false o p g = g (later-none o p)
 
 module _ (w : List ℕ) (l r len n s : ℕ) (so : Sound w) (room : at w USED < ENTRIES) (new : find-row l r (rows-of w) ≡ none) (hn : n ≡ at w USED) (hs : s ≡ slot-of l r) where
