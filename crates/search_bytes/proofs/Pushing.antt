@@ -13,7 +13,7 @@ use Rattle.path_builder.specs.declared.PathBuilder.{PathBuilder}
 use Rattle.path_builder.specs.Builder.{built, Sound, Fresh, Room, Pushed, Finished}
 use Rattle.spec_search.specs.Search.{trail-bits}
 use Rattle.search_list.specs.State.{trail, trues, trail-of, node-bits, path-at, node-at, place-at, extra-at, Readable}
-use Rattle.search_list.proofs.Trails.{readable-size}
+use Rattle.search_list.proofs.Trails.{size-trues, readable-size}
 use Rattle.search_bytes.specs.declared.node_bits.TakenBits.{TakenBits}
 use Rattle.search_bytes.specs.Built.{with-number, with-stack, Taken, Holds, Fits}
 use Rattle.search_bytes.proofs.Taking.{size-number}
@@ -58,15 +58,12 @@ number-next (suc left) v b bits h e =
     let q : suc left - 1 ≡ left = omega arith in
     ap₂ {C = List Bool} (λ (n : ℕ) (c : Bool). with-number n (v / 2) (c ∷ bits)) q e
 
-pub ones-next : (left n : ℕ) (bits : List Bool) → n ≤ left → trues (left - n) (trues n bits) ≡ trues left bits
-ones-next left n bits h = together (left - n) ∙ ap (λ (k : ℕ). trues k bits) all
-  where
-    together : (k : ℕ) → trues k (trues n bits) ≡ trues (k + n) bits
-    together zero = let e : 0 + n ≡ n = omega arith in ap (λ (k : ℕ). trues k bits) (sym e)
-    together (suc k) = let e : suc k + n ≡ suc (k + n) = omega arith in ap (λ (l : List Bool). true ∷ l) (together k) ∙ ap (λ (j : ℕ). trues j bits) (sym e)
+trues-add : (k n : ℕ) (bits : List Bool) → trues k (trues n bits) ≡ trues (k + n) bits
+trues-add zero n bits = let e : 0 + n ≡ n = omega arith in ap (λ (k : ℕ). trues k bits) (sym e)
+trues-add (suc k) n bits = let e : suc k + n ≡ suc (k + n) = omega arith in ap (λ (l : List Bool). true ∷ l) (trues-add k n bits) ∙ ap (λ (j : ℕ). trues j bits) (sym e)
 
-    all : left - n + n ≡ left
-    all = omega arith
+pub ones-next : (left k n : ℕ) (bits : List Bool) → k + n ≡ left → trues k (trues n bits) ≡ trues left bits
+ones-next left k n bits e = trues-add k n bits ∙ ap (λ (j : ℕ). trues j bits) e
 
 -- ---- a node's bits
 
@@ -91,19 +88,31 @@ module _ {w : List ℕ} {a n : ℕ} {t : TakenBits} (k : Taken w a n t) where
 
 -- ---- the stack's
 
--- A builder whose next bit begins a byte, and eight ones.
-module _ (s : List ℕ) (p : PathBuilder) (ones : ℕ) (e : p .«bit_pos» ≡ 7) (n : ones ≡ 8) where
+-- A builder whose next bit begins a byte.
+module _ (s : List ℕ) (p : PathBuilder) (e : p .«bit_pos» ≡ 7) where
   abbrev begun : PathBuilder
   begun = record { «in_use» = p .«in_use»; «bit_pos» = 7 }
 
   same : p ≡ begun
   same = λ i. record { «in_use» = p .«in_use»; «bit_pos» = e i }
 
-  pub byte-asks : Sound s p → Fits s (ones + length (built s p)) → (Sound s begun) × (Fits s (8 + length (built s begun)))
-  byte-asks h f = subst (λ (q : PathBuilder). (Sound s q) × (Fits s (8 + length (built s q)))) same (h, subst (λ (k : ℕ). Fits s (k + length (built s p))) n f)
+  pub byte-asks : Sound s p → Fits s (8 + length (built s p)) → (Sound s begun) × (Fits s (8 + length (built s begun)))
+  byte-asks h f = subst (λ (q : PathBuilder). (Sound s q) × (Fits s (8 + length (built s q)))) same (h, f)
 
-  pub byte-done : (s′ : List ℕ) (p′ : PathBuilder) → Holds s′ p′ (trues 8 (built s begun)) → Holds s′ p′ (trues ones (built s p))
-  byte-done s′ p′ h = subst (λ (k : ℕ). Holds s′ p′ (trues k (built s p))) (sym n) (subst (λ (q : PathBuilder). Holds s′ p′ (trues 8 (built s q))) (sym same) h)
+  pub byte-done : (s′ : List ℕ) (p′ : PathBuilder) → Holds s′ p′ (trues 8 (built s begun)) → Holds s′ p′ (trues 8 (built s p))
+  byte-done s′ p′ h = subst (λ (q : PathBuilder). Holds s′ p′ (trues 8 (built s q))) (sym same) h
+
+-- After k ones there is room for m more.
+pub ones-fits : (s₀ s : List ℕ) (p : PathBuilder) (bits : List Bool) (k m n : ℕ) → Fits s₀ (n + length bits) → length s ≡ length s₀ → Holds s p (trues k bits) → m + k ≤ n
+    → Fits s (m + length (built s p))
+ones-fits s₀ s p bits k m n f e h l =
+    let z : length (built s p) ≡ k + length bits = ap length (h .bits-are) ∙ size-trues k bits in
+    record { room = omega (arith, f .room); count = omega (arith, f .count) }
+
+-- Ones after ones.
+pub ones-more : {s s′ : List ℕ} {p p′ : PathBuilder} (bits : List Bool) (k m n : ℕ) → Holds s p (trues k bits) → Holds s′ p′ (trues m (built s p)) → m + k ≡ n
+    → Holds s′ p′ (trues n bits)
+ones-more bits k m n h g e = record { sound = g .sound; bits-are = g .bits-are ∙ ap (trues m) (h .bits-are) ∙ ones-next n m k bits e }
 
 pub stack-none : (s : List ℕ) (p : PathBuilder) (x : ℕ) → x ≡ 0 → Sound s p → Holds s p (with-stack x (built s p))
 stack-none s p x e h = rw e (record { sound = h; bits-are = refl })

@@ -1,7 +1,7 @@
 // The bits of the stack, pushed: a 0, and then each a 1.
 use path_builder::ChildPos;
 use path_builder::PathBuilder;
-ghost use Prim.Native.Nat.{_+_, _≤_};
+ghost use Prim.Native.Nat.{_+_, _*_};
 ghost use lib.ListN.{length};
 ghost use Rattle.path_builder.specs.Builder.{built, Sound};
 ghost use Rattle.search_list.specs.State.{trues};
@@ -21,61 +21,64 @@ fn push_few(store: &mut [u8], builder: PathBuilder, ones: usize) -> PathBuilder
     longer
 }
 
-// How many ones are pushed next: eight where a byte begins, which the compiler makes one store of.
-fn next_run(bit_pos: u8, left: usize) -> usize
-    requires { ⌜ 1 ≤ left ⌝ }
-    ensures { λ r. ⌜ (1 ≤ r) × (r ≤ left) ⌝ }
-{
-    if bit_pos == 7 && 8 <= left { 8 } else { 1 }
-}
-
-// The same, for eight of them in a byte of their own.
-fn push_run(store: &mut [u8], builder: PathBuilder, ones: usize) -> PathBuilder
-    requires { ⌜ (Sound (now store) builder) × (Fits (now store) (ones + length (built (now store) builder))) ⌝ }
-    ensures { λ r. ⌜ Holds (now (store .exit)) r (trues ones (built (now (store .entry)) builder)) ⌝ }
+// Eight ones. Where they begin a byte, the compiler makes one store of them.
+fn push_eight(store: &mut [u8], builder: PathBuilder) -> PathBuilder
+    requires { ⌜ (Sound (now store) builder) × (Fits (now store) (8 + length (built (now store) builder))) ⌝ }
+    ensures { λ r. ⌜ Holds (now (store .exit)) r (trues 8 (built (now (store .entry)) builder)) ⌝ }
 {
     let in_use = builder.in_use;
     if builder.bit_pos == 7 {
-        if ones == 8 {
-            return push_few(
-                store,
-                PathBuilder {
-                    in_use: in_use,
-                    bit_pos: 7,
-                },
-                8,
-            );
-        }
+        return push_few(
+            store,
+            PathBuilder {
+                in_use: in_use,
+                bit_pos: 7,
+            },
+            8,
+        );
     }
-    push_few(store, builder, ones)
+    push_few(store, builder, 8)
 }
 
-// So many ones, run by run.
-fn push_ones(store: &mut [u8], builder: PathBuilder, ones: usize) -> PathBuilder
-    requires { ⌜ (Sound (now store) builder) × (Fits (now store) (ones + length (built (now store) builder))) ⌝ }
-    ensures { λ r. ⌜ Holds (now (store .exit)) r (trues ones (built (now (store .entry)) builder)) ⌝ }
+// Eight times so many ones.
+fn push_bytes(store: &mut [u8], builder: PathBuilder, bytes: usize) -> PathBuilder
+    requires { ⌜ (Sound (now store) builder) × (Fits (now store) (8 * bytes + length (built (now store) builder))) ⌝ }
+    ensures { λ r. ⌜ Holds (now (store .exit)) r (trues (8 * bytes) (built (now (store .entry)) builder)) ⌝ }
 {
     let mut in_use = builder.in_use;
     let mut bit_pos = builder.bit_pos;
-    let mut left = ones;
+    let mut left = bytes;
     while 0 < left {
-        let run = next_run(bit_pos, left);
-        let longer = push_run(
+        let longer = push_eight(
             store,
             PathBuilder {
                 in_use: in_use,
                 bit_pos: bit_pos,
             },
-            run,
         );
         in_use = longer.in_use;
         bit_pos = longer.bit_pos;
-        left -= run;
+        left -= 1;
     }
     PathBuilder {
         in_use: in_use,
         bit_pos: bit_pos,
     }
+}
+
+// So many ones: those that fill the last byte, those of whole bytes, and the rest.
+fn push_ones(store: &mut [u8], builder: PathBuilder, ones: usize) -> PathBuilder
+    requires { ⌜ (Sound (now store) builder) × (Fits (now store) (ones + length (built (now store) builder))) ⌝ }
+    ensures { λ r. ⌜ Holds (now (store .exit)) r (trues ones (built (now (store .entry)) builder)) ⌝ }
+{
+    if ones < 8 {
+        return push_few(store, builder, ones);
+    }
+    let first = ((builder.bit_pos + 1) % 8) as usize;
+    let filled = push_few(store, builder, first);
+    let rest = ones - first;
+    let whole = push_bytes(store, filled, rest / 8);
+    push_few(store, whole, rest % 8)
 }
 
 // The bits of the stack, of which there are x.

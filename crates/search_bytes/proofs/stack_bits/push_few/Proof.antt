@@ -1,6 +1,6 @@
 -- `search_bytes::stack_bits::push_few` meets its contract. The loop's invariant: with the ones that are left, the builder holds what it is to hold.
 -- Assumes nothing.
-use Prim.Native.Nat.{ℕ, _+_}
+use Prim.Native.Nat.{ℕ, _+_, _-_}
 use mathlib.Core.Path.{_≡_, ap}
 use native.Mathlib.Omega.{arith}
 use lib.ListN.{length}
@@ -37,7 +37,7 @@ loop-again c =
     let t = c .before .before .before .before in
     let l = t .before .loop in
     push-more (l .inv) _ _ (one-holds (p .ensures)) (p .kept .1 .0) (omega (arith, t .loop-test .taken))
-    (ones-next (l .left) 1 (built (l .store) (l .longer)) (t .loop-test .taken))
+    (ones-next (l .left) (l .left - 1) 1 (built (l .store) (l .longer)) (omega (arith, t .loop-test .taken)))
 
 same-length : tie.Need-same-length Inv-loop μ-loop
 same-length c = c .before .loop .inv .len

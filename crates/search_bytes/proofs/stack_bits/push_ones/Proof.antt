@@ -1,73 +1,106 @@
--- `search_bytes::stack_bits::push_ones` meets its contract. The loop's invariant: with the ones that are left, the builder holds what it is to hold.
+-- `search_bytes::stack_bits::push_ones` meets its contract: ones after ones.
 -- Assumes nothing.
-use Prim.Native.Nat.{ℕ, _+_}
-use mathlib.Core.Path.{_≡_, ap}
+use Prim.Native.Nat.{ℕ, _+_, _*_, _-_, _/_, _%_, _≤_}
+use mathlib.Core.Bool.{Bool}
+use mathlib.Core.List.{List}
+use mathlib.Core.Path.{refl, _∙_}
 use native.Mathlib.Omega.{arith}
-use lib.ListN.{length}
-use Rattle.path_builder.specs.declared.PathBuilder.{PathBuilder}
+use borrow.Author.Needs.{needs}
 use Rattle.path_builder.specs.Builder.{built}
 use Rattle.search_list.specs.State.{trues}
-use Rattle.search_list.proofs.Trails.{size-trues}
-use Rattle.search_bytes.proofs.Pushing.{Pushing, push-start, push-fits, push-more, push-end, ones-next}
+use Rattle.search_bytes.specs.Built.{Holds}
+use Rattle.search_bytes.proofs.Pushing.{ones-fits, ones-more}
 use Rattle.search_bytes.proofs.stack_bits.push_ones.Statement.{statement}
 use Rattle.search_bytes.proofs.stack_bits.push_ones.Tie as tie
 
-abbrev builder-of : ℕ → ℕ → PathBuilder
-builder-of n k = record { «in_use» = n; «bit_pos» = k }
+-- The call, from where the last byte is filled, and what it has then.
+abbrev start : tie.After-push-few2 → tie.Start
+start x = x .before .before .before .before .before
 
-abbrev Inv-loop : tie.InvT-loop
-Inv-loop store₀ ones in-use₀ bit-pos₀ left₀ store in-use bit-pos left =
-    let bits = built store₀ (builder-of in-use₀ bit-pos₀) in
-    Pushing store₀ (ones + length bits) (trues ones bits) store (builder-of in-use bit-pos) left (trues left)
+abbrev bits : tie.After-push-few2 → List Bool
+bits x = built (start x .args .store .now) (start x .args .builder)
 
-abbrev μ-loop : tie.MeasureT-loop
-μ-loop store₀ ones in-use₀ bit-pos₀ left₀ store in-use bit-pos left = left
+abbrev first : tie.After-push-few2 → ℕ
+first x = (start x .args .builder .«bit_pos» + 1) % 8
 
-loop-holds : tie.Need-loop-holds Inv-loop μ-loop
-loop-holds c = let a = c .before .args in push-start (a .store .now) (a .builder) (a .ones) (trues (a .ones)) (c .before .pre .0)
+few : (x : tie.After-push-few2) → first x ≤ start x .args .ones
+few x = omega (arith, x .before .before .before .if1 .left)
 
-next-run-requires : tie.Need-next-run-requires Inv-loop μ-loop
-next-run-requires c κs = c .loop-test .taken
+-- Where the whole bytes are pushed.
+abbrev filled : tie.After-push-bytes → tie.After-push-few2
+filled x = x .before .before .before .before
 
-push-run-requires : tie.Need-push-run-requires Inv-loop μ-loop
-push-run-requires c κs =
-    let m = c .before .before .before .loop .inv in
-    (m .sound, push-fits m (c .before .next-run .ensures .1) (c .before .before .before .before .before .pre .1))
+abbrev full : tie.After-push-few2 → ℕ
+full x = 8 * ((start x .args .ones - first x) / 8)
 
-sub-left : tie.Need-sub-left Inv-loop μ-loop
-sub-left c = omega (arith, c .before .before .before .before .next-run .ensures .1)
+whole : (x : tie.After-push-bytes) → Holds (x .push-bytes .last .0) (x .push-bytes .result) (trues (full (filled x) + first (filled x)) (bits (filled x)))
+whole x =
+    let f = filled x in
+    ones-more (bits f) (first f) (full f) (full f + first f) (f .push-few2 .ensures) (x .push-bytes .ensures) refl
 
-loop-less : tie.Need-loop-less Inv-loop μ-loop
-loop-less c = omega (arith, c .before .before .before .before .next-run .ensures .0, c .before .before .before .before .before .loop-test .taken)
+push-few-requires : tie.Need-push-few-requires
+push-few-requires c κs = search needs
 
-loop-again : tie.Need-loop-again Inv-loop μ-loop
-loop-again c =
-    let p = c .before .before .push-run in
-    let r = c .before .before .before .before .next-run in
-    let l = c .before .before .before .before .before .before .loop in
-    push-more (l .inv) _ _ (p .ensures) (p .kept .0) (omega (arith, r .ensures .1, size-trues (r .result) (built (l .store) (builder-of (l .in-use) (l .bit-pos)))))
-    (ones-next (l .left) (r .result) (built (l .store) (builder-of (l .in-use) (l .bit-pos))) (r .ensures .1))
+same-length : tie.Need-same-length
+same-length c = search needs
 
-same-length : tie.Need-same-length Inv-loop μ-loop
-same-length c = c .before .loop .inv .len
+returns : tie.Need-returns
+returns c = search needs
 
-returns : tie.Need-returns Inv-loop μ-loop
-returns c =
-    let l = c .before .loop in
-    let e : l .left ≡ 0 = omega (arith, c .loop-test .left) in
-    push-end (l .inv) (ap (λ (n : ℕ). trues n (built (l .store) (builder-of (l .in-use) (l .bit-pos)))) e)
+add-first : tie.Need-add-first
+add-first c = search needs
+
+cast-first : tie.Need-cast-first
+cast-first c = search needs
+
+push-few-requires-2 : tie.Need-push-few-requires-2
+push-few-requires-2 c κs = search needs
+
+sub-rest : tie.Need-sub-rest
+sub-rest c = search needs
+
+push-bytes-requires : tie.Need-push-bytes-requires
+push-bytes-requires c κs =
+    let x = c .before .before .before in
+    let s = start x in
+    let f = x .push-few2 in (
+      f .ensures .sound,
+      ones-fits (s .args .store .now) (f .last .0) (f .result) (bits x) (first x) (full x) (s .args .ones) (s .pre .1) (f .kept .0) (f .ensures) (omega (arith, few x)),
+    )
+
+push-few-requires-3 : tie.Need-push-few-requires-3
+push-few-requires-3 c κs =
+    let w = c .before .before .before in
+    let x = filled w in
+    let s = start x in
+    let b = w .push-bytes in (
+      b .ensures .sound,
+      ones-fits (s .args .store .now) (b .last .0) (b .result) (bits x) (full x + first x) ((s .args .ones - first x) % 8) (s .args .ones) (s .pre .1)
+          (b .kept .0 ∙ x .push-few2 .kept .0) (whole w) (omega (arith, few x)),
+    )
+
+same-length-2 : tie.Need-same-length-2
+same-length-2 c = search needs
+
+returns-2 : tie.Need-returns-2
+returns-2 c =
+    let w = c .before .before .before .before .before .before in
+    let x = filled w in
+    let n = start x .args .ones in
+    ones-more (bits x) (full x + first x) ((n - first x) % 8) n (whole w) (c .before .before .push-few3 .ensures) (omega (arith, few x))
 
 pub push-ones-spec : {M : Type 1} → statement M
 push-ones-spec =
     tie.close
     (tie.spec
-    Inv-loop
-    μ-loop
-    loop-holds
-    next-run-requires
-    push-run-requires
-    sub-left
-    loop-less
-    loop-again
+    push-few-requires
     same-length
-    returns)
+    returns
+    add-first
+    cast-first
+    push-few-requires-2
+    sub-rest
+    push-bytes-requires
+    push-few-requires-3
+    same-length-2
+    returns-2)
