@@ -102,6 +102,22 @@ module _ (s : List ℕ) (p : PathBuilder) (e : p .«bit_pos» ≡ 7) where
   pub byte-done : (s′ : List ℕ) (p′ : PathBuilder) → Holds s′ p′ (trues 8 (built s begun)) → Holds s′ p′ (trues 8 (built s p))
   byte-done s′ p′ h = subst (λ (q : PathBuilder). Holds s′ p′ (trues 8 (built s q))) (sym same) h
 
+-- At most eight ones are bits of 0xff.
+pub few-ones : (n : ℕ) (bits : List Bool) → n ≤ 8 → with-number n 0xff bits ≡ trues n bits
+few-ones zero bits h = refl
+few-ones (suc zero) bits h = refl
+few-ones (suc (suc zero)) bits h = refl
+few-ones (suc (suc (suc zero))) bits h = refl
+few-ones (suc (suc (suc (suc zero)))) bits h = refl
+few-ones (suc (suc (suc (suc (suc zero))))) bits h = refl
+few-ones (suc (suc (suc (suc (suc (suc zero)))))) bits h = refl
+few-ones (suc (suc (suc (suc (suc (suc (suc zero))))))) bits h = refl
+few-ones (suc (suc (suc (suc (suc (suc (suc (suc zero)))))))) bits h = refl
+few-ones (suc (suc (suc (suc (suc (suc (suc (suc (suc n))))))))) bits h = absurd (omega arith)
+
+pub ones-hold : {s : List ℕ} {p : PathBuilder} (n : ℕ) (bits : List Bool) → n ≤ 8 → Holds s p (with-number n 0xff bits) → Holds s p (trues n bits)
+ones-hold {s} {p} n bits h g = subst (Holds s p) (few-ones n bits h) g
+
 -- After k ones there is room for m more.
 pub ones-fits : (s₀ s : List ℕ) (p : PathBuilder) (bits : List Bool) (k m n : ℕ) → Fits s₀ (n + length bits) → length s ≡ length s₀ → Holds s p (trues k bits) → m + k ≤ n
     → Fits s (m + length (built s p))

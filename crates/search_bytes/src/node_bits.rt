@@ -1,17 +1,15 @@
-// The bits of a node, pushed. A node has its latest bit and the node before it, and a builder gets the first bit first: so at most 64 bits become a
+// The bits of a node, pushed. A node has its latest bit and the node before it, and a builder gets the first bit first: so up to 64 bits become a
 // number, from which they are pushed.
-use path_builder::ChildPos;
+use crate::push_number::push_number;
 use path_builder::PathBuilder;
 use words::wide;
 ghost use mathlib.Core.Path.{_≡_};
 ghost use Prim.Native.Nat.{_+_, _≤_};
 ghost use lib.ListN.{length};
 ghost use Rattle.words.specs.Words.{at, WORK};
-ghost use Rattle.path.specs.Bytes.{odd};
-ghost use Rattle.path_builder.specs.Builder.{right, built, Sound};
 ghost use Rattle.work_layout.specs.Layout.{LENS};
 ghost use Rattle.search_list.specs.State.{node-bits, Chain};
-ghost use Rattle.search_bytes.specs.Built.{with-number, Taken, Holds, Fits};
+ghost use Rattle.search_bytes.specs.Built.{Taken, Holds, Fits};
 
 // The latest bits of a node as a number, the first of them lowest, and the node that has those before them.
 pub struct TakenBits {
@@ -38,34 +36,7 @@ fn take_bits(work: &[u32], a: usize, count: usize) -> TakenBits
     }
 }
 
-// The step of a number's lowest bit.
-fn lowest_step(number: u64) -> ChildPos
-    ensures { λ r. ⌜ right r ≡ odd number ⌝ }
-{
-    if number % 2 == 1 {
-        ChildPos::Right
-    } else {
-        ChildPos::Left
-    }
-}
-
-// So many bits of a number, the lowest first.
-fn push_number(store: &mut [u8], builder: PathBuilder, number: u64, count: usize) -> PathBuilder
-    requires { ⌜ (Sound (now store) builder) × (Fits (now store) (count + length (built (now store) builder))) ⌝ }
-    ensures { λ r. ⌜ Holds (now (store .exit)) r (with-number count number (built (now (store .entry)) builder)) ⌝ }
-{
-    let mut longer = builder;
-    let mut rest = number;
-    let mut left = count;
-    while 0 < left {
-        longer = longer.push(store, lowest_step(rest));
-        rest = rest / 2;
-        left -= 1;
-    }
-    longer
-}
-
-// The n bits of node a, those before the latest first.
+// The n bits of node a: those before the latest, which are a multiple of 64, and then the latest.
 fn push_long(work: &[u32], a: usize, n: usize, store: &mut [u8]) -> PathBuilder
     requires { ⌜ (WORK ≤ length (now work)) × (Chain (now work) a) × (n ≡ length (node-bits (now work) a)) × (Fits (now store) n) ⌝ }
     ensures { λ r. ⌜ Holds (now (store .exit)) r (node-bits (now (work .entry)) a) ⌝ }
@@ -79,7 +50,7 @@ fn push_long(work: &[u32], a: usize, n: usize, store: &mut [u8]) -> PathBuilder
     push_number(store, first, latest.number, count)
 }
 
-// The bits of node a. Few of them are pushed without a call, since most paths are short.
+// The bits of node a. Most paths are short: up to 64 bits go without the call of `push_long`.
 pub fn push_node(work: &[u32], a: usize, store: &mut [u8]) -> PathBuilder
     requires { ⌜ (WORK ≤ length (now work)) × (Chain (now work) a) × (at (now work) (LENS + a) ≡ length (node-bits (now work) a)) ⌝ }
     requires { ⌜ Fits (now store) (length (node-bits (now work) a)) ⌝ }

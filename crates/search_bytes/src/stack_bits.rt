@@ -1,4 +1,5 @@
 // The bits of the stack, pushed: a 0, and then each a 1.
+use crate::push_number::push_number;
 use path_builder::ChildPos;
 use path_builder::PathBuilder;
 ghost use Prim.Native.Nat.{_+_, _*_};
@@ -7,19 +8,8 @@ ghost use Rattle.path_builder.specs.Builder.{built, Sound};
 ghost use Rattle.search_list.specs.State.{trues};
 ghost use Rattle.search_bytes.specs.Built.{with-stack, Holds, Fits};
 
-// So many ones.
-fn push_few(store: &mut [u8], builder: PathBuilder, ones: usize) -> PathBuilder
-    requires { ⌜ (Sound (now store) builder) × (Fits (now store) (ones + length (built (now store) builder))) ⌝ }
-    ensures { λ r. ⌜ Holds (now (store .exit)) r (trues ones (built (now (store .entry)) builder)) ⌝ }
-{
-    let mut longer = builder;
-    let mut left = ones;
-    while 0 < left {
-        longer = longer.push(store, ChildPos::Right);
-        left -= 1;
-    }
-    longer
-}
+// A byte of ones.
+const ONES: u64 = 0xff;
 
 // Eight ones. Where they begin a byte, the compiler makes one store of them.
 fn push_eight(store: &mut [u8], builder: PathBuilder) -> PathBuilder
@@ -28,16 +18,13 @@ fn push_eight(store: &mut [u8], builder: PathBuilder) -> PathBuilder
 {
     let in_use = builder.in_use;
     if builder.bit_pos == 7 {
-        return push_few(
-            store,
-            PathBuilder {
-                in_use: in_use,
-                bit_pos: 7,
-            },
-            8,
-        );
+        let begun = PathBuilder {
+            in_use: in_use,
+            bit_pos: 7,
+        };
+        return push_number(store, begun, ONES, 8);
     }
-    push_few(store, builder, 8)
+    push_number(store, builder, ONES, 8)
 }
 
 // Eight times so many ones.
@@ -45,25 +32,13 @@ fn push_bytes(store: &mut [u8], builder: PathBuilder, bytes: usize) -> PathBuild
     requires { ⌜ (Sound (now store) builder) × (Fits (now store) (8 * bytes + length (built (now store) builder))) ⌝ }
     ensures { λ r. ⌜ Holds (now (store .exit)) r (trues (8 * bytes) (built (now (store .entry)) builder)) ⌝ }
 {
-    let mut in_use = builder.in_use;
-    let mut bit_pos = builder.bit_pos;
+    let mut longer = builder;
     let mut left = bytes;
     while 0 < left {
-        let longer = push_eight(
-            store,
-            PathBuilder {
-                in_use: in_use,
-                bit_pos: bit_pos,
-            },
-        );
-        in_use = longer.in_use;
-        bit_pos = longer.bit_pos;
+        longer = push_eight(store, longer);
         left -= 1;
     }
-    PathBuilder {
-        in_use: in_use,
-        bit_pos: bit_pos,
-    }
+    longer
 }
 
 // So many ones: those that fill the last byte, those of whole bytes, and the rest.
@@ -72,13 +47,13 @@ fn push_ones(store: &mut [u8], builder: PathBuilder, ones: usize) -> PathBuilder
     ensures { λ r. ⌜ Holds (now (store .exit)) r (trues ones (built (now (store .entry)) builder)) ⌝ }
 {
     if ones < 8 {
-        return push_few(store, builder, ones);
+        return push_number(store, builder, ONES, ones);
     }
     let first = ((builder.bit_pos + 1) % 8) as usize;
-    let filled = push_few(store, builder, first);
+    let filled = push_number(store, builder, ONES, first);
     let rest = ones - first;
     let whole = push_bytes(store, filled, rest / 8);
-    push_few(store, whole, rest % 8)
+    push_number(store, whole, ONES, rest % 8)
 }
 
 // The bits of the stack, of which there are x.

@@ -14,7 +14,7 @@ use Rattle.search_bytes.proofs.node_bits.push_long.Reads as push-long
 use Rattle.search_bytes.proofs.node_bits.push_long.Kinds as push-long-kinds
 use Rattle.search_bytes.proofs.node_bits.+push_long.Lts-push_long as lts
 use Rattle.path_builder.proofs.PathBuilder.new.Reads as new-reads
-use Rattle.search_bytes.proofs.node_bits.push_number.Reads as push-number-reads
+use Rattle.search_bytes.proofs.push_number.push_number.Reads as push-number-reads
 use Rattle.search_bytes.proofs.node_bits.take_bits.Reads as take-bits-reads
 use Rattle.search_bytes.proofs.node_bits.+push_long.{statement}
 use Rattle.search_bytes.proofs.node_bits.+push_long.Tie.{close}

@@ -1,4 +1,4 @@
--- `search_bytes::node_bits::push_number` meets its contract. The loop's invariant: with the bits that are left, the builder holds what it is to hold.
+-- `search_bytes::push_number::push_number` meets its contract. The loop's invariant: with the bits that are left, the builder holds what it is to hold.
 -- Assumes nothing.
 use Prim.Native.Nat.{ℕ, _+_}
 use mathlib.Core.Path.{_≡_, ap}
@@ -8,8 +8,8 @@ use borrow.Author.Needs.{needs}
 use Rattle.path_builder.specs.Builder.{built}
 use Rattle.search_bytes.specs.Built.{with-number}
 use Rattle.search_bytes.proofs.Pushing.{Pushing, one-holds, push-start, push-room, push-more, push-end, number-next}
-use Rattle.search_bytes.proofs.node_bits.push_number.Statement.{statement}
-use Rattle.search_bytes.proofs.node_bits.push_number.Tie as tie
+use Rattle.search_bytes.proofs.push_number.push_number.Statement.{statement}
+use Rattle.search_bytes.proofs.push_number.push_number.Tie as tie
 
 abbrev Inv-loop : tie.InvT-loop
 Inv-loop store₀ number count longer₀ rest₀ left₀ store longer rest left =

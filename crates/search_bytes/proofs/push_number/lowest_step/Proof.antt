@@ -1,9 +1,9 @@
--- `search_bytes::node_bits::lowest_step` meets its contract: an odd number's is to the right.
+-- `search_bytes::push_number::lowest_step` meets its contract: an odd number's is to the right.
 -- Assumes nothing.
 use mathlib.Core.Path.{sym}
 use borrow.Author.Tests.{eq-eqb, ne-eqb}
-use Rattle.search_bytes.proofs.node_bits.lowest_step.Statement.{statement}
-use Rattle.search_bytes.proofs.node_bits.lowest_step.Tie as tie
+use Rattle.search_bytes.proofs.push_number.lowest_step.Statement.{statement}
+use Rattle.search_bytes.proofs.push_number.lowest_step.Tie as tie
 
 returns : tie.Need-returns
 returns c = sym (eq-eqb _ 1 (c .if1 .taken))
