@@ -23,25 +23,14 @@ map-adjust f g e [] = refl
 map-adjust f g zero (x ∷ xs) = refl
 map-adjust f g (suc e) (x ∷ xs) = ap {B = List Entry} (λ r. entry-of f x ∷ r) (map-adjust f g e xs)
 
-pub length-adjust : (g : List (ℕ × Bool) → List (ℕ × Bool)) (e : ℕ) (xs : List Row) → length (adjust-row e g xs) ≡ length xs
-length-adjust g e [] = refl
-length-adjust g zero (x ∷ xs) = refl
-length-adjust g (suc e) (x ∷ xs) = ap suc (length-adjust g e xs)
-
 -- A change of parents keeps the keys.
-pub left-adjust : (g : List (ℕ × Bool) → List (ℕ × Bool)) (e k : ℕ) (xs : List Row) → getD (adjust-row e g xs) k no-row .left ≡ getD xs k no-row .left
-left-adjust g e k [] = refl
-left-adjust g zero zero (x ∷ xs) = refl
-left-adjust g zero (suc k) (x ∷ xs) = refl
-left-adjust g (suc e) zero (x ∷ xs) = refl
-left-adjust g (suc e) (suc k) (x ∷ xs) = left-adjust g e k xs
-
-pub right-adjust : (g : List (ℕ × Bool) → List (ℕ × Bool)) (e k : ℕ) (xs : List Row) → getD (adjust-row e g xs) k no-row .right ≡ getD xs k no-row .right
-right-adjust g e k [] = refl
-right-adjust g zero zero (x ∷ xs) = refl
-right-adjust g zero (suc k) (x ∷ xs) = refl
-right-adjust g (suc e) zero (x ∷ xs) = refl
-right-adjust g (suc e) (suc k) (x ∷ xs) = right-adjust g e k xs
+pub key-adjust : (g : List (ℕ × Bool) → List (ℕ × Bool)) (e k : ℕ) (xs : List Row)
+    → (getD (adjust-row e g xs) k no-row .left ≡ getD xs k no-row .left) × (getD (adjust-row e g xs) k no-row .right ≡ getD xs k no-row .right)
+key-adjust g e k [] = (refl, refl)
+key-adjust g zero zero (x ∷ xs) = (refl, refl)
+key-adjust g zero (suc k) (x ∷ xs) = (refl, refl)
+key-adjust g (suc e) zero (x ∷ xs) = (refl, refl)
+key-adjust g (suc e) (suc k) (x ∷ xs) = key-adjust g e k xs
 
 length-at-map : (f : File) (xs : List Row) (e : ℕ) → length-at e (map (entry-of f) xs) ≡ getD xs e no-row .len
 length-at-map f [] e = refl

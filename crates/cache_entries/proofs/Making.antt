@@ -16,7 +16,7 @@ use Rattle.work_layout.specs.Rows.{Row, rows-of, new-row, adjust-row, Sound}
 use Rattle.cache_entries.specs.table.Contracts.{find-row, found-or-added, Interned}
 use Rattle.cache_entries.specs.Meaning.{key-of, entry-of, Tables, KeyOK, entry-or-none, Whole, Holds}
 use Rattle.cache_entries.specs.Contracts.{Action, Acts, Made}
-use Rattle.cache_entries.proofs.Lift.{no-row, map-adjust, left-adjust, right-adjust, length-rows, left-at, right-at, getD-end, getD-before}
+use Rattle.cache_entries.proofs.Lift.{no-row, map-adjust, key-adjust, length-rows, left-at, right-at, getD-end, getD-before}
 use Rattle.cache_entries.proofs.Frames.{handles-kept, key-kept}
 
 -- ---- when the words are whole again
@@ -46,9 +46,9 @@ module _ (w w′ : List ℕ) (wh : Whole w) (so : Sound w′) (same : (k : ℕ) 
         keys k h =
             let h′ : k < at w USED = omega arith in
             let a : at w′ (LEFT + k) ≡ at w (LEFT + k) =
-            left-at w′ (adjust-row e g (rows-of w)) k rows h ∙ left-adjust g e k (rows-of w) ∙ sym (left-at w (rows-of w) k refl h′) in
+            left-at w′ (adjust-row e g (rows-of w)) k rows h ∙ key-adjust g e k (rows-of w) .0 ∙ sym (left-at w (rows-of w) k refl h′) in
             let b : at w′ (RIGHT + k) ≡ at w (RIGHT + k) =
-            right-at w′ (adjust-row e g (rows-of w)) k rows h ∙ right-adjust g e k (rows-of w) ∙ sym (right-at w (rows-of w) k refl h′) in
+            right-at w′ (adjust-row e g (rows-of w)) k rows h ∙ key-adjust g e k (rows-of w) .1 ∙ sym (right-at w (rows-of w) k refl h′) in
             rw (a, b) (wh .keys k h′)
 
     pub adjusted-holds : (f : File) (c : Cache) → Tables f w → Holds f w c → Holds f w′ (with-entries (adjust e g (c .entries)) c)
