@@ -1,6 +1,7 @@
 -- What lies where in work: the offset of each region, and that no two regions meet.
 -- Assumes nothing.
 use Prim.Native.Nat.{ℕ, _+_, _≤_}
+use mathlib.Core.Path.{_≡_, refl}
 use mathlib.Core.List.{List, [], _∷_}
 use native.Mathlib.Omega.{arith}
 use Rattle.words.specs.Words.{WORK}
@@ -61,77 +62,81 @@ TOPS = 20485
 abbrev pub WRITTEN : ℕ
 WRITTEN = 23557
 
--- The parents that an update moves, while the added tree is entered.
+-- The parents that an update moves, while the added tree is entered, two to a word.
 abbrev pub MOVED : ℕ
 MOVED = 23653
 
 -- For each pair of the file one more than its entry, or 0.
 abbrev pub MAPS : ℕ
-MAPS = 23753
+MAPS = 23703
 
 -- One more than the sentinel's latest entry, or 0.
 abbrev pub SENTINEL-ENTRY : ℕ
-SENTINEL-ENTRY = 24777
+SENTINEL-ENTRY = 24727
 
 -- How many entries there are.
 abbrev pub USED : ℕ
-USED = 24778
+USED = 24728
 
 -- How many parents each entry has.
 abbrev pub COUNTS : ℕ
-COUNTS = 24779
+COUNTS = 24729
 
 -- The key of each entry, first word.
 abbrev pub LEFT : ℕ
-LEFT = 27851
+LEFT = 27801
 
 -- The key of each entry, second word.
 abbrev pub RIGHT : ℕ
-RIGHT = 30923
+RIGHT = 30873
 
 -- The length of each entry, low word.
 abbrev pub LOW : ℕ
-LOW = 33995
+LOW = 33945
 
 -- The length of each entry, high word.
 abbrev pub HIGH : ℕ
-HIGH = 37067
+HIGH = 37017
 
 -- One more than the entry before it in the same slot, or 0.
 abbrev pub NEXT : ℕ
-NEXT = 40139
+NEXT = 40089
 
 -- Entries by slot: one more than the last one of the slot, or 0.
 abbrev pub HEADS : ℕ
-HEADS = 43211
+HEADS = 43161
 
--- A row of 100 words for each entry: a parent's entry, doubled, and its position.
+-- The parents, two to a word: the first two of each entry, the next two of each, .., the last two of each.
 abbrev pub PARENTS : ℕ
-PARENTS = 47307
+PARENTS = 47257
 
 -- The search: a bit for each entry that is seen.
 abbrev pub SEEN : ℕ
-SEEN = 354507
+SEEN = 200857
 
 -- The search: for each node the node before it.
 abbrev pub PREVS : ℕ
-PREVS = 354603
+PREVS = 200953
 
 -- The search: for each node the entry visited, doubled, and the position bit.
 abbrev pub NODES : ℕ
-NODES = 355628
+NODES = 201978
 
 -- The search: the bits of each node.
 abbrev pub LENS : ℕ
-LENS = 356653
+LENS = 203003
 
 -- The search: three words for each path under way: node, place, extra.
 abbrev pub PATHS : ℕ
-PATHS = 357678
+PATHS = 204028
 
 -- Undo: sixteen copies of open pairs, stack and marks.
 abbrev pub COPIES : ℕ
-COPIES = 367677
+COPIES = 214027
+
+-- Not used, to the end of work.
+abbrev pub FREE : ℕ
+FREE = 346651
 
 -- The most entries, and the slots of their table.
 abbrev pub ENTRIES : ℕ
@@ -173,7 +178,7 @@ regions =
     record { offset = BELOW; size = 4097 } ∷
     record { offset = TOPS; size = 3072 } ∷
     record { offset = WRITTEN; size = 96 } ∷
-    record { offset = MOVED; size = MAX-PARENTS } ∷
+    record { offset = MOVED; size = 50 } ∷
     record { offset = MAPS; size = 1024 } ∷
     record { offset = SENTINEL-ENTRY; size = 1 } ∷
     record { offset = USED; size = 1 } ∷
@@ -184,7 +189,7 @@ regions =
     record { offset = HIGH; size = 3072 } ∷
     record { offset = NEXT; size = 3072 } ∷
     record { offset = HEADS; size = 4096 } ∷
-    record { offset = PARENTS; size = 307200 } ∷
+    record { offset = PARENTS; size = 153600 } ∷
     record { offset = SEEN; size = 96 } ∷
     record { offset = PREVS; size = 1025 } ∷
     record { offset = NODES; size = 1025 } ∷
@@ -198,6 +203,10 @@ abbrev pub Apart : (from most : ℕ) → List Region → Type 0
 Apart from most [] = from ≤ most
 Apart from most (r ∷ rs) = (from ≤ r .offset) × Apart (r .offset + r .size) most rs
 
--- The regions are apart, and work of 524,288 words holds them all.
-pub regions-apart : Apart 0 WORK regions
+-- The regions are apart, and end where FREE begins.
+pub regions-apart : Apart 0 FREE regions
 regions-apart = omega arith
+
+-- So many words of work are not used.
+pub free-words : FREE + 177637 ≡ WORK
+free-words = refl

@@ -1,3 +1,5 @@
 pub mod Layout
+pub mod Halves
 pub mod Rows
+pub mod Parents
 pub mod Prev

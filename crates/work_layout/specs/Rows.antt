@@ -2,11 +2,12 @@
 use Prim.Native.Nat.{ℕ, zero, suc, _+_, _*_, _/_, _%_, _^_, _-_, _≤_, _<_}
 use mathlib.Core.Path.{_≡_}
 use mathlib.Core.Bool.{Bool, cond}
-use mathlib.Core.List.{List, [], _∷_, map}
+use mathlib.Core.List.{List, [], _∷_}
 use lib.Dec.{eqb}
 use lib.ListN.{length, take, drop}
-use Rattle.words.specs.Words.{at, part, tabulate, WORK}
-use Rattle.work_layout.specs.Layout.{ATOMS, TOPS, STACK, USED, COUNTS, LEFT, RIGHT, LOW, HIGH, NEXT, HEADS, PARENTS, ENTRIES, MAX-PARENTS, SLOTS, DEPTH}
+use Rattle.words.specs.Words.{at, tabulate, WORK}
+use Rattle.work_layout.specs.Layout.{ATOMS, TOPS, STACK, MOVED, USED, COUNTS, LEFT, RIGHT, LOW, HIGH, NEXT, HEADS, PARENTS, ENTRIES, MAX-PARENTS, SLOTS, DEPTH}
+use Rattle.work_layout.specs.Halves.{half}
 
 -- ---- the file's listed atoms
 
@@ -23,13 +24,26 @@ atom-bytes file w i = take (end-of w i - start-of w i) (drop (start-of w i) file
 
 -- ---- entries
 
+-- Parent i of entry e as a number: the parent's entry, doubled, and 1 more for the right position below it. It takes 16 bits, those of an odd i in the
+-- high half of its word.
+unfoldable pub link-at : List ℕ → (e i : ℕ) → ℕ
+link-at w e i = half (i % 2) (at w (PARENTS + i / 2 * ENTRIES + e))
+
 -- A parent's entry, and the position below it: false left, true right.
 abbrev pub parent-of : ℕ → ℕ × Bool
 parent-of v = (v / 2, eqb (v % 2) 1)
 
 -- The parents of entry e.
 unfoldable pub parents-of : List ℕ → ℕ → List (ℕ × Bool)
-parents-of w e = map parent-of (part w (PARENTS + e * MAX-PARENTS) (at w (COUNTS + e)))
+parents-of w e = tabulate (at w (COUNTS + e)) (λ i. parent-of (link-at w e i))
+
+-- Parent i of those that an update moves, as such a number.
+unfoldable pub moved-at : List ℕ → ℕ → ℕ
+moved-at w i = half (i % 2) (at w (MOVED + i / 2))
+
+-- The first n of them.
+unfoldable pub moved-of : List ℕ → ℕ → List (ℕ × Bool)
+moved-of w n = tabulate n (λ i. parent-of (moved-at w i))
 
 -- The length of entry e, in two words.
 abbrev pub length-of : List ℕ → ℕ → ℕ
@@ -90,7 +104,7 @@ pub record Sound (w : List ℕ) : Type 0 where
   pub used : at w USED ≤ ENTRIES
   pub counts : (e : ℕ) → e < ENTRIES → at w (COUNTS + e) ≤ MAX-PARENTS
   pub unused : (e : ℕ) → at w USED ≤ e → e < ENTRIES → at w (COUNTS + e) ≡ 0
-  pub links : (e i : ℕ) → e < ENTRIES → i < at w (COUNTS + e) → at w (PARENTS + e * MAX-PARENTS + i) < 2 * at w USED
+  pub links : (e i : ℕ) → e < ENTRIES → i < at w (COUNTS + e) → link-at w e i < 2 * at w USED
   pub chained : Chained w
   pub distinct : Distinct w
 

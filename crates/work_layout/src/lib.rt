@@ -1,5 +1,6 @@
 // What lies where in work, 524,288 words: the offset of each region. The sizes stand in specs/Layout.antt, with the proof that no two
 // regions meet.
+pub mod halves;
 pub mod parents;
 
 // Two words for each listed atom of the file: where its bytes start and end: 2,048 words.
@@ -44,59 +45,62 @@ pub const TOPS: usize = 20485;
 // A bit for each entry that is marked written: 96 words.
 pub const WRITTEN: usize = 23557;
 
-// The parents that an update moves, while the added tree is entered: 100 words.
+// The parents that an update moves, while the added tree is entered, two to a word: 50 words.
 pub const MOVED: usize = 23653;
 
 // For each pair of the file one more than its entry, or 0: 1,024 words.
-pub const MAPS: usize = 23753;
+pub const MAPS: usize = 23703;
 
 // One more than the sentinel's latest entry, or 0: 1 word.
-pub const SENTINEL_ENTRY: usize = 24777;
+pub const SENTINEL_ENTRY: usize = 24727;
 
 // How many entries there are: 1 word.
-pub const USED: usize = 24778;
+pub const USED: usize = 24728;
 
 // How many parents each entry has: 3,072 words.
-pub const COUNTS: usize = 24779;
+pub const COUNTS: usize = 24729;
 
 // The key of each entry, first word: 3,072 words.
-pub const LEFT: usize = 27851;
+pub const LEFT: usize = 27801;
 
 // The key of each entry, second word: 3,072 words.
-pub const RIGHT: usize = 30923;
+pub const RIGHT: usize = 30873;
 
 // The length of each entry, low word: 3,072 words.
-pub const LOW: usize = 33995;
+pub const LOW: usize = 33945;
 
 // The length of each entry, high word: 3,072 words.
-pub const HIGH: usize = 37067;
+pub const HIGH: usize = 37017;
 
 // One more than the entry before it in the same slot, or 0: 3,072 words.
-pub const NEXT: usize = 40139;
+pub const NEXT: usize = 40089;
 
 // Entries by slot: one more than the last one of the slot, or 0: 4,096 words.
-pub const HEADS: usize = 43211;
+pub const HEADS: usize = 43161;
 
-// A row of 100 words for each entry: a parent's entry, doubled, and its position: 307,200 words.
-pub const PARENTS: usize = 47307;
+// The parents, two to a word: the first two of each entry, the next two of each, .., the last two of each: 153,600 words.
+pub const PARENTS: usize = 47257;
 
 // The search: a bit for each entry that is seen: 96 words.
-pub const SEEN: usize = 354507;
+pub const SEEN: usize = 200857;
 
 // The search: for each node the node before it: 1,025 words.
-pub const PREVS: usize = 354603;
+pub const PREVS: usize = 200953;
 
 // The search: for each node the entry visited, doubled, and the position bit: 1,025 words.
-pub const NODES: usize = 355628;
+pub const NODES: usize = 201978;
 
 // The search: the bits of each node: 1,025 words.
-pub const LENS: usize = 356653;
+pub const LENS: usize = 203003;
 
 // The search: three words for each path under way: node, place, extra: 9,999 words.
-pub const PATHS: usize = 357678;
+pub const PATHS: usize = 204028;
 
 // Undo: sixteen copies of open pairs, stack and marks: 132,624 words.
-pub const COPIES: usize = 367677;
+pub const COPIES: usize = 214027;
+
+// Not used, to the end of work: 177,637 words.
+pub const FREE: usize = 346651;
 
 // An entry of the tree cache, by its number. A handle (NodePtr) and an entry number never stand for each other.
 pub struct EntryIndex(pub u32);

@@ -1,14 +1,18 @@
 // The parents of the entries of the tree cache, in work: how many an entry has, and each.
 use crate::COUNTS;
+use crate::ENTRIES;
 use crate::EntryIndex;
-use crate::MAX_PARENTS;
+use crate::MOVED;
 use crate::PARENTS;
+use crate::halves;
 ghost use mathlib.Core.Path.{_≡_};
 ghost use mathlib.Core.Bool.{cond};
 ghost use Prim.Native.Nat.{_+_, _*_, _/_, _≤_, _<_};
 ghost use lib.ListN.{length};
 ghost use Rattle.words.specs.Words.{at, WORK};
-ghost use Rattle.work_layout.specs.Layout.{ENTRIES, COUNTS, PARENTS, MAX-PARENTS};
+ghost use Rattle.work_layout.specs.Layout.{ENTRIES, COUNTS, MAX-PARENTS};
+ghost use Rattle.work_layout.specs.Rows.{link-at, moved-at};
+ghost use Rattle.work_layout.specs.Parents.{ParentSet, MovedSet};
 
 // A parent: its entry, doubled, and 1 more for the right position below it.
 pub struct Parent(pub u32);
@@ -48,7 +52,33 @@ pub fn count_of(work: &[u32], e: EntryIndex) -> usize
 // Parent i of entry e.
 pub fn parent_at(work: &[u32], e: EntryIndex, i: usize) -> Parent
     requires { ⌜ (WORK ≤ length (now work)) × (e .0 < ENTRIES) × (i < MAX-PARENTS) ⌝ }
-    ensures { λ p. ⌜ p .0 ≡ at (now (work .entry)) (PARENTS + e .0 * MAX-PARENTS + i) ⌝ }
+    ensures { λ p. ⌜ p .0 ≡ link-at (now (work .entry)) (e .0) i ⌝ }
 {
-    Parent(work[PARENTS + e.0 as usize * MAX_PARENTS + i])
+    let k = PARENTS + i / 2 * ENTRIES + e.0 as usize;
+    Parent(halves::half_at(work, k, i % 2))
+}
+
+// Parent i of entry e is p.
+pub fn set_parent(work: &mut [u32], e: EntryIndex, i: usize, p: Parent)
+    requires { ⌜ (WORK ≤ length (now work)) × (e .0 < ENTRIES) × (i < MAX-PARENTS) × (p .0 < 2 * ENTRIES) ⌝ }
+    ensures { λ _. ⌜ ParentSet (now (work .entry)) (now (work .exit)) (e .0) i (p .0) ⌝ }
+{
+    let k = PARENTS + i / 2 * ENTRIES + e.0 as usize;
+    halves::set_half(work, k, i % 2, p.0);
+}
+
+// Parent i of those that an update moves.
+pub fn moved_at(work: &[u32], i: usize) -> Parent
+    requires { ⌜ (WORK ≤ length (now work)) × (i < MAX-PARENTS) ⌝ }
+    ensures { λ p. ⌜ p .0 ≡ moved-at (now (work .entry)) i ⌝ }
+{
+    Parent(halves::half_at(work, MOVED + i / 2, i % 2))
+}
+
+// Parent i of those that an update moves is p.
+pub fn set_moved(work: &mut [u32], i: usize, p: Parent)
+    requires { ⌜ (WORK ≤ length (now work)) × (i < MAX-PARENTS) × (p .0 < 2 * ENTRIES) ⌝ }
+    ensures { λ _. ⌜ MovedSet (now (work .entry)) (now (work .exit)) i (p .0) ⌝ }
+{
+    halves::set_half(work, MOVED + i / 2, i % 2, p.0);
 }

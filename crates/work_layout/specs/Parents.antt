@@ -1,0 +1,47 @@
+-- What writing one parent leaves: its number, and no other changed.
+-- Assumes nothing.
+use Prim.Native.Nat.{ℕ, _+_, _*_, _/_, _%_, _≤_, _<_}
+use mathlib.Core.Path.{_≡_, ap, _∙_}
+use mathlib.Core.List.{List}
+use native.Mathlib.Omega.{arith}
+use lib.ListN.{length}
+use Rattle.words.specs.Words.{at}
+use Rattle.work_layout.specs.Layout.{MOVED, MAPS, PARENTS, SEEN, ENTRIES, MAX-PARENTS}
+use Rattle.work_layout.specs.Halves.{half, HalfSet}
+use Rattle.work_layout.specs.Rows.{link-at, moved-at}
+
+-- Parent i of entry e is v. No other parent of any entry changes, and no word but those of the parents.
+pub record ParentSet (w w′ : List ℕ) (e i v : ℕ) : Type 0 where
+  pub len : length w′ ≡ length w
+  pub here : link-at w′ e i ≡ v
+  pub others : (d j : ℕ) → d < ENTRIES → (d ≡ e → j ≡ i → ⊥) → link-at w′ d j ≡ link-at w d j
+  pub low : (k : ℕ) → k < PARENTS → at w′ k ≡ at w k
+  pub high : (k : ℕ) → SEEN ≤ k → at w′ k ≡ at w k
+
+pub parent-set : (w w′ : List ℕ) (e i v : ℕ) → e < ENTRIES → i < MAX-PARENTS → HalfSet w w′ (PARENTS + i / 2 * ENTRIES + e) (i % 2) v → ParentSet w w′ e i v
+unfolding link-at
+parent-set w w′ e i v h l s = record {
+  len = s .len;
+  here = s .here;
+  others = λ d j q n. s .others (PARENTS + j / 2 * ENTRIES + d) (j % 2) (omega arith) (λ a b. n (omega arith) (omega arith));
+  low = λ k q. s .words k (omega arith);
+  high = λ k q. s .words k (omega arith);
+}
+
+-- Parent i of those that an update moves is v. No other of them changes, and no word but theirs.
+pub record MovedSet (w w′ : List ℕ) (i v : ℕ) : Type 0 where
+  pub len : length w′ ≡ length w
+  pub here : moved-at w′ i ≡ v
+  pub others : (j : ℕ) → (j ≡ i → ⊥) → moved-at w′ j ≡ moved-at w j
+  pub low : (k : ℕ) → k < MOVED → at w′ k ≡ at w k
+  pub high : (k : ℕ) → MAPS ≤ k → at w′ k ≡ at w k
+
+pub moved-set : (w w′ : List ℕ) (i v : ℕ) → i < MAX-PARENTS → HalfSet w w′ (MOVED + i / 2) (i % 2) v → MovedSet w w′ i v
+unfolding moved-at
+moved-set w w′ i v l s = record {
+  len = s .len;
+  here = s .here;
+  others = λ j n. s .others (MOVED + j / 2) (j % 2) (omega arith) (λ a b. n (omega arith));
+  low = λ k q. s .words k (omega arith);
+  high = λ k q. s .words k (omega arith);
+}
