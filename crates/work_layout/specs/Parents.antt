@@ -1,7 +1,7 @@
 -- What writing one parent leaves: its number, and no other changed.
 -- Assumes nothing.
 use Prim.Native.Nat.{ℕ, _+_, _*_, _/_, _%_, _≤_, _<_}
-use mathlib.Core.Path.{_≡_, ap, _∙_}
+use mathlib.Core.Path.{_≡_, ap}
 use mathlib.Core.List.{List}
 use native.Mathlib.Omega.{arith}
 use lib.ListN.{length}
@@ -9,6 +9,15 @@ use Rattle.words.specs.Words.{at}
 use Rattle.work_layout.specs.Layout.{MOVED, MAPS, PARENTS, SEEN, ENTRIES, MAX-PARENTS}
 use Rattle.work_layout.specs.Halves.{half, HalfSet}
 use Rattle.work_layout.specs.Rows.{link-at, moved-at}
+
+-- The parents rest on the words of their region, and those that an update moves on theirs.
+pub link-same : (w w′ : List ℕ) (e i : ℕ) → e < ENTRIES → i < MAX-PARENTS → ((k : ℕ) → PARENTS ≤ k → k < SEEN → at w′ k ≡ at w k) → link-at w′ e i ≡ link-at w e i
+unfolding link-at
+link-same w w′ e i h l same = ap (half (i % 2)) (same (PARENTS + i / 2 * ENTRIES + e) (omega arith) (omega arith))
+
+pub moved-same : (w w′ : List ℕ) (i : ℕ) → i < MAX-PARENTS → ((k : ℕ) → MOVED ≤ k → k < MAPS → at w′ k ≡ at w k) → moved-at w′ i ≡ moved-at w i
+unfolding moved-at
+moved-same w w′ i l same = ap (half (i % 2)) (same (MOVED + i / 2) (omega arith) (omega arith))
 
 -- Parent i of entry e is v. No other parent of any entry changes, and no word but those of the parents.
 pub record ParentSet (w w′ : List ℕ) (e i v : ℕ) : Type 0 where
