@@ -1,20 +1,24 @@
 -- The entries rest on the words from USED to SEEN alone.
 -- Assumes nothing.
-use Prim.Native.Nat.{ℕ, _+_, _*_, _≤_, _<_}
+use Prim.Native.Nat.{ℕ, _+_, _≤_, _<_}
 use mathlib.Core.Path.{_≡_, _∙_}
 use mathlib.Core.List.{List}
 use native.Mathlib.Omega.{arith}
 use lib.ListN.{length}
 use Rattle.words.specs.Words.{at}
 use Rattle.words.proofs.Words.{tabulate-same}
-use Rattle.work_layout.specs.Layout.{USED, COUNTS, LEFT, RIGHT, LOW, HIGH, PARENTS, SEEN, ENTRIES}
-use Rattle.work_layout.specs.Rows.{row-of, rows-of, Sound, all-counts}
+use Rattle.work_layout.specs.Layout.{USED, COUNTS, LEFT, RIGHT, LOW, HIGH, SEEN, ENTRIES, MAX-PARENTS}
+use Rattle.work_layout.specs.Rows.{link-at, row-of, rows-of, Sound, all-counts}
+use Rattle.work_layout.specs.Parents.{link-same}
 use Rattle.cache_entries.proofs.table.Rows.{row-same, counts-same}
 use Rattle.cache_entries.proofs.table.Chain.{chained-kept, distinct-kept}
 
 module _ (w w′ : List ℕ) (len : length w′ ≡ length w) (same : (k : ℕ) → USED ≤ k → k < SEEN → at w′ k ≡ at w k) (so : Sound w) where
   pub used-kept : at w′ USED ≡ at w USED
   used-kept = same USED (omega arith) (omega arith)
+
+  link-kept : (e i : ℕ) → e < ENTRIES → i < MAX-PARENTS → link-at w′ e i ≡ link-at w e i
+  link-kept e i h l = link-same w w′ e i h l (λ k a b. same k (omega arith) b)
 
   pub sound-kept : Sound w′
   sound-kept =
@@ -27,8 +31,7 @@ module _ (w w′ : List ℕ) (len : length w′ ≡ length w) (same : (k : ℕ) 
         links = λ e i h k.
             let c = same (COUNTS + e) (omega arith) (omega arith) in
             let d = so .counts e h in
-            let p = same (PARENTS + e * 100 + i) (omega arith) (omega arith) in
-            omega (arith, so .links e i h (omega arith));
+            omega (arith, link-kept e i h (omega arith), so .links e i h (omega arith));
         chained = chained-kept w w′ (λ k l m. same k (omega arith) (omega arith)) used-kept (so .used) (so .chained);
         distinct = distinct-kept w w′ (λ k l m. same k (omega arith) (omega arith)) used-kept (so .used) (so .distinct);
       }
@@ -40,9 +43,9 @@ module _ (w w′ : List ℕ) (len : length w′ ≡ length w) (same : (k : ℕ) 
       entry : (k : ℕ) → k < at w USED → row-of w′ k ≡ row-of w k
       entry k h =
           let u = so .used in
-          row-same w w′ k so len h (same (LEFT + k) (omega arith) (omega arith)) (same (RIGHT + k) (omega arith) (omega arith)) (same (LOW + k) (omega arith) (omega arith))
+          row-same w w′ k so h (same (LEFT + k) (omega arith) (omega arith)) (same (RIGHT + k) (omega arith) (omega arith)) (same (LOW + k) (omega arith) (omega arith))
           (same (HIGH + k) (omega arith) (omega arith)) (same (COUNTS + k) (omega arith) (omega arith))
-          (λ i q. same (PARENTS + k * 100 + i) (omega arith) (omega arith))
+          (λ i q. link-kept k i (omega arith) q)
 
   pub counts-kept : (n : ℕ) → n ≤ ENTRIES → all-counts w′ n ≡ all-counts w n
   counts-kept n h = counts-same w w′ n (λ k l. same (COUNTS + k) (omega arith) (omega arith))

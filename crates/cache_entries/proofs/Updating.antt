@@ -6,15 +6,16 @@ use mathlib.Core.List.{List, [], map}
 use mathlib.Core.Option.{Option, none, some}
 use native.Mathlib.Omega.{arith}
 use lib.ListN.{length}
-use Rattle.words.specs.Words.{at, part}
-use Rattle.words.proofs.Words.{part-same}
+use Rattle.words.specs.Words.{at, tabulate}
+use Rattle.words.proofs.Words.{tabulate-same}
 use Rattle.allocator.specs.Handle.{node-of}
 use Rattle.spec_session.specs.File.{File}
 use Rattle.spec_session.specs.Unfold.{unfolded}
 use Rattle.spec_session.specs.Cache.{Parent, Cache, parents-at, no-parents, move-parents, with-entries, sentinel-parents, clear-sentinel, place-root, enter, update}
 use Rattle.work_layout.specs.Layout.{ATOM-COUNT, PAIR-COUNT, MOVED, MAPS, SENTINEL-ENTRY, USED, ENTRIES}
-use Rattle.work_layout.specs.Rows.{parent-of}
-use Rattle.cache_entries.specs.table.Contracts.{moved-of, Taken, Placed, MovedLinks}
+use Rattle.work_layout.specs.Rows.{parent-of, moved-at, moved-of}
+use Rattle.work_layout.specs.Parents.{moved-same}
+use Rattle.cache_entries.specs.table.Contracts.{Taken, Placed, MovedLinks}
 use Rattle.cache_entries.specs.Meaning.{Tables, Names, entry-or-none, unmapped, Whole, Holds}
 use Rattle.cache_entries.specs.Contracts.{enter-action, Acts, span, Bounded, Entered, Room, Cleared, Updated}
 use Rattle.cache_entries.proofs.table.Rows.{word-some}
@@ -26,7 +27,7 @@ use Rattle.cache_entries.proofs.Entering.{names-span}
 -- ---- the sentinel's parents
 
 none-moved : (w : List ℕ) → moved-of w 0 ≡ []
-unfolding part
+unfolding moved-of tabulate
 none-moved w = refl
 
 -- There is no entry of the sentinel.
@@ -112,7 +113,7 @@ module _ {w w₁ : List ℕ} (h : ℕ) {n : ℕ} (wh : Whole w) (names : Names w
     place-asks i l =
         let k = c₁ .links i l in
         let f = c₁ .few in
-        let b = e₂ .outside .below (MOVED + i) (omega arith) in
+        let b = moved-same w₁ w₂ i (omega arith) (λ k a b. e₂ .outside .below k (omega arith)) in
         let u = c₁ .used in
         omega (arith, e₂ .more)
 
@@ -127,9 +128,11 @@ module _ {w w₁ : List ℕ} (h : ℕ) {n : ℕ} (wh : Whole w) (names : Names w
       below₃ k l = p .kept .low k (omega arith)
 
       still-moved : moved-of w₂ n ≡ moved-of w₁ n
+      unfolding moved-of
       still-moved =
           let f = c₁ .few in
-          ap (map parent-of) (part-same w₁ w₂ MOVED n (omega (arith, c₁ .whole .sound .long)) len (λ i l. e₂ .outside .below (MOVED + i) (omega arith)))
+          tabulate-same n (λ i. parent-of (moved-at w₁ i)) (λ i. parent-of (moved-at w₂ i))
+          (λ i l. ap parent-of (moved-same w₁ w₂ i (omega arith) (λ k a b. e₂ .outside .below k (omega arith))))
 
       bounded : Bounded w w₃ (at w PAIR-COUNT)
       bounded =

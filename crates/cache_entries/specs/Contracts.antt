@@ -10,8 +10,7 @@ use Rattle.spec_session.specs.File.{File}
 use Rattle.spec_session.specs.Unfold.{unfolded}
 use Rattle.spec_session.specs.Cache.{Cache, atom-key, pair-key, pair-length, length-at, find-or-add, meet-sentinel, join-pair, enter, update, with-entries, clear-sentinel, sentinel-parents}
 use Rattle.work_layout.specs.Layout.{PAIR-COUNT, MOVED, MAPS, USED, SEEN, ENTRIES, MAX-PARENTS}
-use Rattle.work_layout.specs.Rows.{all-counts}
-use Rattle.cache_entries.specs.table.Contracts.{moved-of}
+use Rattle.work_layout.specs.Rows.{moved-at, moved-of, all-counts}
 use Rattle.cache_entries.specs.Meaning.{bytes-named, Tables, FirstOf, Whole, Holds, unmapped}
 
 -- ---- atoms
@@ -124,7 +123,7 @@ pub record Cleared (w w′ : List ℕ) (n : ℕ) : Type 0 where
   pub whole : Whole w′
   pub used : at w′ USED ≡ at w USED
   pub few : n ≤ MAX-PARENTS
-  pub links : (k : ℕ) → k < n → at w′ (MOVED + k) < 2 * at w USED
+  pub links : (k : ℕ) → k < n → moved-at w′ k < 2 * at w USED
   pub counts : all-counts w′ ENTRIES + n ≡ all-counts w ENTRIES
   pub maps : (k : ℕ) → k < 1024 → at w′ (MAPS + k) ≡ at w (MAPS + k)
   pub below : (k : ℕ) → k < MOVED → at w′ k ≡ at w k

@@ -13,22 +13,22 @@ use lib.ListN.{length}
 use borrow.Author.Tests.{eq-eqb, eqb-true}
 use Rattle.words.specs.Choice.{clash}
 use Rattle.words.specs.Words.{at, tabulate}
-use Rattle.words.proofs.Words.{part-same, tabulate-same}
+use Rattle.words.proofs.Words.{tabulate-same}
 use Rattle.spec_session.specs.Cache.{later}
-use Rattle.work_layout.specs.Layout.{USED, COUNTS, LEFT, RIGHT, LOW, HIGH, PARENTS}
-use Rattle.work_layout.specs.Rows.{Sound, length-of, Row, parents-of, row-of, with-parents, adjust-row, all-counts}
+use Rattle.work_layout.specs.Layout.{USED, COUNTS, LEFT, RIGHT, LOW, HIGH, MAX-PARENTS}
+use Rattle.work_layout.specs.Rows.{Sound, length-of, Row, link-at, parent-of, parents-of, row-of, with-parents, adjust-row, all-counts}
 use Rattle.cache_entries.specs.Meaning.{entry-or-none}
 use Rattle.cache_entries.specs.table.Contracts.{find-row}
 
 -- An entry rests on its own words.
-pub row-same : (w w′ : List ℕ) (k : ℕ) → Sound w → length w′ ≡ length w → k < at w USED → at w′ (LEFT + k) ≡ at w (LEFT + k)
+pub row-same : (w w′ : List ℕ) (k : ℕ) → Sound w → k < at w USED → at w′ (LEFT + k) ≡ at w (LEFT + k)
     → at w′ (RIGHT + k) ≡ at w (RIGHT + k) → at w′ (LOW + k) ≡ at w (LOW + k) → at w′ (HIGH + k) ≡ at w (HIGH + k) → at w′ (COUNTS + k) ≡ at w (COUNTS + k)
-    → ((i : ℕ) → i < 100 → at w′ (PARENTS + k * 100 + i) ≡ at w (PARENTS + k * 100 + i)) → row-of w′ k ≡ row-of w k
+    → ((i : ℕ) → i < MAX-PARENTS → link-at w′ k i ≡ link-at w k i) → row-of w′ k ≡ row-of w k
 unfolding parents-of
-row-same w w′ k so len h a b l m c q =
+row-same w w′ k so h a b l m c q =
     let d = so .counts k (omega (arith, so .used)) in
-    let p = part-same w w′ (PARENTS + k * 100) (at w (COUNTS + k)) (omega (arith, so .used, so .long)) len (λ i z. q i (omega arith)) in
-    let ps : parents-of w′ k ≡ parents-of w k = rw (c, p) in
+    let ps : parents-of w′ k ≡ parents-of w k =
+    rw c (tabulate-same (at w (COUNTS + k)) (λ i. parent-of (link-at w k i)) (λ i. parent-of (link-at w′ k i)) (λ i z. ap parent-of (q i (omega arith)))) in
     λ i. record { left = a i; right = b i; parents = ps i; len = l i + 2 ^ 32 * m i }
 
 -- What `length_of` gives, at the place i of the entry e.

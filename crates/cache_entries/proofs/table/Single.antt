@@ -8,18 +8,20 @@ use native.Mathlib.Omega.{arith}
 use native.Mathlib.Decide.{ℕ-discrete}
 use lib.ListN.{length}
 use Rattle.words.specs.Words.{at, tabulate}
-use Rattle.work_layout.specs.Layout.{USED, COUNTS, LEFT, RIGHT, LOW, HIGH, PARENTS, SEEN, ENTRIES}
-use Rattle.work_layout.specs.Rows.{parents-of, row-of, rows-of, with-parents, adjust-row, length-of, Sound, all-counts}
+use Rattle.work_layout.specs.Layout.{USED, COUNTS, LEFT, RIGHT, LOW, HIGH, PARENTS, SEEN, ENTRIES, MAX-PARENTS}
+use Rattle.work_layout.specs.Rows.{link-at, parents-of, row-of, rows-of, with-parents, adjust-row, length-of, Sound, all-counts}
 use Rattle.cache_entries.specs.table.Contracts.{SameKeys}
 use Rattle.cache_entries.proofs.table.Rows.{row-same, adjust-tabulate, counts-but}
 use Rattle.cache_entries.proofs.table.Chain.{chained-kept, distinct-kept}
 
--- From USED on, w′ differs from w in the count and the row of entry e alone.
+-- From USED on, w′ differs from w in the count and the parents of entry e alone.
 pub record RowOnly (w w′ : List ℕ) (e : ℕ) : Type 0 where
   pub len : length w′ ≡ length w
-  pub same : (k : ℕ) → USED ≤ k → (k ≡ COUNTS + e → ⊥) → ((j : ℕ) → j < 100 → k ≡ PARENTS + e * 100 + j → ⊥) → at w′ k ≡ at w k
-  pub few : at w′ (COUNTS + e) ≤ 100
-  pub links : (i : ℕ) → i < at w′ (COUNTS + e) → at w′ (PARENTS + e * 100 + i) < 2 * at w USED
+  pub same : (k : ℕ) → USED ≤ k → k < PARENTS → (k ≡ COUNTS + e → ⊥) → at w′ k ≡ at w k
+  pub others : (d i : ℕ) → d < ENTRIES → i < MAX-PARENTS → (d ≡ e → ⊥) → link-at w′ d i ≡ link-at w d i
+  pub high : (k : ℕ) → SEEN ≤ k → at w′ k ≡ at w k
+  pub few : at w′ (COUNTS + e) ≤ MAX-PARENTS
+  pub links : (i : ℕ) → i < at w′ (COUNTS + e) → link-at w′ e i < 2 * at w USED
 
 module _ (w w′ : List ℕ) (e : ℕ) (s : Sound w) (h : e < at w USED) (r : RowOnly w w′ e) where
   e-low : e < ENTRIES
@@ -31,14 +33,8 @@ module _ (w w′ : List ℕ) (e : ℕ) (s : Sound w) (h : e < at w USED) (r : Ro
   count-same : (k : ℕ) → k < ENTRIES → (k ≡ e → ⊥) → at w′ (COUNTS + k) ≡ at w (COUNTS + k)
   count-same k l d = r .same (COUNTS + k) (omega arith) (omega arith) (omega arith)
 
-  link-same : (k i : ℕ) → i < 100 → (k ≡ e → ⊥) → at w′ (PARENTS + k * 100 + i) ≡ at w (PARENTS + k * 100 + i)
-  link-same k i l d = let z = e-low in r .same (PARENTS + k * 100 + i) (omega arith) (omega arith) (omega arith)
-
   key-same : (k : ℕ) → LEFT ≤ k → k < PARENTS → at w′ k ≡ at w k
-  key-same k a b = let z = e-low in r .same k (omega arith) (omega arith) (omega arith)
-
-  pub row-high : (k : ℕ) → SEEN ≤ k → at w′ k ≡ at w k
-  row-high k a = let z = e-low in r .same k (omega arith) (omega arith) (omega arith)
+  key-same k a b = let z = e-low in r .same k (omega arith) b (omega arith)
 
   pub row-keys : SameKeys w w′
   row-keys k l = let u = s .used in (key-same (LEFT + k) (omega arith) (omega arith), key-same (RIGHT + k) (omega arith) (omega arith))
@@ -46,8 +42,8 @@ module _ (w w′ : List ℕ) (e : ℕ) (s : Sound w) (h : e < at w USED) (r : Ro
   other-row : (k : ℕ) → k < at w USED → (k ≡ e → ⊥) → row-of w′ k ≡ row-of w k
   other-row k l d =
       let u = s .used in
-      row-same w w′ k s (r .len) l (key-same (LEFT + k) (omega arith) (omega arith)) (key-same (RIGHT + k) (omega arith) (omega arith))
-      (key-same (LOW + k) (omega arith) (omega arith)) (key-same (HIGH + k) (omega arith) (omega arith)) (count-same k (omega arith) d) (λ i m. link-same k i m d)
+      row-same w w′ k s l (key-same (LEFT + k) (omega arith) (omega arith)) (key-same (RIGHT + k) (omega arith) (omega arith))
+      (key-same (LOW + k) (omega arith) (omega arith)) (key-same (HIGH + k) (omega arith) (omega arith)) (count-same k (omega arith) d) (λ i m. r .others k i (omega arith) m d)
 
   pub row-sound : Sound w′
   row-sound =
@@ -62,16 +58,16 @@ module _ (w w′ : List ℕ) (e : ℕ) (s : Sound w) (h : e < at w USED) (r : Ro
         distinct = distinct-kept w w′ key-same u (s .used) (s .distinct);
       }
     where
-      counts : (k : ℕ) → k < ENTRIES → Dec (k ≡ e) → at w′ (COUNTS + k) ≤ 100
+      counts : (k : ℕ) → k < ENTRIES → Dec (k ≡ e) → at w′ (COUNTS + k) ≤ MAX-PARENTS
       counts k l (yes q) = rw q (r .few)
       counts k l (no q) = rw (count-same k l q) (s .counts k l)
 
-      links : (k i : ℕ) → k < ENTRIES → i < at w′ (COUNTS + k) → Dec (k ≡ e) → at w′ (PARENTS + k * 100 + i) < 2 * at w′ USED
+      links : (k i : ℕ) → k < ENTRIES → i < at w′ (COUNTS + k) → Dec (k ≡ e) → link-at w′ k i < 2 * at w′ USED
       links k i l m (yes q) = rw (q, row-used) (r .links i (rw q at m))
       links k i l m (no q) =
           let n : i < at w (COUNTS + k) = rw (count-same k l q) at m in
           let c = s .counts k l in
-          rw (link-same k i (omega arith) q, row-used) (s .links k i l n)
+          rw (r .others k i l (omega arith) q, row-used) (s .links k i l n)
 
   -- The entries are as they were but for the parents of entry e.
   pub row-rows : (f : List (ℕ × Bool) → List (ℕ × Bool)) → parents-of w′ e ≡ f (parents-of w e) → rows-of w′ ≡ adjust-row e f (rows-of w)

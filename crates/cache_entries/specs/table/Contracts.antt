@@ -2,14 +2,14 @@
 use Prim.Native.Nat.{ℕ, _+_, _*_, _≤_, _<_}
 use mathlib.Core.Path.{_≡_}
 use mathlib.Core.Bool.{Bool, cond, _&&_}
-use mathlib.Core.List.{List, [], _∷_, _++_, map}
+use mathlib.Core.List.{List, [], _∷_, _++_}
 use mathlib.Core.Option.{Option, none, some}
 use lib.Dec.{eqb}
 use lib.ListN.{length}
-use Rattle.words.specs.Words.{at, part}
+use Rattle.words.specs.Words.{at}
 use Rattle.spec_session.specs.Cache.{later, add-parent, move-parents, no-parents}
-use Rattle.work_layout.specs.Layout.{MOVED, USED, LEFT, RIGHT, SEEN, ENTRIES, MAX-PARENTS}
-use Rattle.work_layout.specs.Rows.{Row, rows-of, new-row, adjust-row, parent-of, parents-of, Sound, all-counts}
+use Rattle.work_layout.specs.Layout.{MOVED, MAPS, USED, LEFT, RIGHT, SEEN, ENTRIES, MAX-PARENTS}
+use Rattle.work_layout.specs.Rows.{Row, rows-of, new-row, adjust-row, parents-of, moved-at, moved-of, Sound, all-counts}
 use Rattle.cache_entries.specs.declared.table.Found.{Found}
 use Rattle.cache_entries.specs.declared.table.Found.the-variants.{At, Nothing}
 use Rattle.cache_entries.specs.declared.table.Key.{Key}
@@ -88,10 +88,6 @@ pub record ParentAdded (w w′ : List ℕ) (e parent : ℕ) (right : Bool) : Typ
   pub counts : all-counts w′ ENTRIES ≤ all-counts w ENTRIES + 1
   pub kept : Kept w w′
 
--- The n parents in MOVED.
-abbrev pub moved-of : List ℕ → ℕ → List (ℕ × Bool)
-moved-of w n = map parent-of (part w MOVED n)
-
 -- The n parents of entry e go to MOVED.
 pub record Taken (w w′ : List ℕ) (e n : ℕ) : Type 0 where
   pub sound : Sound w′
@@ -100,15 +96,15 @@ pub record Taken (w w′ : List ℕ) (e n : ℕ) : Type 0 where
   pub rows : rows-of w′ ≡ adjust-row e no-parents (rows-of w)
   pub keys : SameKeys w w′
   pub moved : moved-of w′ n ≡ parents-of w e
-  pub links : (i : ℕ) → i < n → at w′ (MOVED + i) < 2 * at w USED
+  pub links : (i : ℕ) → i < n → moved-at w′ i < 2 * at w USED
   pub counts : all-counts w′ ENTRIES + n ≡ all-counts w ENTRIES
   pub low : (k : ℕ) → k < MOVED → at w′ k ≡ at w k
-  pub maps : (k : ℕ) → MOVED + MAX-PARENTS ≤ k → k < USED → at w′ k ≡ at w k
+  pub maps : (k : ℕ) → MAPS ≤ k → k < USED → at w′ k ≡ at w k
   pub high : (k : ℕ) → SEEN ≤ k → at w′ k ≡ at w k
 
 -- The n parents in MOVED are entries.
 abbrev pub MovedLinks : List ℕ → ℕ → Type 0
-MovedLinks w n = (i : ℕ) → i < n → at w (MOVED + i) < 2 * at w USED
+MovedLinks w n = (i : ℕ) → i < n → moved-at w i < 2 * at w USED
 
 -- The n parents in MOVED go to the end of those of entry e.
 pub record Placed (w w′ : List ℕ) (e n : ℕ) : Type 0 where

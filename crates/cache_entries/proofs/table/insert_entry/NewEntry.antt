@@ -13,11 +13,12 @@ use lib.Dec.{eqb}
 use lib.ListN.{length}
 use borrow.Author.Tests.{eq-eqb, ne-eqb}
 use Rattle.words.specs.Choice.{clash}
-use Rattle.words.specs.Words.{at, part, tabulate}
+use Rattle.words.specs.Words.{at, tabulate}
 use Rattle.words.proofs.Words.{Store, stores, Misses, miss, hits, length-stores, tabulate-more}
 use Rattle.spec_session.specs.Cache.{later}
-use Rattle.work_layout.specs.Layout.{USED, COUNTS, LEFT, RIGHT, LOW, HIGH, NEXT, HEADS, PARENTS, SLOTS, ENTRIES}
-use Rattle.work_layout.specs.Rows.{Row, parents-of, row-of, rows-of, new-row, length-of, slot-of, slot-at, prev, Chained, Distinct, Sound}
+use Rattle.work_layout.specs.Layout.{USED, COUNTS, LEFT, RIGHT, LOW, HIGH, NEXT, HEADS, SLOTS, ENTRIES, MAX-PARENTS}
+use Rattle.work_layout.specs.Parents.{link-same}
+use Rattle.work_layout.specs.Rows.{Row, link-at, parents-of, row-of, rows-of, new-row, length-of, slot-of, slot-at, prev, Chained, Distinct, Sound}
 use Rattle.work_layout.specs.Prev.{prev-same}
 use Rattle.cache_entries.specs.table.Contracts.{find-row, Inserted}
 use Rattle.cache_entries.proofs.table.Rows.{row-same, counts-same, Missing}
@@ -100,8 +101,8 @@ module _ (w : List ℕ) (l r len n s : ℕ) (so : Sound w) (room : at w USED < E
   count-kept : (k : ℕ) → k < ENTRIES → at w′ (COUNTS + k) ≡ at w (COUNTS + k)
   count-kept k h = let z = s-low in same (COUNTS + k) (omega arith)
 
-  link-kept : (k : ℕ) → PARENTS ≤ k → at w′ k ≡ at w k
-  link-kept k h = let z = s-low in same k (omega arith)
+  link-kept : (e i : ℕ) → e < ENTRIES → i < MAX-PARENTS → link-at w′ e i ≡ link-at w e i
+  link-kept e i h l = let z = s-low in link-same w w′ e i h l (λ k a b. same k (omega arith))
 
   left-kept : (k : ℕ) → k < n → at w′ (LEFT + k) ≡ at w (LEFT + k)
   left-kept k h = let z = s-low in same (LEFT + k) (omega arith)
@@ -162,17 +163,17 @@ module _ (w : List ℕ) (l r len n s : ℕ) (so : Sound w) (room : at w USED < E
     distinct = distinct;
   }
     where
-      links : (e i : ℕ) → e < ENTRIES → i < at w (COUNTS + e) → at w′ (PARENTS + e * 100 + i) < 2 * at w′ USED
-      links e i h m = omega (arith, used, link-kept (PARENTS + e * 100 + i) (omega arith), so .links e i h m)
+      links : (e i : ℕ) → e < ENTRIES → i < at w (COUNTS + e) → link-at w′ e i < 2 * at w′ USED
+      links e i h m = omega (arith, used, link-kept e i h (omega (arith, so .counts e h)), so .links e i h m)
 
   row-kept : (k : ℕ) → k < n → row-of w′ k ≡ row-of w k
   row-kept k h =
       let z = s-low in
-      row-same w w′ k so long (omega arith) (left-kept k h) (right-kept k h) (same (LOW + k) (omega arith)) (same (HIGH + k) (omega arith))
-      (count-kept k (omega arith)) (λ i q. link-kept (PARENTS + k * 100 + i) (omega arith))
+      row-same w w′ k so (omega arith) (left-kept k h) (right-kept k h) (same (LOW + k) (omega arith)) (same (HIGH + k) (omega arith))
+      (count-kept k (omega arith)) (λ i q. link-kept k i (omega arith) q)
 
   row-new : row-of w′ n ≡ new-row l r len
-  unfolding parents-of part
+  unfolding parents-of tabulate
   row-new =
       let c : at w′ (COUNTS + n) ≡ 0 = count-kept n (omega arith) ∙ so .unused n (omega arith) (omega arith) in
       let ps : parents-of w′ n ≡ [] = rw c in
