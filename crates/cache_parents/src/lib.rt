@@ -17,13 +17,12 @@ pub fn add_parent(work: &mut [u32], e: EntryIndex, parent: EntryIndex, right: bo
     ensures { λ _. ⌜ ParentAdded (now (work .entry)) (now (work .exit)) (e .0) (parent .0) right ⌝ }
 {
     let n = parents::count_of(work, e);
-    let i = words::wide(e.0);
     let link = Parent::new(parent, right);
     if n < MAX_PARENTS {
-        work[work_layout::PARENTS + i * MAX_PARENTS + n] = link.0;
-        work[work_layout::COUNTS + i] = (n + 1) as u32;
+        parents::set_parent(work, e, n, link);
+        work[work_layout::COUNTS + words::wide(e.0)] = (n + 1) as u32;
     } else {
         let slot = words::wide(parent.0 + parents::position_of(right)) % MAX_PARENTS;
-        work[work_layout::PARENTS + i * MAX_PARENTS + slot] = link.0;
+        parents::set_parent(work, e, slot, link);
     }
 }

@@ -1,14 +1,28 @@
 // A sentinel's parents in work, taken and placed at the end of a root's list.
-use words::slices;
 use work_layout::EntryIndex;
 use work_layout::MAX_PARENTS;
 use work_layout::parents;
 ghost use mathlib.Core.Path.{_≡_};
-ghost use Prim.Native.Nat.{_-_, _≤_, _<_};
-ghost use Rattle.words.specs.Words.{at};
-ghost use Rattle.work_layout.specs.Layout.{USED, MAX-PARENTS};
-ghost use Rattle.work_layout.specs.Rows.{Sound};
+ghost use Prim.Native.Nat.{ℕ, _+_, _-_, _*_, _≤_, _<_};
+ghost use lib.ListN.{length};
+ghost use Rattle.words.specs.Words.{at, WORK};
+ghost use Rattle.work_layout.specs.Layout.{USED, ENTRIES, MAX-PARENTS};
+ghost use Rattle.work_layout.specs.Rows.{link-at, moved-at, Sound};
 ghost use Rattle.cache_entries.specs.table.Contracts.{Taken, MovedLinks, Placed};
+ghost use Rattle.cache_parents.specs.Lists.{Saved, Filled};
+
+// The first n parents of entry e go to MOVED.
+fn save_parents(work: &mut [u32], e: EntryIndex, n: usize)
+    requires { ⌜ (WORK ≤ length (now work)) × (e .0 < ENTRIES) × (n ≤ MAX-PARENTS) × ((i : ℕ) → i < n → link-at (now work) (e .0) i < 2 * ENTRIES) ⌝ }
+    ensures { λ _. ⌜ Saved (now (work .entry)) (now (work .exit)) (e .0) n ⌝ }
+{
+    let mut i = 0;
+    while i < n {
+        let p = parents::parent_at(work, e, i);
+        parents::set_moved(work, i, p);
+        i += 1;
+    }
+}
 
 // The parents of entry e, which has none then, go to MOVED. How many there are.
 pub fn take_parents(work: &mut [u32], e: EntryIndex) -> usize
@@ -16,14 +30,8 @@ pub fn take_parents(work: &mut [u32], e: EntryIndex) -> usize
     ensures { λ n. ⌜ Taken (now (work .entry)) (now (work .exit)) (e .0) n ⌝ }
 {
     let n = parents::count_of(work, e);
-    let i = words::wide(e.0);
-    slices::copy_within(
-        work,
-        work_layout::PARENTS + i * MAX_PARENTS,
-        work_layout::MOVED,
-        n,
-    );
-    work[work_layout::COUNTS + i] = 0;
+    save_parents(work, e, n);
+    work[work_layout::COUNTS + words::wide(e.0)] = 0;
     n
 }
 
@@ -34,6 +42,33 @@ fn over(n: usize) -> usize
     if n <= MAX_PARENTS { 0 } else { n - MAX_PARENTS }
 }
 
+// The first parents of entry e are dropped; the n after them go to the front.
+fn drop_parents(work: &mut [u32], e: EntryIndex, dropped: usize, n: usize)
+    requires { ⌜ (WORK ≤ length (now work)) × (e .0 < ENTRIES) × (dropped + n ≤ MAX-PARENTS) ⌝ }
+    requires { ⌜ ((i : ℕ) → i < n → link-at (now work) (e .0) (dropped + i) < 2 * ENTRIES) ⌝ }
+    ensures { λ _. ⌜ Filled (now (work .entry)) (now (work .exit)) (e .0) 0 n (λ i. link-at (now (work .entry)) (e .0) (dropped + i)) ⌝ }
+{
+    let mut i = 0;
+    while i < n {
+        let p = parents::parent_at(work, e, dropped + i);
+        parents::set_parent(work, e, i, p);
+        i += 1;
+    }
+}
+
+// The n parents in MOVED go behind the first `kept` of entry e.
+fn append_moved(work: &mut [u32], e: EntryIndex, kept: usize, n: usize)
+    requires { ⌜ (WORK ≤ length (now work)) × (e .0 < ENTRIES) × (kept + n ≤ MAX-PARENTS) × ((i : ℕ) → i < n → moved-at (now work) i < 2 * ENTRIES) ⌝ }
+    ensures { λ _. ⌜ Filled (now (work .entry)) (now (work .exit)) (e .0) kept n (moved-at (now (work .entry))) ⌝ }
+{
+    let mut i = 0;
+    while i < n {
+        let p = parents::moved_at(work, i);
+        parents::set_parent(work, e, kept + i, p);
+        i += 1;
+    }
+}
+
 // The `moved` parents in MOVED go to the end of those of entry e; beyond 100 the front ones are dropped.
 pub fn place_parents(work: &mut [u32], e: EntryIndex, moved: usize)
     requires { ⌜ (Sound (now work)) × (e .0 < at (now work) USED) × (moved ≤ MAX-PARENTS) × (MovedLinks (now work) moved) ⌝ }
@@ -42,9 +77,7 @@ pub fn place_parents(work: &mut [u32], e: EntryIndex, moved: usize)
     let n = parents::count_of(work, e);
     let dropped = over(n + moved);
     let kept = n - dropped;
-    let i = words::wide(e.0);
-    let row = work_layout::PARENTS + i * MAX_PARENTS;
-    slices::copy_within(work, row + dropped, row, kept);
-    slices::copy_within(work, work_layout::MOVED, row + kept, moved);
-    work[work_layout::COUNTS + i] = (kept + moved) as u32;
+    drop_parents(work, e, dropped, kept);
+    append_moved(work, e, kept, moved);
+    work[work_layout::COUNTS + words::wide(e.0)] = (kept + moved) as u32;
 }
