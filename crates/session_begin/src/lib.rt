@@ -20,7 +20,7 @@ pub struct Begun {
     pub records: usize,
 }
 
-// The words before the rows of parents become zero. No word from there on is read before it is written.
+// The words before the parents become zero. What lies from there on is not used before it is written.
 fn clear_tables(work: &mut [u32])
     requires { ⌜ WORK ≤ length (now work) ⌝ }
     ensures { λ _. ⌜ TablesClear (now (work .exit)) ⌝ }
@@ -28,7 +28,7 @@ fn clear_tables(work: &mut [u32])
     slices::clear(&mut work[..work_layout::PARENTS]);
 }
 
-// The places of the atoms and the handles of the pairs go to work; the words after them are zero, up to the rows of parents.
+// The places of the atoms and the handles of the pairs go to work; the words after them are zero, up to the parents.
 fn load_places(file: &[u8], tables: &mut [u32], checked: Checked)
     requires { ⌜ (Passed (now file) (the-file (now file)) checked) × (WORK ≤ length (now tables)) ⌝ }
     ensures { λ _. ⌜ Placed (now (file .entry)) (the-file (now (file .entry))) (now (tables .exit)) ⌝ }
@@ -47,7 +47,7 @@ fn load_places(file: &[u8], tables: &mut [u32], checked: Checked)
     );
 }
 
-// The tables of the file go to work; the words after them are zero, up to the rows of parents.
+// The tables of the file go to work; the words after them are zero, up to the parents.
 fn open(file: &[u8], work: &mut [u32], checked: Checked)
     requires { ⌜ (Passed (now file) (the-file (now file)) checked) × (WORK ≤ length (now work)) ⌝ }
     ensures { λ _. ⌜ Opened (now (file .entry)) (the-file (now (file .entry))) (now (work .exit)) ⌝ }
