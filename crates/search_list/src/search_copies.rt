@@ -5,9 +5,9 @@ use work_layout::parents;
 ghost use mathlib.Core.List.{_++_, _∷_, []};
 ghost use Prim.Native.Nat.{_+_, _-_, _*_, _≤_, _<_};
 ghost use lib.ListN.{length};
-ghost use Rattle.words.specs.Words.{at, WORK};
-ghost use Rattle.work_layout.specs.Layout.{ENTRIES, PARENTS, MAX-PARENTS};
-ghost use Rattle.work_layout.specs.Rows.{parent-of, Tops};
+ghost use Rattle.words.specs.Words.{WORK};
+ghost use Rattle.work_layout.specs.Layout.{ENTRIES};
+ghost use Rattle.work_layout.specs.Rows.{link-at, parent-of, Tops};
 ghost use Rattle.spec_search.specs.Search.{upward, most-visits};
 ghost use Rattle.search_list.specs.Steps.{PathsOK, copies, stacked, Links, Nodes, Relisted, Visited};
 ghost use Rattle.search_list.specs.State.{seen-of, node-bits, trails-of, node-at, place-at, count-at, MOST-PATHS};
@@ -36,7 +36,7 @@ fn add_copy(work: &mut [u32], e: EntryIndex, i: usize, paths: usize, nodes: usiz
         Relisted (now (work .entry)) (now (work .exit)) nodes r
         (trails-of (now (work .entry)) paths
         ++ upward (seen-of (now (work .entry)) nodes) (node-bits (now (work .entry)) nodes)
-        (parent-of (at (now (work .entry)) (PARENTS + e .0 * MAX-PARENTS + i)) ∷ [])) ⌝ }
+        (parent-of (link-at (now (work .entry)) (e .0) i) ∷ [])) ⌝ }
 {
     let p = parents::parent_at(work, e, i);
     if crate::is_seen(work, p.entry()) {

@@ -4,11 +4,11 @@ use crate::search_copies;
 use work_layout::EntryIndex;
 use work_layout::parents;
 ghost use mathlib.Core.List.{_++_};
-ghost use Prim.Native.Nat.{_+_, _-_, _*_, _≤_, _<_};
+ghost use Prim.Native.Nat.{_+_, _-_, _≤_, _<_};
 ghost use lib.ListN.{length, set};
-ghost use Rattle.words.specs.Words.{at, WORK};
-ghost use Rattle.work_layout.specs.Layout.{ENTRIES, PARENTS, MAX-PARENTS};
-ghost use Rattle.work_layout.specs.Rows.{Tops};
+ghost use Rattle.words.specs.Words.{WORK};
+ghost use Rattle.work_layout.specs.Layout.{ENTRIES};
+ghost use Rattle.work_layout.specs.Rows.{link-at, Tops};
 ghost use Rattle.spec_search.specs.Flat.{swap-remove};
 ghost use Rattle.search_list.specs.Steps.{PathsOK, copies, stacked, Links, Nodes, Relisted, FirstUnseen};
 ghost use Rattle.search_list.specs.State.{node-bits, trail-of, trails-of, trail, count-at, MOST-PATHS};
@@ -60,7 +60,7 @@ pub fn go_up(work: &mut [u32], slot: usize, s: Search, e: EntryIndex, k: usize) 
     ensures { λ r. ⌜
         Relisted (now (work .entry)) (now (work .exit)) (s .nodes) r
         (set (trails-of (now (work .entry)) (s .paths)) slot
-        (trail 0 (node-bits (now (work .entry)) (s .nodes)) (at (now (work .entry)) (PARENTS + e .0 * MAX-PARENTS + k)))
+        (trail 0 (node-bits (now (work .entry)) (s .nodes)) (link-at (now (work .entry)) (e .0) k))
         ++ (copies (now (work .entry)) (s .nodes) (e .0) (k + 1) ++ stacked (now (work .entry)) (s .nodes) (e .0) (s .depth))) ⌝ }
 {
     let p = parents::parent_at(work, e, k);

@@ -49,8 +49,7 @@ same-length c = c .before .loop .inv .len
 
 returns : tie.Need-returns Inv-loop μ-loop
 returns c =
-    let s = c .before .before .before .before .before in
-    copying-end (s .pre .0 .0) (s .pre .1 .0) (c .before .loop .inv) (omega (arith, c .loop-test .left, c .before .before .count-of .ensures .0))
+    copying-end (c .before .loop .inv) (omega (arith, c .loop-test .left, c .before .before .count-of .ensures .0))
 
 pub add-copies-spec : {M : Type 1} → statement M
 add-copies-spec =

@@ -1,10 +1,9 @@
 -- `search_list::search_moves::first_unseen` meets its contract: every parent before it is seen.
 -- Assumes nothing.
 use Rattle.search_list.proofs.Copies.{Seeking, seeking-start, seeking-more, seeking-found, seeking-none}
-use Rattle.words.specs.Words.{at}
-use Rattle.work_layout.specs.Layout.{PARENTS, MAX-PARENTS}
+use Rattle.work_layout.specs.Rows.{link-at}
 use Rattle.search_list.specs.State.{seen-at, count-at}
-use Prim.Native.Nat.{ℕ, _+_, _*_, _-_, _/_, _<_}
+use Prim.Native.Nat.{ℕ, _-_, _/_, _<_}
 use mathlib.Core.Path.{_≡_, ap, sym, _∙_}
 use borrow.Author.Tests.{not-true, not-false}
 use borrow.Author.Needs.{needs}
@@ -26,7 +25,7 @@ abbrev start : tie.After-is-seen Inv-loop μ-loop → tie.Start Inv-loop μ-loop
 start x = x .before .before .before .before .before .before .before
 
 seen : (x : tie.After-is-seen Inv-loop μ-loop)
-    → seen-at (start x .args .work .now) (at (start x .args .work .now) (PARENTS + start x .args .e .0 * MAX-PARENTS + x .before .before .before .before .loop .i) / 2) ≡ x .is-seen .result
+    → seen-at (start x .args .work .now) (link-at (start x .args .work .now) (start x .args .e .0) (x .before .before .before .before .loop .i) / 2) ≡ x .is-seen .result
 seen x =
     ap (seen-at (start x .args .work .now)) (sym (x .before .entry .ensures ∙ ap (λ (z : ℕ). z / 2) (x .before .before .parent-at .ensures)))
     ∙ sym (x .is-seen .ensures)
