@@ -166,8 +166,15 @@ seeking-more w e i k l t = record { within = omega arith; passed = λ j q. go j 
     go j q (yes p) = subst (λ (z : ℕ). seen-at w (link-at w e z / 2) ≡ true) (sym p) t
     go j q (no p) = k .passed j (omega arith)
 
-pub seeking-found : (w : List ℕ) (e i : ℕ) → Seeking w e i → seen-at w (link-at w e i / 2) ≡ false → FirstUnseen w e i
-seeking-found w e i k t = record { within = k .within; passed = k .passed; stands = λ l. t }
+module _ (w : List ℕ) (e i v n : ℕ) (all : n ≡ count-at w e) (k : Seeking w e i) where
+  pub seeking-found : seen-at w (link-at w e i / 2) ≡ false → v ≡ link-at w e i → FirstUnseen w e i v n
+  seeking-found t p = record { all = all; within = omega (arith, k .within); passed = k .passed; stands = λ l. t; parent = λ l. p }
 
-pub seeking-none : (w : List ℕ) (e i : ℕ) → Seeking w e i → count-at w e ≤ i → FirstUnseen w e i
-seeking-none w e i k t = record { within = k .within; passed = k .passed; stands = λ l. absurd (omega arith) }
+  pub seeking-none : n ≤ i → FirstUnseen w e i v n
+  seeking-none t = record {
+    all = all;
+    within = omega (arith, k .within);
+    passed = k .passed;
+    stands = λ l. absurd (omega arith);
+    parent = λ l. absurd (omega arith);
+  }

@@ -315,22 +315,23 @@ module _ {w x : List ℕ} {d c n m e : ℕ} (u : Visiting w x d c n m e) where
       ∙ cond-true _ _ _ (lt-ltb (length (seen-of w m)) most-visits (omega (arith, length-seen w m)))
       ∙ rw (seen-x, v .bits, stack-same w x d (v .low) (here .ok .tops .deep), low-links-of w x (here .ok .links) (v .low) e visit-low, parents-are w e visit-low)
 
-  pub visit-asks : {k : ℕ} → k < count-at x e
-      → (Links x × Tops x d × Nodes x (m + 1) × PathsOK x (m + 1) n) × (c < n × e < ENTRIES × k < count-at x e × n + (count-at x e - k) ≤ MOST-PATHS)
-  visit-asks h = let l : m < most-visits = u .more in
-      ((visit-links, tops-x, v .nodes, paths-x), (here .slot, visit-low, h, omega (arith, spare, count-x)))
+  pub visit-asks : {k p a : ℕ} → FirstUnseen x e k p a → k < a
+      → (Links x × Tops x d × Nodes x (m + 1) × PathsOK x (m + 1) n)
+      × (c < n × e < ENTRIES × k < a × n + (a - k) ≤ MOST-PATHS × a ≡ count-at x e × p ≡ link-at x e k)
+  visit-asks f h = let l : m < most-visits = u .more in
+      ((visit-links, tops-x, v .nodes, paths-x), (here .slot, visit-low, h, omega (arith, spare, count-x, f .all), f .all, f .parent h))
 
   pub visit-asks-2 : (Links x × Tops x d × Nodes x (m + 1) × PathsOK x (m + 1) n) × (c < n × e < ENTRIES × n < MOST-PATHS)
   visit-asks-2 = ((visit-links, tops-x, v .nodes, paths-x), (here .slot, visit-low, omega (arith, few (here .ok))))
 
-  module _ {k : ℕ} (f : FirstUnseen x e k) where
+  module _ {k p a : ℕ} (f : FirstUnseen x e k p a) where
     link-low : (j : ℕ) → j < count-at x e → link-at x e j / 2 < ENTRIES
     link-low j l = omega (arith, visit-links .links e j visit-low l)
 
     skipped : upward S′ B′ (parents-of x e) ≡ upward S′ B′ (drop k (parents-of x e))
     unfolding S′
     skipped =
-        let b = f .within in
+        let b : k ≤ count-at x e = omega (arith, f .within, f .all) in
         up-skip x e S′ B′ k b (λ j l. sym (v .nodes .marks _ (link-low j (omega arith))) ∙ f .passed j l)
 
     module _ {y : List ℕ} {n′ : ℕ} (ly : length y ≡ length x) where
@@ -353,18 +354,19 @@ module _ {w x : List ℕ} {d c n m e : ℕ} (u : Visiting w x d c n m e) where
       kept-y : {list : List Trail} → Relisted x y (m + 1) n′ list → Kept w y
       kept-y r = record { low = λ j l. r .low j (omega arith) ∙ v .low j l; high = λ j l. r .high j l ∙ v .high j (omega arith) }
 
-      pub visit-up : k < count-at x e
+      pub visit-up : k < a
           → Relisted x y (m + 1) n′
           (set (trails-of x n) c (trail 0 (node-bits x (m + 1)) (link-at x e k)) ++ (copies x (m + 1) e (k + 1) ++ stacked x (m + 1) e d))
           → Steps w y d c n m (On (c + 1) (search-of n′ (m + 1) d))
       unfolding S′ B′
       visit-up h r =
+          let l : k < count-at x e = omega (arith, f .all) in
           let q : Trail = trail 0 (node-bits x (m + 1)) (link-at x e k) in
           let up : List Trail = copies x (m + 1) e (k + 1) in
           let side : List Trail = stacked x (m + 1) e d in
           let s : step (parents-of-all w) (stack-of w d) (seen-of w m) (trail-of w c) ≡ stays q (up ++ side) (seen-of x (m + 1)) =
           step-visit ∙ ap (λ (l : List Trail). moves l side (seen-of x (m + 1)))
-          (skipped ∙ up-new x e S′ B′ k h (sym (v .nodes .marks _ (link-low k h)) ∙ f .stands h)) in
+          (skipped ∙ up-new x e S′ B′ k l (sym (v .nodes .marks _ (link-low k l)) ∙ f .stands h)) in
           let few-up : length up ≤ count-at w e - (k + 1) =
           omega (arith, length-upward S′ B′ (drop (k + 1) (parents-of x e)), length-drop (k + 1) (parents-of x e), length-links x e, count-x) in
           let b : n′ ≤ n + count-at w e + 1 =
@@ -382,13 +384,13 @@ module _ {w x : List ℕ} {d c n m e : ℕ} (u : Visiting w x d c n m e) where
           (r .trails ∙ ap (λ (l : List Trail). set l c q ++ (up ++ side)) trails-x)
           (low-seen x y (m + 1) (v .nodes) (r .low))
 
-      pub visit-off : count-at x e ≤ k → Relisted x y (m + 1) n′ (swap-remove (trails-of x n ++ stacked x (m + 1) e d) c (trail-of x c))
+      pub visit-off : a ≤ k → Relisted x y (m + 1) n′ (swap-remove (trails-of x n ++ stacked x (m + 1) e d) c (trail-of x c))
           → Steps w y d c n m (On c (search-of n′ (m + 1) d))
       unfolding S′ B′
       visit-off h r =
           let side : List Trail = stacked x (m + 1) e d in
           let s : step (parents-of-all w) (stack-of w d) (seen-of w m) (trail-of w c) ≡ dropped side (seen-of x (m + 1)) =
-          step-visit ∙ ap (λ (l : List Trail). moves l side (seen-of x (m + 1))) (skipped ∙ up-end x e S′ B′ k h) in
+          step-visit ∙ ap (λ (l : List Trail). moves l side (seen-of x (m + 1))) (skipped ∙ up-end x e S′ B′ k (omega (arith, f .all))) in
           let hx : trail-of x c ≡ trail-of w c =
           sym (at-trails x n c (trail-of w c) (here .slot)) ∙ ap (λ (l : List Trail). getD l c (trail-of w c)) trails-x
           ∙ at-trails w n c (trail-of w c) (here .slot) in

@@ -114,11 +114,13 @@ stacked w m e d = sideward (node-bits w m) (distance e (stack-of w d))
 
 -- ---- reads
 
--- The first of the entry's parents that is not seen, or how many there are.
-pub record FirstUnseen (w : List ℕ) (e i : ℕ) : Type 0 where
-  pub within : i ≤ count-at w e
+-- Entry e has n parents. The first of them that is not seen is parent i, whose number is v; where each is seen i is n.
+pub record FirstUnseen (w : List ℕ) (e i v n : ℕ) : Type 0 where
+  pub all : n ≡ count-at w e
+  pub within : i ≤ n
   pub passed : (j : ℕ) → j < i → seen-at w (link-at w e j / 2) ≡ true
-  pub stands : i < count-at w e → seen-at w (link-at w e i / 2) ≡ false
+  pub stands : i < n → seen-at w (link-at w e i / 2) ≡ false
+  pub parent : i < n → v ≡ link-at w e i
 
 -- The distance from the top, on a stack of d entries, by a word of TOPS.
 abbrev pub from-top : ℕ → ℕ → Option ℕ

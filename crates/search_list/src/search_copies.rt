@@ -2,6 +2,7 @@
 use crate::Search;
 use work_layout::EntryIndex;
 use work_layout::parents;
+ghost use mathlib.Core.Path.{_≡_};
 ghost use mathlib.Core.List.{_++_, _∷_, []};
 ghost use Prim.Native.Nat.{_+_, _-_, _*_, _≤_, _<_};
 ghost use lib.ListN.{length};
@@ -46,15 +47,14 @@ fn add_copy(work: &mut [u32], e: EntryIndex, i: usize, paths: usize, nodes: usiz
     paths + 1
 }
 
-// A path with the bits of the last node at each unseen parent of entry e from parent `first` on.
-pub fn add_copies(work: &mut [u32], e: EntryIndex, first: usize, s: Search) -> usize
+// A path with the bits of the last node at each unseen parent of entry e, which has `all`, from parent `first` on.
+pub fn add_copies(work: &mut [u32], e: EntryIndex, first: usize, all: usize, s: Search) -> usize
     requires { ⌜ (Links (now work)) × (Nodes (now work) (s .nodes)) × (PathsOK (now work) (s .nodes) (s .paths)) ⌝ }
-    requires { ⌜ (e .0 < ENTRIES) × (first ≤ count-at (now work) (e .0)) × (s .paths + (count-at (now work) (e .0) - first) ≤ MOST-PATHS) ⌝ }
+    requires { ⌜ (e .0 < ENTRIES) × (first ≤ all) × (s .paths + (all - first) ≤ MOST-PATHS) × (all ≡ count-at (now work) (e .0)) ⌝ }
     ensures { λ r. ⌜
         Relisted (now (work .entry)) (now (work .exit)) (s .nodes) r
         (trails-of (now (work .entry)) (s .paths) ++ copies (now (work .entry)) (s .nodes) (e .0) first) ⌝ }
 {
-    let all = parents::count_of(work, e);
     let mut paths = s.paths;
     let mut i = first;
     while i < all {

@@ -53,9 +53,11 @@ is-seen-requires c κs =
 returns : tie.Need-returns Inv-loop μ-loop
 returns c =
     let s = c .before .before .before .before .before .before .before .before in
-    let k = c .before .before .before .before .before .loop in
-    seeking-found (s .args .work .now) (s .args .e .0) (k .i) (k .inv)
-    (seen (c .before) ∙ not-true _ (c .if1 .taken))
+    let p = c .before .before .before in
+    let k = p .before .before .loop in
+    let n = p .before .before .before .count-of in
+    seeking-found (s .args .work .now) (s .args .e .0) (k .i) (p .parent-at .result .0) (n .result) (n .ensures .0) (k .inv)
+    (seen (c .before) ∙ not-true _ (c .if1 .taken)) (p .parent-at .ensures)
 
 add-i : tie.Need-add-i Inv-loop μ-loop
 add-i c = omega arith
@@ -73,8 +75,8 @@ loop-again c =
 returns-2 : tie.Need-returns-2 Inv-loop μ-loop
 returns-2 c =
     let s = c .before .before .before .before in
-    seeking-none (s .args .work .now) (s .args .e .0) (c .before .loop .i) (c .before .loop .inv)
-    (omega (arith, c .loop-test .left, c .before .before .count-of .ensures .0))
+    let n = c .before .before .count-of in
+    seeking-none (s .args .work .now) (s .args .e .0) (c .before .loop .i) 0 (n .result) (n .ensures .0) (c .before .loop .inv) (omega arith)
 
 pub first-unseen-spec : {M : Type 1} → statement M
 first-unseen-spec =
