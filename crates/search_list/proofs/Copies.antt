@@ -11,15 +11,15 @@ use native.Mathlib.Decide.{ℕ-discrete}
 use Rattle.spec_search.specs.Search.{Trail, member, upward, sideward, distance, most-visits}
 use Rattle.words.specs.Choice.{cond-true, cond-false}
 use Rattle.words.specs.Words.{at, WORK}
-use Rattle.work_layout.specs.Layout.{PARENTS, COUNTS, PREVS, NODES, LENS, PATHS, COPIES, DEPTH, ENTRIES, TOPS, MAX-PARENTS}
+use Rattle.work_layout.specs.Layout.{COUNTS, PREVS, NODES, LENS, PATHS, COPIES, DEPTH, ENTRIES, TOPS}
 use Rattle.search_list.specs.Steps.{copies, stacked, from-top, Links, Nodes, PathsOK, Stored, Relisted, Marked, Visited, FirstUnseen}
 use Rattle.search_list.specs.State.{seen-of, node-bits, trail, trails-of, node-at, place-at, seen-at, count-at, MOST-PATHS}
-use Rattle.work_layout.specs.Rows.{parent-of, parents-of, stack-of, Tops}
+use Rattle.work_layout.specs.Rows.{link-at, parent-of, parents-of, stack-of, Tops}
 use Rattle.words.proofs.Words.{Store, stores, miss, hits}
 use Rattle.search_list.proofs.Nodes.{low-bits, low-seen, low-nodes, node-made}
 use Rattle.search_list.proofs.Least.{least}
 use Rattle.search_list.proofs.Trails.{store-end, length-trails}
-use Rattle.search_list.proofs.Upward.{links-cons, links-end, length-upward, low-links}
+use Rattle.search_list.proofs.Upward.{links-cons, links-end, length-upward, low-link, low-links}
 
 -- ---- a node more
 
@@ -105,17 +105,16 @@ copying-start w e m first count h p = record { within = h; len = refl; room = om
 
 pub copying-more : {w₀ w y : List ℕ} {e m first count n n′ i : ℕ} → Links w₀ → Nodes w₀ m → e < ENTRIES → Copying w₀ w e m first count n i → i < count-at w₀ e
     → length y ≡ length w
-    → Relisted w y m n′ (trails-of w n ++ upward (seen-of w m) (node-bits w m) (parent-of (at w (PARENTS + e * MAX-PARENTS + i)) ∷ []))
+    → Relisted w y m n′ (trails-of w n ++ upward (seen-of w m) (node-bits w m) (parent-of (link-at w e i) ∷ []))
     → Copying w₀ y e m first count n′ (i + 1)
 copying-more {w₀} {w} {y} {e} {m} {first} {count} {n} {n′} {i} links ok h k l len r =
-    let b : count-at w₀ e ≤ MAX-PARENTS = links .counts e h in
-    let q : List (ℕ × Bool) = parent-of (at w₀ (PARENTS + e * MAX-PARENTS + i)) ∷ [] in
+    let q : List (ℕ × Bool) = parent-of (link-at w₀ e i) ∷ [] in
     let S : List ℕ = seen-of w₀ m in
     let B : List Bool = node-bits w₀ m in
     let t : trails-of y n′ ≡ trails-of w n ++ upward S B q =
-    r .trails ∙ ap (λ (x : List ℕ). trails-of w n ++ upward x (node-bits w m) (parent-of (at w (PARENTS + e * MAX-PARENTS + i)) ∷ [])) (low-seen w₀ w m ok (k .low))
-    ∙ ap (λ (x : List Bool). trails-of w n ++ upward S x (parent-of (at w (PARENTS + e * MAX-PARENTS + i)) ∷ [])) (low-bits w₀ w m ok (k .low) m (omega arith))
-    ∙ ap (λ (z : ℕ). trails-of w n ++ upward S B (parent-of z ∷ [])) (k .low (PARENTS + e * MAX-PARENTS + i) (omega arith)) in
+    r .trails ∙ ap (λ (x : List ℕ). trails-of w n ++ upward x (node-bits w m) (parent-of (link-at w e i) ∷ [])) (low-seen w₀ w m ok (k .low))
+    ∙ ap (λ (x : List Bool). trails-of w n ++ upward S x (parent-of (link-at w e i) ∷ [])) (low-bits w₀ w m ok (k .low) m (omega arith))
+    ∙ ap (λ (z : ℕ). trails-of w n ++ upward S B (parent-of z ∷ [])) (low-link w₀ w links (λ j z. k .low j (omega arith)) e i h l) in
     let more : n′ ≤ n + 1 =
     omega (arith, length-trails y n′, ap length t, length-append (trails-of w n) (upward S B q), length-trails w n, length-upward S B q) in
     record {
@@ -125,19 +124,19 @@ copying-more {w₀} {w} {y} {e} {m} {first} {count} {n} {n′} {i} links ok h k 
       paths = r .paths;
       ahead = ap (λ (x : List Trail). x ++ upward S B (drop (i + 1) (parents-of w₀ e))) t
           ∙ append-assoc (trails-of w n) (upward S B q) (upward S B (drop (i + 1) (parents-of w₀ e)))
-          ∙ ap (λ (x : List Trail). trails-of w n ++ x) (upward-one S B (parent-of (at w₀ (PARENTS + e * MAX-PARENTS + i))) (drop (i + 1) (parents-of w₀ e)))
-          ∙ ap (λ (x : List (ℕ × Bool)). trails-of w n ++ upward S B x) (sym (links-cons w₀ e links h i l))
+          ∙ ap (λ (x : List Trail). trails-of w n ++ x) (upward-one S B (parent-of (link-at w₀ e i)) (drop (i + 1) (parents-of w₀ e)))
+          ∙ ap (λ (x : List (ℕ × Bool)). trails-of w n ++ upward S B x) (sym (links-cons w₀ e i l))
           ∙ k .ahead;
       low = λ j q. r .low j q ∙ k .low j q;
       high = λ j q. r .high j q ∙ k .high j q;
     }
 
-pub copying-end : {w₀ w : List ℕ} {e m first count n i : ℕ} → Links w₀ → e < ENTRIES → Copying w₀ w e m first count n i → count-at w₀ e ≤ i
+pub copying-end : {w₀ w : List ℕ} {e m first count n i : ℕ} → Copying w₀ w e m first count n i → count-at w₀ e ≤ i
     → Relisted w₀ w m n (trails-of w₀ count ++ copies w₀ m e first)
-copying-end {w₀} {w} {e} {m} {n = n} {i = i} links h k l = record {
+copying-end {w₀} {w} {e} {m} {n = n} {i = i} k l = record {
   trails =
       sym (append-nil (trails-of w n))
-      ∙ ap (λ (x : List (ℕ × Bool)). trails-of w n ++ upward (seen-of w₀ m) (node-bits w₀ m) x) (sym (links-end w₀ e links h i l)) ∙ k .ahead;
+      ∙ ap (λ (x : List (ℕ × Bool)). trails-of w n ++ upward (seen-of w₀ m) (node-bits w₀ m) x) (sym (links-end w₀ e i l)) ∙ k .ahead;
   paths = k .paths;
   low = k .low;
   high = k .high;
@@ -155,20 +154,27 @@ copying-asks {w₀} {w} {e} {m} links ok h r k l =
 
 pub record Seeking (w : List ℕ) (e i : ℕ) : Type 0 where
   pub within : i ≤ count-at w e
-  pub passed : (j : ℕ) → j < i → seen-at w (at w (PARENTS + e * MAX-PARENTS + j) / 2) ≡ true
+  pub passed : (j : ℕ) → j < i → seen-at w (link-at w e j / 2) ≡ true
 
 pub seeking-start : (w : List ℕ) (e : ℕ) → Seeking w e 0
 seeking-start w e = record { within = omega arith; passed = λ j l. absurd (omega arith) }
 
-pub seeking-more : (w : List ℕ) (e i : ℕ) → Seeking w e i → i < count-at w e → seen-at w (at w (PARENTS + e * MAX-PARENTS + i) / 2) ≡ true → Seeking w e (i + 1)
+pub seeking-more : (w : List ℕ) (e i : ℕ) → Seeking w e i → i < count-at w e → seen-at w (link-at w e i / 2) ≡ true → Seeking w e (i + 1)
 seeking-more w e i k l t = record { within = omega arith; passed = λ j q. go j q (ℕ-discrete j i) }
   where
-    go : (j : ℕ) → j < i + 1 → Dec (j ≡ i) → seen-at w (at w (PARENTS + e * MAX-PARENTS + j) / 2) ≡ true
-    go j q (yes p) = subst (λ (z : ℕ). seen-at w (at w (PARENTS + e * MAX-PARENTS + z) / 2) ≡ true) (sym p) t
+    go : (j : ℕ) → j < i + 1 → Dec (j ≡ i) → seen-at w (link-at w e j / 2) ≡ true
+    go j q (yes p) = subst (λ (z : ℕ). seen-at w (link-at w e z / 2) ≡ true) (sym p) t
     go j q (no p) = k .passed j (omega arith)
 
-pub seeking-found : (w : List ℕ) (e i : ℕ) → Seeking w e i → seen-at w (at w (PARENTS + e * MAX-PARENTS + i) / 2) ≡ false → FirstUnseen w e i
-seeking-found w e i k t = record { within = k .within; passed = k .passed; stands = λ l. t }
+module _ (w : List ℕ) (e i v n : ℕ) (all : n ≡ count-at w e) (k : Seeking w e i) where
+  pub seeking-found : seen-at w (link-at w e i / 2) ≡ false → v ≡ link-at w e i → FirstUnseen w e i v n
+  seeking-found t p = record { all = all; within = omega (arith, k .within); passed = k .passed; stands = λ l. t; parent = λ l. p }
 
-pub seeking-none : (w : List ℕ) (e i : ℕ) → Seeking w e i → count-at w e ≤ i → FirstUnseen w e i
-seeking-none w e i k t = record { within = k .within; passed = k .passed; stands = λ l. absurd (omega arith) }
+  pub seeking-none : n ≤ i → FirstUnseen w e i v n
+  seeking-none t = record {
+    all = all;
+    within = omega (arith, k .within);
+    passed = k .passed;
+    stands = λ l. absurd (omega arith);
+    parent = λ l. absurd (omega arith);
+  }

@@ -10,10 +10,10 @@ use lib.ListN.{length, getD, set, drop, length-append, List·getD-append, length
 use Rattle.spec_search.specs.Search.{Trail, upward, sideward, distance}
 use Rattle.spec_search.specs.Flat.{swap-remove}
 use Rattle.words.specs.Words.{at, WORK}
-use Rattle.work_layout.specs.Layout.{PARENTS, COUNTS, STACK, SEEN, PATHS, DEPTH, ENTRIES, TOPS, MAX-PARENTS}
+use Rattle.work_layout.specs.Layout.{COUNTS, STACK, SEEN, PATHS, DEPTH, ENTRIES, TOPS}
 use Rattle.search_list.specs.State.{seen-of, node-bits, trail, trail-of, trails-of, count-at, MOST-PATHS}
 use Rattle.search_list.specs.Steps.{copies, stacked, Links, Nodes, PathsOK, Stored, Relisted}
-use Rattle.work_layout.specs.Rows.{parents-of, stack-of, Tops}
+use Rattle.work_layout.specs.Rows.{link-at, parents-of, stack-of, Tops}
 use Rattle.search_list.proofs.Nodes.{low-bits, low-seen, low-nodes}
 use Rattle.search_list.proofs.Trails.{store-at, length-trails, at-trails}
 use Rattle.search_list.proofs.Upward.{length-upward, low-links, low-links-of, length-links}
@@ -54,23 +54,24 @@ module _ (w w′ : List ℕ) (m : ℕ) (low : (k : ℕ) → k < PATHS → at w�
 
 -- ---- a path goes up
 
--- The path at c was stored at parent k of entry e, whose word is v.
-pub record Up (w x : List ℕ) (c n m e k d v : ℕ) : Type 0 where
+-- The path at c was stored at parent k of entry e, whose number is v. The entry has a parents.
+pub record Up (w x : List ℕ) (c n m e k d v a : ℕ) : Type 0 where
   pub links : Links w
   pub tops : Tops w d
   pub nodes : Nodes w m
   pub paths : PathsOK w m n
   pub slot : c < n
   pub entry : e < ENTRIES
-  pub parent : k < count-at w e
-  pub room : n + (count-at w e - k) ≤ MOST-PATHS
-  pub word : v ≡ at w (PARENTS + e * MAX-PARENTS + k)
+  pub parent : k < a
+  pub room : n + (a - k) ≤ MOST-PATHS
+  pub all : a ≡ count-at w e
+  pub word : v ≡ link-at w e k
   pub stored : Stored w x c m v 0
   pub len : length x ≡ length w
 
-module _ {w x : List ℕ} {c n m e k d v : ℕ} (u : Up w x c n m e k d v) where
+module _ {w x : List ℕ} {c n m e k d v a : ℕ} (u : Up w x c n m e k d v a) where
   hv : v < 2 * ENTRIES
-  hv = subst (λ (q : ℕ). q < 2 * ENTRIES) (sym (u .word)) (u .links .links e k (u .entry) (u .parent))
+  hv = subst (λ (q : ℕ). q < 2 * ENTRIES) (sym (u .word)) (u .links .links e k (u .entry) (omega (arith, u .parent, u .all)))
 
   first : Relisted w x m n (set (trails-of w n) c (trail 0 (node-bits w m) v))
   first = store-at w x m c m v 0 (u .nodes) (u .stored) (omega arith) (λ q. hv) (λ q. absurd (omega arith)) n (u .slot) (omega (arith, u .room)) (u .paths)
@@ -78,12 +79,11 @@ module _ {w x : List ℕ} {c n m e k d v : ℕ} (u : Up w x c n m e k d v) where
   count-x : count-at x e ≡ count-at w e
   count-x = first .low (COUNTS + e) (omega (arith, u .entry))
 
-  pub up-asks : (Links x × Nodes x m × PathsOK x m n) × (e < ENTRIES × k + 1 ≤ count-at x e × n + (count-at x e - (k + 1)) ≤ MOST-PATHS)
+  pub up-asks : (Links x × Nodes x m × PathsOK x m n) × (e < ENTRIES × k + 1 ≤ a × n + (a - (k + 1)) ≤ MOST-PATHS × a ≡ count-at x e)
   up-asks =
-      let q = count-x in
       let h = u .parent in
       let g = u .room in
-      ((re-links w x m (first .low) (u .len) (u .links), re-nodes w x m (first .low) (u .len) (u .nodes), first .paths), (u .entry, omega arith, omega arith))
+      ((re-links w x m (first .low) (u .len) (u .links), re-nodes w x m (first .low) (u .len) (u .nodes), first .paths), (u .entry, omega arith, omega arith, u .all ∙ sym count-x))
 
   module _ {y : List ℕ} {n₂ : ℕ} (r : Relisted x y m n₂ (trails-of x n ++ copies x m e (k + 1))) (ly : length y ≡ length x) where
     S : List ℕ
@@ -100,17 +100,17 @@ module _ {w x : List ℕ} {c n m e k d v : ℕ} (u : Up w x c n m e k d v) where
     second =
         r .trails
         ∙ ap (λ (t : List Trail). t ++ copies x m e (k + 1)) (first .trails)
-        ∙ rw (low-seen w x m (u .nodes) (first .low), low-bits w x m (u .nodes) (first .low) m (omega arith), low-links-of w x (u .links) (λ j l. first .low j (omega arith)) (u .len) e (u .entry))
+        ∙ rw (low-seen w x m (u .nodes) (first .low), low-bits w x m (u .nodes) (first .low) m (omega arith), low-links-of w x (u .links) (λ j l. first .low j (omega arith)) e (u .entry))
 
     low-y : (j : ℕ) → j < PATHS → at y j ≡ at w j
     low-y j l = r .low j l ∙ first .low j l
 
-    length-drop-links : length up ≤ count-at w e - (k + 1)
+    length-drop-links : length up ≤ a - (k + 1)
     unfolding S B up
     length-drop-links =
-        omega (arith, length-upward (seen-of w m) (node-bits w m) (drop (k + 1) (parents-of w e)), length-drop (k + 1) (parents-of w e), length-links w e (u .links) (u .entry))
+        omega (arith, length-upward (seen-of w m) (node-bits w m) (drop (k + 1) (parents-of w e)), length-drop (k + 1) (parents-of w e), length-links w e, u .all)
 
-    pub up-count : n₂ ≤ n + (count-at w e - (k + 1))
+    pub up-count : n₂ ≤ n + (a - (k + 1))
     up-count =
         let p : Trail = trail 0 (node-bits w m) v in
         omega (
@@ -132,7 +132,7 @@ module _ {w x : List ℕ} {c n m e k d v : ℕ} (u : Up w x c n m e k d v) where
         ((re-links w y m low-y l (u .links), re-tops w y m low-y l d (u .tops), re-nodes w y m low-y l (u .nodes), r .paths), (u .entry, omega arith))
 
     pub up-done : {z : List ℕ} {n₃ : ℕ} → Relisted y z m n₃ (trails-of y n₂ ++ stacked y m e d)
-        → Relisted w z m n₃ (set (trails-of w n) c (trail 0 (node-bits w m) (at w (PARENTS + e * MAX-PARENTS + k))) ++ (copies w m e (k + 1) ++ stacked w m e d))
+        → Relisted w z m n₃ (set (trails-of w n) c (trail 0 (node-bits w m) (link-at w e k)) ++ (copies w m e (k + 1) ++ stacked w m e d))
     unfolding S B up
     up-done t = record {
       trails =

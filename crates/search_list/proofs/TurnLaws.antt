@@ -12,12 +12,11 @@ use Rattle.spec_search.specs.Search.{Trail, trail-bits, Parents, Stepped, resul
 use Rattle.words.specs.Choice.{cond-true, cond-false}
 use Rattle.spec_search.specs.Lists.{size}
 use Rattle.spec_search.specs.Flat.{swap-remove, init, last}
-use Rattle.words.specs.Words.{at}
 use Rattle.search_list.specs.Cursor.{goes, Mid, ahead}
 use Rattle.search_list.proofs.CursorLaws.{Facing, over, over-mid, over-less, is-result, is-capped, stays-goes, stays-mid, stays-less, dropped-goes, dropped-mid, dropped-less}
 use Rattle.search_list.specs.declared.Turned.the-variants.{On, Result, Capped}
-use Rattle.work_layout.specs.Layout.{PARENTS, COUNTS, PATHS, DEPTH, ENTRIES, MAX-PARENTS}
-use Rattle.work_layout.specs.Rows.{parents-of, stack-of, Tops}
+use Rattle.work_layout.specs.Layout.{COUNTS, PATHS, DEPTH, ENTRIES}
+use Rattle.work_layout.specs.Rows.{link-at, parents-of, stack-of, Tops}
 use Rattle.search_list.specs.State.{parents-of-all, seen-of, node-bits, trail, trail-of, trails-of, node-at, place-at, extra-at, seen-at, count-at, Readable, MOST-PATHS}
 use Rattle.search_list.specs.Steps.{copies, stacked, search-of, unseen, Links, Nodes, PathOK, PathsOK, Working, Kept, Stored, Relisted, Visited, FirstUnseen, Turns, Steps}
 use Rattle.path.specs.Bytes.{odd}
@@ -89,7 +88,7 @@ module _ {w : List ℕ} {d c n m : ℕ} (here : Here w d c n m) where
 
   module _ {y : List ℕ} {n′ m′ : ℕ} (ok′ : Working y d n′ m′) (kept : Kept w y) (len : length y ≡ length w) where
     same-parents : parents-of-all y ≡ parents-of-all w
-    same-parents = low-parents w y (here .ok .links) (λ k l. kept .low k l) len
+    same-parents = low-parents w y (here .ok .links) (kept .low)
 
     same-stack : stack-of y d ≡ stack-of w d
     same-stack = stack-same w y d (kept .low) (here .ok .tops .deep)
@@ -314,25 +313,26 @@ module _ {w x : List ℕ} {d c n m e : ℕ} (u : Visiting w x d c n m e) where
       let l : m < most-visits = u .more in
       step-at (u .from) ∙ cond-false _ _ _ (not-member (u .from) (u .new))
       ∙ cond-true _ _ _ (lt-ltb (length (seen-of w m)) most-visits (omega (arith, length-seen w m)))
-      ∙ rw (seen-x, v .bits, stack-same w x d (v .low) (here .ok .tops .deep), low-links-of w x (here .ok .links) (v .low) (u .len) e visit-low, parents-are w e (here .ok .links) visit-low)
+      ∙ rw (seen-x, v .bits, stack-same w x d (v .low) (here .ok .tops .deep), low-links-of w x (here .ok .links) (v .low) e visit-low, parents-are w e visit-low)
 
-  pub visit-asks : {k : ℕ} → k < count-at x e
-      → (Links x × Tops x d × Nodes x (m + 1) × PathsOK x (m + 1) n) × (c < n × e < ENTRIES × k < count-at x e × n + (count-at x e - k) ≤ MOST-PATHS)
-  visit-asks h = let l : m < most-visits = u .more in
-      ((visit-links, tops-x, v .nodes, paths-x), (here .slot, visit-low, h, omega (arith, spare, count-x)))
+  pub visit-asks : {k p a : ℕ} → FirstUnseen x e k p a → k < a
+      → (Links x × Tops x d × Nodes x (m + 1) × PathsOK x (m + 1) n)
+      × (c < n × e < ENTRIES × k < a × n + (a - k) ≤ MOST-PATHS × a ≡ count-at x e × p ≡ link-at x e k)
+  visit-asks f h = let l : m < most-visits = u .more in
+      ((visit-links, tops-x, v .nodes, paths-x), (here .slot, visit-low, h, omega (arith, spare, count-x, f .all), f .all, f .parent h))
 
   pub visit-asks-2 : (Links x × Tops x d × Nodes x (m + 1) × PathsOK x (m + 1) n) × (c < n × e < ENTRIES × n < MOST-PATHS)
   visit-asks-2 = ((visit-links, tops-x, v .nodes, paths-x), (here .slot, visit-low, omega (arith, few (here .ok))))
 
-  module _ {k : ℕ} (f : FirstUnseen x e k) where
-    link-low : (j : ℕ) → j < count-at x e → at x (PARENTS + e * MAX-PARENTS + j) / 2 < ENTRIES
+  module _ {k p a : ℕ} (f : FirstUnseen x e k p a) where
+    link-low : (j : ℕ) → j < count-at x e → link-at x e j / 2 < ENTRIES
     link-low j l = omega (arith, visit-links .links e j visit-low l)
 
     skipped : upward S′ B′ (parents-of x e) ≡ upward S′ B′ (drop k (parents-of x e))
     unfolding S′
     skipped =
-        let b = f .within in
-        up-skip x e visit-links visit-low S′ B′ k b (λ j l. sym (v .nodes .marks _ (link-low j (omega arith))) ∙ f .passed j l)
+        let b : k ≤ count-at x e = omega (arith, f .within, f .all) in
+        up-skip x e S′ B′ k b (λ j l. sym (v .nodes .marks _ (link-low j (omega arith))) ∙ f .passed j l)
 
     module _ {y : List ℕ} {n′ : ℕ} (ly : length y ≡ length x) where
       -- The words are sound again, after the list was changed.
@@ -354,20 +354,21 @@ module _ {w x : List ℕ} {d c n m e : ℕ} (u : Visiting w x d c n m e) where
       kept-y : {list : List Trail} → Relisted x y (m + 1) n′ list → Kept w y
       kept-y r = record { low = λ j l. r .low j (omega arith) ∙ v .low j l; high = λ j l. r .high j l ∙ v .high j (omega arith) }
 
-      pub visit-up : k < count-at x e
+      pub visit-up : k < a
           → Relisted x y (m + 1) n′
-          (set (trails-of x n) c (trail 0 (node-bits x (m + 1)) (at x (PARENTS + e * MAX-PARENTS + k))) ++ (copies x (m + 1) e (k + 1) ++ stacked x (m + 1) e d))
+          (set (trails-of x n) c (trail 0 (node-bits x (m + 1)) (link-at x e k)) ++ (copies x (m + 1) e (k + 1) ++ stacked x (m + 1) e d))
           → Steps w y d c n m (On (c + 1) (search-of n′ (m + 1) d))
       unfolding S′ B′
       visit-up h r =
-          let q : Trail = trail 0 (node-bits x (m + 1)) (at x (PARENTS + e * MAX-PARENTS + k)) in
+          let l : k < count-at x e = omega (arith, f .all) in
+          let q : Trail = trail 0 (node-bits x (m + 1)) (link-at x e k) in
           let up : List Trail = copies x (m + 1) e (k + 1) in
           let side : List Trail = stacked x (m + 1) e d in
           let s : step (parents-of-all w) (stack-of w d) (seen-of w m) (trail-of w c) ≡ stays q (up ++ side) (seen-of x (m + 1)) =
           step-visit ∙ ap (λ (l : List Trail). moves l side (seen-of x (m + 1)))
-          (skipped ∙ up-new x e visit-links visit-low S′ B′ k h (sym (v .nodes .marks _ (link-low k h)) ∙ f .stands h)) in
+          (skipped ∙ up-new x e S′ B′ k l (sym (v .nodes .marks _ (link-low k l)) ∙ f .stands h)) in
           let few-up : length up ≤ count-at w e - (k + 1) =
-          omega (arith, length-upward S′ B′ (drop (k + 1) (parents-of x e)), length-drop (k + 1) (parents-of x e), length-links x e visit-links visit-low, count-x) in
+          omega (arith, length-upward S′ B′ (drop (k + 1) (parents-of x e)), length-drop (k + 1) (parents-of x e), length-links x e, count-x) in
           let b : n′ ≤ n + count-at w e + 1 =
           omega (
             arith,
@@ -383,13 +384,13 @@ module _ {w x : List ℕ} {d c n m e : ℕ} (u : Visiting w x d c n m e) where
           (r .trails ∙ ap (λ (l : List Trail). set l c q ++ (up ++ side)) trails-x)
           (low-seen x y (m + 1) (v .nodes) (r .low))
 
-      pub visit-off : count-at x e ≤ k → Relisted x y (m + 1) n′ (swap-remove (trails-of x n ++ stacked x (m + 1) e d) c (trail-of x c))
+      pub visit-off : a ≤ k → Relisted x y (m + 1) n′ (swap-remove (trails-of x n ++ stacked x (m + 1) e d) c (trail-of x c))
           → Steps w y d c n m (On c (search-of n′ (m + 1) d))
       unfolding S′ B′
       visit-off h r =
           let side : List Trail = stacked x (m + 1) e d in
           let s : step (parents-of-all w) (stack-of w d) (seen-of w m) (trail-of w c) ≡ dropped side (seen-of x (m + 1)) =
-          step-visit ∙ ap (λ (l : List Trail). moves l side (seen-of x (m + 1))) (skipped ∙ up-end x e visit-links visit-low S′ B′ k h) in
+          step-visit ∙ ap (λ (l : List Trail). moves l side (seen-of x (m + 1))) (skipped ∙ up-end x e S′ B′ k (omega (arith, f .all))) in
           let hx : trail-of x c ≡ trail-of w c =
           sym (at-trails x n c (trail-of w c) (here .slot)) ∙ ap (λ (l : List Trail). getD l c (trail-of w c)) trails-x
           ∙ at-trails w n c (trail-of w c) (here .slot) in

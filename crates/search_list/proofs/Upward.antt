@@ -2,66 +2,58 @@
 -- Assumes nothing.
 use mathlib.Core.Path.{_≡_, refl, sym, ap, ap₂, _∙_}
 use mathlib.Core.Bool.{Bool, true, false, cond}
-use mathlib.Core.List.{List, [], _∷_, map}
-use Prim.Native.Nat.{ℕ, zero, suc, _+_, _*_, _/_, _≤_, _<_}
+use mathlib.Core.List.{List, [], _∷_}
+use Prim.Native.Nat.{ℕ, zero, suc, _+_, _/_, _≤_, _<_}
 use native.Mathlib.Omega.{arith}
 use native.Mathlib.Numerals.{add-one}
-use lib.ListN.{length, getD, drop, length-map, drop-of-length-le}
+use lib.ListN.{length, drop, drop-of-length-le}
 use lib.Seq.{drop-cons}
 use lib.Dec.{ltb}
 use borrow.Author.Tests.{lt-ltb, ltb-true}
 use Rattle.spec_search.specs.Search.{Trail, at-entry, member, upward}
 use Rattle.words.specs.Choice.{cond-true, cond-false, by-cond}
-use Rattle.words.specs.Words.{at, part, WORK}
-use Rattle.work_layout.specs.Layout.{PARENTS, COUNTS, SEEN, ENTRIES, MAX-PARENTS}
-use Rattle.work_layout.specs.Rows.{parent-of, parents-of}
+use Rattle.words.specs.Words.{at, tabulate}
+use Rattle.work_layout.specs.Layout.{COUNTS, SEEN, ENTRIES}
+use Rattle.work_layout.specs.Rows.{link-at, parent-of, parents-of}
+use Rattle.work_layout.specs.Parents.{link-same}
 use Rattle.search_list.specs.State.{parents-of-all, count-at}
 use Rattle.search_list.specs.Steps.{Links}
 use Rattle.path.specs.Bytes.{odd}
-use Rattle.words.proofs.Words.{part-length, part-at, part-same}
+use Rattle.words.proofs.Words.{length-tabulate, getD-tabulate, tabulate-same}
 
-map-getD : (xs : List ℕ) (i : ℕ) (d : ℕ) → getD (map parent-of xs) i (parent-of d) ≡ parent-of (getD xs i d)
-map-getD [] i d = refl
-map-getD (x ∷ xs) zero d = refl
-map-getD (x ∷ xs) (suc i) d = map-getD xs i d
-
-module _ (w : List ℕ) (e : ℕ) (ok : Links w) (h : e < ENTRIES) where
-  within : PARENTS + e * MAX-PARENTS + count-at w e ≤ length w
-  within = omega (arith, ok .long, ok .counts e h)
-
+module _ (w : List ℕ) (e : ℕ) where
   pub length-links : length (parents-of w e) ≡ count-at w e
   unfolding parents-of
-  length-links = length-map (part w (PARENTS + e * MAX-PARENTS) (count-at w e)) parent-of ∙ part-length w (PARENTS + e * MAX-PARENTS) (count-at w e) within
+  length-links = length-tabulate (count-at w e) (λ i. parent-of (link-at w e i))
 
-  pub links-cons : (i : ℕ) → i < count-at w e → drop i (parents-of w e) ≡ parent-of (at w (PARENTS + e * MAX-PARENTS + i)) ∷ drop (i + 1) (parents-of w e)
+  pub links-cons : (i : ℕ) → i < count-at w e → drop i (parents-of w e) ≡ parent-of (link-at w e i) ∷ drop (i + 1) (parents-of w e)
   unfolding parents-of
   links-cons i l =
       drop-cons (parents-of w e) i (parent-of 0) (rw length-links l)
       ∙ ap₂ {C = List (ℕ × Bool)} (λ q k. q ∷ drop k (parents-of w e))
-      (map-getD (part w (PARENTS + e * MAX-PARENTS) (count-at w e)) i 0 ∙ ap parent-of (part-at w (PARENTS + e * MAX-PARENTS) (count-at w e) i l))
-      (sym (add-one i))
+      (getD-tabulate (count-at w e) (λ j. parent-of (link-at w e j)) i (parent-of 0) l) (sym (add-one i))
 
   pub links-end : (i : ℕ) → count-at w e ≤ i → drop i (parents-of w e) ≡ []
   links-end i l = let b : length (parents-of w e) ≤ i = omega (arith, length-links) in drop-of-length-le (parents-of w e) b
 
-  pub parents-are : parents-of-all w e ≡ parents-of w e
+  pub parents-are : e < ENTRIES → parents-of-all w e ≡ parents-of w e
   unfolding parents-of-all
-  parents-are = cond-true _ _ _ (lt-ltb e ENTRIES h)
+  parents-are h = cond-true _ _ _ (lt-ltb e ENTRIES h)
 
   module _ (seen : List ℕ) (bits : List Bool) where
-    pub up-seen : (i : ℕ) → i < count-at w e → member (at w (PARENTS + e * MAX-PARENTS + i) / 2) seen ≡ true
+    pub up-seen : (i : ℕ) → i < count-at w e → member (link-at w e i / 2) seen ≡ true
         → upward seen bits (drop i (parents-of w e)) ≡ upward seen bits (drop (i + 1) (parents-of w e))
     up-seen i l t = ap (upward seen bits) (links-cons i l) ∙ cond-true _ _ _ t
 
-    pub up-new : (i : ℕ) → i < count-at w e → member (at w (PARENTS + e * MAX-PARENTS + i) / 2) seen ≡ false
-        → upward seen bits (drop i (parents-of w e)) ≡ at-entry bits (at w (PARENTS + e * MAX-PARENTS + i) / 2) (odd (at w (PARENTS + e * MAX-PARENTS + i))) ∷ upward seen bits
+    pub up-new : (i : ℕ) → i < count-at w e → member (link-at w e i / 2) seen ≡ false
+        → upward seen bits (drop i (parents-of w e)) ≡ at-entry bits (link-at w e i / 2) (odd (link-at w e i)) ∷ upward seen bits
         (drop (i + 1) (parents-of w e))
     up-new i l t = ap (upward seen bits) (links-cons i l) ∙ cond-false _ _ _ t
 
     pub up-end : (i : ℕ) → count-at w e ≤ i → upward seen bits (drop i (parents-of w e)) ≡ []
     up-end i l = ap (upward seen bits) (links-end i l)
 
-    pub up-skip : (i : ℕ) → i ≤ count-at w e → ((j : ℕ) → j < i → member (at w (PARENTS + e * MAX-PARENTS + j) / 2) seen ≡ true)
+    pub up-skip : (i : ℕ) → i ≤ count-at w e → ((j : ℕ) → j < i → member (link-at w e j / 2) seen ≡ true)
         → upward seen bits (parents-of w e) ≡ upward seen bits (drop i (parents-of w e))
     up-skip zero l t = refl
     up-skip (suc i) l t =
@@ -75,14 +67,15 @@ length-upward seen bits (q ∷ qs) =
     (λ c. omega (arith, length-upward seen bits qs)) (λ c. omega (arith, length-upward seen bits qs))
 
 -- The words below the search's own are the same.
-module _ (w w′ : List ℕ) (ok : Links w) (low : (k : ℕ) → k < SEEN → at w′ k ≡ at w k) (len : length w′ ≡ length w) where
+module _ (w w′ : List ℕ) (ok : Links w) (low : (k : ℕ) → k < SEEN → at w′ k ≡ at w k) where
+  pub low-link : (e i : ℕ) → e < ENTRIES → i < count-at w e → link-at w′ e i ≡ link-at w e i
+  low-link e i h l = link-same w w′ e i h (omega (arith, ok .counts e h)) (λ k q. low k)
+
   pub low-links-of : (e : ℕ) → e < ENTRIES → parents-of w′ e ≡ parents-of w e
   unfolding parents-of
   low-links-of e h =
-      let b : at w (COUNTS + e) ≤ MAX-PARENTS = ok .counts e h in
-      let l : WORK ≤ length w = ok .long in
-      ap (λ (k : ℕ). map parent-of (part w′ (PARENTS + e * MAX-PARENTS) k)) (low (COUNTS + e) (omega arith))
-      ∙ ap (map parent-of) (part-same w w′ (PARENTS + e * MAX-PARENTS) (at w (COUNTS + e)) (omega arith) len (λ i k. low (PARENTS + e * MAX-PARENTS + i) (omega arith)))
+      ap (λ (k : ℕ). tabulate k (λ i. parent-of (link-at w′ e i))) (low (COUNTS + e) (omega arith))
+      ∙ tabulate-same (count-at w e) (λ i. parent-of (link-at w e i)) (λ i. parent-of (link-at w′ e i)) (λ i l. ap parent-of (low-link e i h l))
 
   pub low-parents : parents-of-all w′ ≡ parents-of-all w
   unfolding parents-of-all
@@ -92,12 +85,9 @@ module _ (w w′ : List ℕ) (ok : Links w) (low : (k : ℕ) → k < SEEN → at
       go e true q = ap (λ (x : List (ℕ × Bool)). cond (ltb e ENTRIES) x []) (low-links-of e (ltb-true e ENTRIES q))
       go e false q = cond-false _ _ _ q ∙ sym (cond-false _ _ _ q)
 
-  pub low-links : Links w′
-  low-links = let l : WORK ≤ length w = ok .long in record {
-    long = omega arith;
+  pub low-links : length w′ ≡ length w → Links w′
+  low-links len = record {
+    long = omega (arith, ok .long);
     counts = λ x h. rw (low (COUNTS + x) (omega arith)) (ok .counts x h);
-    links = λ x i h q.
-        let b : at w (COUNTS + x) ≤ MAX-PARENTS = ok .counts x h in
-        let q′ : i < at w (COUNTS + x) = rw (low (COUNTS + x) (omega arith)) at q in
-        rw (low (PARENTS + x * MAX-PARENTS + i) (omega arith)) (ok .links x i h q′);
+    links = λ x i h q. let l : i < count-at w x = rw (low (COUNTS + x) (omega arith)) at q in rw (low-link x i h l) (ok .links x i h l);
   }

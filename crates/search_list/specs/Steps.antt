@@ -10,8 +10,8 @@ use Rattle.words.specs.Words.{at, WORK}
 use Rattle.path.specs.Bytes.{odd}
 use Rattle.spec_search.specs.Search.{Trail, member, distance, upward, sideward, Passed, found, gone, most-visits}
 use Rattle.spec_search.specs.Lists.{size}
-use Rattle.work_layout.specs.Layout.{COUNTS, PARENTS, SEEN, PREVS, LENS, PATHS, COPIES, ENTRIES, DEPTH, MAX-PARENTS}
-use Rattle.work_layout.specs.Rows.{parents-of, stack-of, Tops}
+use Rattle.work_layout.specs.Layout.{COUNTS, SEEN, PREVS, LENS, PATHS, COPIES, ENTRIES, DEPTH, MAX-PARENTS}
+use Rattle.work_layout.specs.Rows.{link-at, parents-of, stack-of, Tops}
 use Rattle.search_list.specs.declared.Search.{Search}
 use Rattle.search_list.specs.declared.Turned.{Turned}
 use Rattle.search_list.specs.declared.Turned.the-variants.{On, Result, Capped}
@@ -24,7 +24,7 @@ use Rattle.search_list.specs.Cursor.{goes, Mid, ahead}
 pub record Links (w : List ℕ) : Type 0 where
   pub long : WORK ≤ length w
   pub counts : (x : ℕ) → x < ENTRIES → at w (COUNTS + x) ≤ MAX-PARENTS
-  pub links : (x i : ℕ) → x < ENTRIES → i < at w (COUNTS + x) → at w (PARENTS + x * MAX-PARENTS + i) < 2 * ENTRIES
+  pub links : (x i : ℕ) → x < ENTRIES → i < at w (COUNTS + x) → link-at w x i < 2 * ENTRIES
 
 -- m nodes, and the bit set of the entries seen mirrors them.
 pub record Nodes (w : List ℕ) (m : ℕ) : Type 0 where
@@ -114,11 +114,13 @@ stacked w m e d = sideward (node-bits w m) (distance e (stack-of w d))
 
 -- ---- reads
 
--- The first of the entry's parents that is not seen, or how many there are.
-pub record FirstUnseen (w : List ℕ) (e i : ℕ) : Type 0 where
-  pub within : i ≤ count-at w e
-  pub passed : (j : ℕ) → j < i → seen-at w (at w (PARENTS + e * MAX-PARENTS + j) / 2) ≡ true
-  pub stands : i < count-at w e → seen-at w (at w (PARENTS + e * MAX-PARENTS + i) / 2) ≡ false
+-- Entry e has n parents. The first of them that is not seen is parent i, whose number is v; where each is seen i is n.
+pub record FirstUnseen (w : List ℕ) (e i v n : ℕ) : Type 0 where
+  pub all : n ≡ count-at w e
+  pub within : i ≤ n
+  pub passed : (j : ℕ) → j < i → seen-at w (link-at w e j / 2) ≡ true
+  pub stands : i < n → seen-at w (link-at w e i / 2) ≡ false
+  pub parent : i < n → v ≡ link-at w e i
 
 -- The distance from the top, on a stack of d entries, by a word of TOPS.
 abbrev pub from-top : ℕ → ℕ → Option ℕ

@@ -2,12 +2,13 @@
 use crate::Search;
 use work_layout::EntryIndex;
 use work_layout::parents;
+ghost use mathlib.Core.Path.{_≡_};
 ghost use mathlib.Core.List.{_++_, _∷_, []};
 ghost use Prim.Native.Nat.{_+_, _-_, _*_, _≤_, _<_};
 ghost use lib.ListN.{length};
-ghost use Rattle.words.specs.Words.{at, WORK};
-ghost use Rattle.work_layout.specs.Layout.{ENTRIES, PARENTS, MAX-PARENTS};
-ghost use Rattle.work_layout.specs.Rows.{parent-of, Tops};
+ghost use Rattle.words.specs.Words.{WORK};
+ghost use Rattle.work_layout.specs.Layout.{ENTRIES};
+ghost use Rattle.work_layout.specs.Rows.{link-at, parent-of, Tops};
 ghost use Rattle.spec_search.specs.Search.{upward, most-visits};
 ghost use Rattle.search_list.specs.Steps.{PathsOK, copies, stacked, Links, Nodes, Relisted, Visited};
 ghost use Rattle.search_list.specs.State.{seen-of, node-bits, trails-of, node-at, place-at, count-at, MOST-PATHS};
@@ -36,7 +37,7 @@ fn add_copy(work: &mut [u32], e: EntryIndex, i: usize, paths: usize, nodes: usiz
         Relisted (now (work .entry)) (now (work .exit)) nodes r
         (trails-of (now (work .entry)) paths
         ++ upward (seen-of (now (work .entry)) nodes) (node-bits (now (work .entry)) nodes)
-        (parent-of (at (now (work .entry)) (PARENTS + e .0 * MAX-PARENTS + i)) ∷ [])) ⌝ }
+        (parent-of (link-at (now (work .entry)) (e .0) i) ∷ [])) ⌝ }
 {
     let p = parents::parent_at(work, e, i);
     if crate::is_seen(work, p.entry()) {
@@ -46,15 +47,14 @@ fn add_copy(work: &mut [u32], e: EntryIndex, i: usize, paths: usize, nodes: usiz
     paths + 1
 }
 
-// A path with the bits of the last node at each unseen parent of entry e from parent `first` on.
-pub fn add_copies(work: &mut [u32], e: EntryIndex, first: usize, s: Search) -> usize
+// A path with the bits of the last node at each unseen parent of entry e, which has `all`, from parent `first` on.
+pub fn add_copies(work: &mut [u32], e: EntryIndex, first: usize, all: usize, s: Search) -> usize
     requires { ⌜ (Links (now work)) × (Nodes (now work) (s .nodes)) × (PathsOK (now work) (s .nodes) (s .paths)) ⌝ }
-    requires { ⌜ (e .0 < ENTRIES) × (first ≤ count-at (now work) (e .0)) × (s .paths + (count-at (now work) (e .0) - first) ≤ MOST-PATHS) ⌝ }
+    requires { ⌜ (e .0 < ENTRIES) × (first ≤ all) × (s .paths + (all - first) ≤ MOST-PATHS) × (all ≡ count-at (now work) (e .0)) ⌝ }
     ensures { λ r. ⌜
         Relisted (now (work .entry)) (now (work .exit)) (s .nodes) r
         (trails-of (now (work .entry)) (s .paths) ++ copies (now (work .entry)) (s .nodes) (e .0) first) ⌝ }
 {
-    let all = parents::count_of(work, e);
     let mut paths = s.paths;
     let mut i = first;
     while i < all {

@@ -213,7 +213,7 @@ module _ {w y : List ℕ} {d e : ℕ} (b : Begun w y d e) where
     unfolding all
     finds {v} {len} lim a u q = record {
       answer =
-          ap₂ {C = Option (List Bool)} (λ P S. search P S len e) (sym (low-parents w y (b .links) (b .started .kept .low) (b .len)))
+          ap₂ {C = Option (List Bool)} (λ P S. search P S len e) (sym (low-parents w y (b .links) (b .started .kept .low)))
           (sym (stack-same w y d (b .started .kept .low) (b .tops .deep))) ∙ limited y d len e limit tops-y lim
           ∙ ap (λ (list : List Trail). passes (parents-of-all y) (stack-of y d) (suc limit) 0 list []) (sym (b .started .trails)) ∙ a;
       usable = u;
@@ -248,7 +248,7 @@ module _ {w y : List ℕ} {d e : ℕ} (b : Begun w y d e) where
           ∙ pass-of (parents-of-all y) (stack-of y d) (limit - l) l (trails-of z (s .paths)) (seen-of z (s .nodes))
           (omega (arith, length-trails z (s .paths)))
           ∙ ap (then (passes (parents-of-all y) (stack-of y d) (limit - l) (suc l)))
-          (ap₂ {C = Passed} (λ P S. goes P S l (trails-of z (s .paths)) 0 (seen-of z (s .nodes))) (sym (low-parents y z links-y (k .kept .low) (k .len)))
+          (ap₂ {C = Passed} (λ P S. goes P S l (trails-of z (s .paths)) 0 (seen-of z (s .nodes))) (sym (low-parents y z links-y (k .kept .low)))
           (sym (stack-same y z d (k .kept .low) (tops-y .deep)) ∙ ap (stack-of z) (sym (k .deep))) ∙ q)
 
       pub search-more : {v : List ℕ} {s′ : Search} → length v ≡ length z → Passes z v l s (Next s′) → Searching y v d limit (l + 1) s′

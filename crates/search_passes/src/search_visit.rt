@@ -3,7 +3,6 @@ use search_list::Search;
 use search_list::Turned;
 use search_list::search_copies;
 use search_list::search_moves;
-use work_layout::parents;
 ghost use mathlib.Core.Path.{_≡_};
 ghost use mathlib.Core.Bool.{false};
 ghost use Prim.Native.Nat.{_/_, _<_};
@@ -29,7 +28,7 @@ fn visit(work: &mut [u32], slot: usize, s: Search) -> Turned
     let mut next = s;
     next.nodes += 1;
     let k = search_moves::first_unseen(work, e);
-    if k < parents::count_of(work, e) {
+    if k.place < k.all {
         let paths = search_moves::go_up(work, slot, next, e, k);
         next.paths = paths;
         return Turned::On(slot + 1, next);

@@ -1,10 +1,9 @@
 -- `search_list::search_moves::first_unseen` meets its contract: every parent before it is seen.
 -- Assumes nothing.
 use Rattle.search_list.proofs.Copies.{Seeking, seeking-start, seeking-more, seeking-found, seeking-none}
-use Rattle.words.specs.Words.{at}
-use Rattle.work_layout.specs.Layout.{PARENTS, MAX-PARENTS}
+use Rattle.work_layout.specs.Rows.{link-at}
 use Rattle.search_list.specs.State.{seen-at, count-at}
-use Prim.Native.Nat.{ℕ, _+_, _*_, _-_, _/_, _<_}
+use Prim.Native.Nat.{ℕ, _-_, _/_, _<_}
 use mathlib.Core.Path.{_≡_, ap, sym, _∙_}
 use borrow.Author.Tests.{not-true, not-false}
 use borrow.Author.Needs.{needs}
@@ -26,7 +25,7 @@ abbrev start : tie.After-is-seen Inv-loop μ-loop → tie.Start Inv-loop μ-loop
 start x = x .before .before .before .before .before .before .before
 
 seen : (x : tie.After-is-seen Inv-loop μ-loop)
-    → seen-at (start x .args .work .now) (at (start x .args .work .now) (PARENTS + start x .args .e .0 * MAX-PARENTS + x .before .before .before .before .loop .i) / 2) ≡ x .is-seen .result
+    → seen-at (start x .args .work .now) (link-at (start x .args .work .now) (start x .args .e .0) (x .before .before .before .before .loop .i) / 2) ≡ x .is-seen .result
 seen x =
     ap (seen-at (start x .args .work .now)) (sym (x .before .entry .ensures ∙ ap (λ (z : ℕ). z / 2) (x .before .before .parent-at .ensures)))
     ∙ sym (x .is-seen .ensures)
@@ -54,9 +53,11 @@ is-seen-requires c κs =
 returns : tie.Need-returns Inv-loop μ-loop
 returns c =
     let s = c .before .before .before .before .before .before .before .before in
-    let k = c .before .before .before .before .before .loop in
-    seeking-found (s .args .work .now) (s .args .e .0) (k .i) (k .inv)
-    (seen (c .before) ∙ not-true _ (c .if1 .taken))
+    let p = c .before .before .before in
+    let k = p .before .before .loop in
+    let n = p .before .before .before .count-of in
+    seeking-found (s .args .work .now) (s .args .e .0) (k .i) (p .parent-at .result .0) (n .result) (n .ensures .0) (k .inv)
+    (seen (c .before) ∙ not-true _ (c .if1 .taken)) (p .parent-at .ensures)
 
 add-i : tie.Need-add-i Inv-loop μ-loop
 add-i c = omega arith
@@ -74,8 +75,8 @@ loop-again c =
 returns-2 : tie.Need-returns-2 Inv-loop μ-loop
 returns-2 c =
     let s = c .before .before .before .before in
-    seeking-none (s .args .work .now) (s .args .e .0) (c .before .loop .i) (c .before .loop .inv)
-    (omega (arith, c .loop-test .left, c .before .before .count-of .ensures .0))
+    let n = c .before .before .count-of in
+    seeking-none (s .args .work .now) (s .args .e .0) (c .before .loop .i) 0 (n .result) (n .ensures .0) (c .before .loop .inv) (omega arith)
 
 pub first-unseen-spec : {M : Type 1} → statement M
 first-unseen-spec =

@@ -45,41 +45,38 @@ add-next c = search needs
 first-unseen-requires : tie.Need-first-unseen-requires
 first-unseen-requires c κs = let u = visiting (c .before .before .before .before) in (visit-links u, visit-low u)
 
-count-of-requires : tie.Need-count-of-requires
-count-of-requires c κs = let u = visiting (c .before .before .before .before .before .before) in (visit-links u .long, visit-low u, visit-links u .counts _ (visit-low u))
-
 go-up-requires : tie.Need-go-up-requires
-go-up-requires c κs = visit-asks (visiting (c .before .before .before .before .before .before .before .before .before)) (rw (c .before .before .count-of .ensures .0) at (c .before .if1 .taken))
+go-up-requires c κs =
+    let f = c .before .before .before in
+    visit-asks (visiting (f .before .before .before .before .before)) (f .first-unseen .ensures) (c .before .if1 .taken)
 
-add-t22 : tie.Need-add-t22
-add-t22 c = search needs
+add-t19 : tie.Need-add-t19
+add-t19 c = search needs
 
 same-length : tie.Need-same-length
 same-length c =
-    let f = c .before .before .before .before .before .before .before in
+    let f = c .before .before .before .before .before .before in
     c .before .before .go-up .kept .0 ∙ f .before .before .before .before .before .add-node .kept .0
 
 returns : tie.Need-returns
 returns c =
     let g = c .before .before .go-up in
-    let f = c .before .before .before .before .before .before .before in
-    visit-up (visiting (f .before .before .before .before .before)) (f .first-unseen .ensures) (g .kept .0)
-    (rw (c .before .before .before .before .before .count-of .ensures .0) at (c .before .before .before .before .if1 .taken)) (g .ensures)
+    let f = c .before .before .before .before .before .before in
+    visit-up (visiting (f .before .before .before .before .before)) (f .first-unseen .ensures) (g .kept .0) (c .before .before .before .before .if1 .taken) (g .ensures)
 
 go-off-requires : tie.Need-go-off-requires
-go-off-requires c κs = visit-asks-2 (visiting (c .before .before .before .before .before .before .before .before .before))
+go-off-requires c κs = visit-asks-2 (visiting (c .before .before .before .before .before .before .before .before))
 
 same-length-2 : tie.Need-same-length-2
 same-length-2 c =
-    let f = c .before .before .before .before .before .before .before in
+    let f = c .before .before .before .before .before .before in
     c .before .before .go-off .kept .0 ∙ f .before .before .before .before .before .add-node .kept .0
 
 returns-2 : tie.Need-returns-2
 returns-2 c =
     let g = c .before .before .go-off in
-    let f = c .before .before .before .before .before .before .before in
-    visit-off (visiting (f .before .before .before .before .before)) (f .first-unseen .ensures) (g .kept .0)
-    (rw (c .before .before .before .before .before .count-of .ensures .0) at (c .before .before .before .before .if1 .left)) (g .ensures)
+    let f = c .before .before .before .before .before .before in
+    visit-off (visiting (f .before .before .before .before .before)) (f .first-unseen .ensures) (g .kept .0) (c .before .before .before .before .if1 .left) (g .ensures)
 
 pub visit-spec : {M : Type 1} → statement M
 visit-spec =
@@ -89,9 +86,8 @@ visit-spec =
     add-node-requires
     add-next
     first-unseen-requires
-    count-of-requires
     go-up-requires
-    add-t22
+    add-t19
     same-length
     returns
     go-off-requires
