@@ -1,6 +1,6 @@
 -- How large the cache grows: its entries, their parents, and the handles mapped; the bounds of a whole run.
 -- Assumes nothing.
-use Prim.Native.Nat.{ℕ, zero, suc, _+_, _-_, _*_, _%_, _≤_, _<_}
+use Prim.Native.Nat.{ℕ, zero, suc, _+_, _-_, _*_, _%_, _^_, _≤_, _<_}
 use mathlib.Core.Path.{_≡_, refl, sym, ap, _∙_, subst}
 use mathlib.Core.Bool.{Bool, true, false, cond}
 use mathlib.Core.List.{List, [], _∷_, _++_}
@@ -225,6 +225,27 @@ lookup-below n h (m ∷ ms) e a q = go (eqb h (m .0)) q (lookup-below n h ms e (
     go : (b : Bool) → cond b (some (m .1)) (lookup h ms) ≡ some e → (lookup h ms ≡ some e → e < n) → e < n
     go true q ih = omega (arith, a .0, Option·some-injective (m .1) e q)
     go false q ih = ih q
+
+-- ---- entry numbers
+
+-- A parent's entry number is below 4,096, and what a parent list holds, entry × 2 + position, takes 16 bits.
+abbrev pub ParentFits : Parent → Type 0
+ParentFits p = (p .0 < 4096) × (p .0 * 2 + bit (p .1) < 2 ^ 16)
+
+-- "Entry numbers never pass 4,096, so the parent lists hold them in 16 bits." Entries are numbered from 0 in the order of the list.
+pub record EntryNumbersFit (c : Cache) : Type 0 where
+  pub entries-fit : length (c .entries) ≤ 4096
+  -- Each parent of each entry.
+  pub parents-fit : All (λ (x : Entry). All ParentFits (x .parents)) (c .entries)
+
+parent-fits : (n : ℕ) → n ≤ 4096 → (p : Parent) → p .0 < n → ParentFits p
+parent-fits n h (e, false) l = (omega arith, omega arith)
+parent-fits n h (e, true) l = (omega arith, omega arith)
+
+all-parents-fit : (n : ℕ) → n ≤ 4096 → (es : List Entry) → All (EntryOK n) es → All (λ (x : Entry). All ParentFits (x .parents)) es
+all-parents-fit n h es k =
+    all-map (EntryOK n) (λ (x : Entry). All ParentFits (x .parents))
+    (λ x o. all-map (λ (p : Parent). p .0 < n) ParentFits (parent-fits n h) (x .parents) (o .1)) es k
 
 -- ---- a cache within its bounds
 
@@ -734,3 +755,9 @@ module _ (measure : List Bool → ℕ) (space : ℕ) (f : File) where
 
     pub run-bounded : Bounded (length (f .pairs)) end-cache
     run-bounded = end-held .bounded
+
+    -- Undo included: the entries and parents of an undone add stay.
+    pub run-entry-numbers : EntryNumbersFit end-cache
+    run-entry-numbers =
+        let most : length (end-cache .entries) ≤ 4096 = omega (arith, run-entries) in
+        record { entries-fit = most; parents-fit = all-parents-fit (length (end-cache .entries)) most (end-cache .entries) (run-bounded .parents-ok) }

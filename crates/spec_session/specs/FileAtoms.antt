@@ -6,13 +6,13 @@ use mathlib.Core.List.{List, [], _∷_, _++_, map}
 use native.Mathlib.Omega.{arith}
 use lib.Dec.{leb}
 use lib.ListN.{length, take, drop, length-take, length-drop}
-use Rattle.spec_session.specs.FileLaws.{then-of, asked-of, got-value, got-rest}
-use Rattle.words.specs.Lists.{All, all-append, all-take, all-drop, same, all-or}
+use Rattle.spec_session.specs.FileLaws.{by-first, asked-of, got-value, got-rest, parts-read}
+use Rattle.words.specs.Lists.{All, all-append, all-take, all-drop, all-or}
 use Rattle.words.specs.Choice.{by-cond}
 use Rattle.allocator.specs.Handle.{pair, node-of, node-of-kind, handle-of}
 use Rattle.allocator.specs.SmallAtom.{small-bytes, fits-in-small-atom}
 use Rattle.allocator.specs.SmallAtomLaws.{bytes-small-bytes, len-at-most, length-small-bytes}
-use Rattle.spec_session.specs.File.{File, Pair, Limits, Got, got, and-then, asked, bytes-of, field, count, listed, atom, atoms, pairs, sentinel, steps, mark, after-mark, file}
+use Rattle.spec_session.specs.File.{File, Pair, Limits, got, asked, bytes-of, field, count, listed, atom, atoms, file}
 use Rattle.spec_session.specs.Unfold.{Unfolded, hole, leaf, node, is-sentinel, named-by, unfold-with, unfold-pairs, unfolded}
 use Rattle.spec_session.specs.Kept.{Leaves}
 use Rattle.spec_session.specs.Formed.{Atom}
@@ -53,10 +53,6 @@ module _ (f : File) (listed-are : All Atom (f .atoms)) where
 
 -- ---- the file's own atoms
 
--- Where reading went on to the end, by what was read first.
-by-first : {A B : Type 0} {P : Type 0} (g : Got A) (k : A → List ℕ → Got B) (b : B) (r : List ℕ) → and-then g k ≡ got b r → ((a : A) (s : List ℕ) → g ≡ got a s → k a s ≡ got b r → P) → P
-by-first g k b r e h = let t = then-of g k b r e in h (t .first) (t .rest) (t .first-is) (t .then-is)
-
 part-take : (n : ℕ) (s : List ℕ) → Atom s → Atom (take n s)
 part-take n s h = (omega (arith, length-take n s, h .0), all-take (λ (x : ℕ). x < 256) n s (h .1))
 
@@ -94,15 +90,7 @@ count-rest w most s v r h e =
 
 -- The atoms of a file that is not refused.
 pub file-atoms : (l : Limits) (input : List ℕ) (f : File) (r : List ℕ) → Atom input → file l input ≡ got f r → All Atom (f .atoms)
-unfolding file
 file-atoms l input f r h e =
-    by-first (count (l .count-bytes) (l .atoms) (drop 5 input)) _ f r
-    (asked-of 3 (same (take 5 input) (mark l)) (after-mark l (drop 5 input)) f r
-    (asked-of 2 (leb (length input) (l .file-bytes)) (asked 3 (same (take 5 input) (mark l)) (after-mark l (drop 5 input))) f r e .1) .1) (λ na s₁ i₁ e₁.
-    by-first (atoms l na 0 [] s₁) _ f r e₁ (λ xs s₂ i₂ e₂.
-    by-first (count (l .count-bytes) (l .pairs) s₂) _ f r e₂ (λ np s₃ i₃ e₃.
-    by-first (pairs (length xs) np [] s₃) _ f r e₃ (λ ps s₄ i₄ e₄.
-    by-first (sentinel (length xs) (length ps) s₄) _ f r e₄ (λ z s₅ i₅ e₅.
-    by-first (steps (length s₅) (length xs) (length ps) (l .steps) [] s₅) _ f r e₅ (λ st s₆ i₆ e₆.
-    subst (λ (x : File). All Atom (x .atoms)) (got-value (record { atoms = xs; pairs = ps; sentinel = z; steps = st }) f s₆ r e₆)
-    (atoms-parts l na 0 [] s₁ xs s₂ tt (count-rest (l .count-bytes) (l .atoms) (drop 5 input) na s₁ (part-drop 5 input h) i₁) i₂)))))))
+    let p = parts-read l input f r e in
+    let rest = count-rest (l .count-bytes) (l .atoms) (drop 5 input) (p .atom-count) (p .at-atoms) (part-drop 5 input h) (p .atom-count-is) in
+    atoms-parts l (p .atom-count) 0 [] (p .at-atoms) (f .atoms) (p .at-pair-count) tt rest (p .atoms-are)

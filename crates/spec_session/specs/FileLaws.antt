@@ -13,10 +13,11 @@ use borrow.Author.Tests.{leb-true, ltb-true, eqb-true}
 use Rattle.words.specs.Choice.{clash}
 use Rattle.words.specs.Words.{part}
 use Rattle.words.specs.BigEndian.{number}
+use Rattle.words.specs.Lists.{same}
 use Rattle.allocator.specs.Handle.{node-of}
 use Rattle.allocator.specs.SmallAtom.{fits-in-small-atom}
 use Rattle.spec_session.specs.File.{Got, got, refused, and-then, asked, bytes-of, field, count, version-1, listed, atom, atoms, named, handle}
-use Rattle.spec_session.specs.File.{Pair, one-pair, pairs, sentinel, Step, add, restore, operand, one-step, steps, File}
+use Rattle.spec_session.specs.File.{Pair, one-pair, pairs, sentinel, Step, add, restore, operand, one-step, steps, File, Limits, mark, after-mark, file}
 use Rattle.spec_session.specs.Places.{SentinelNamed, StepIs, StepNamed, step-size}
 
 not-refused : {A : Type 0} (n : ℕ) (a : A) (r : List ℕ) → _≡_ {A = Got A} (refused n) (got a r) → ⊥
@@ -32,6 +33,11 @@ pub record Then {A B : Type 0} (g : Got A) (f : A → List ℕ → Got B) (b : B
 pub then-of : {A B : Type 0} (g : Got A) (f : A → List ℕ → Got B) (b : B) (r : List ℕ) → and-then g f ≡ got b r → Then g f b r
 then-of (got a s) f b r e = record { first = a; rest = s; first-is = refl; then-is = e }
 then-of (refused n) f b r e = absurd (not-refused n b r e)
+
+-- Where reading went on to the end, by what was read first.
+pub by-first : {A B : Type 0} {P : Type 0} (g : Got A) (k : A → List ℕ → Got B) (b : B) (r : List ℕ) → and-then g k ≡ got b r
+    → ((a : A) (s : List ℕ) → g ≡ got a s → k a s ≡ got b r → P) → P
+by-first g k b r e h = let t = then-of g k b r e in h (t .first) (t .rest) (t .first-is) (t .then-is)
 
 -- A question that let reading go on got yes.
 pub asked-of : {A : Type 0} (n : ℕ) (c : Bool) (g : Got A) (a : A) (r : List ℕ) → asked n c g ≡ got a r → (c ≡ true) × (g ≡ got a r)
@@ -248,3 +254,52 @@ after-atoms xs r = and-then (count 2 1024 r) (after-pair-count xs)
 
 abbrev pub after-atom-count : ℕ → List ℕ → Got File
 after-atom-count na r = and-then (atoms version-1 na 0 [] r) after-atoms
+
+-- ---- the parts of a file that passed questions 2 to 8, each read after the one before it
+
+pub record PartsRead (l : Limits) (input : List ℕ) (f : File) : Type 0 where
+  pub atom-count : ℕ
+  pub pair-count : ℕ
+  pub at-atoms : List ℕ
+  pub at-pair-count : List ℕ
+  pub at-pairs : List ℕ
+  pub at-sentinel : List ℕ
+  pub at-steps : List ℕ
+  pub at-end : List ℕ
+  pub short : length input ≤ l .file-bytes
+  pub atom-count-is : count (l .count-bytes) (l .atoms) (drop 5 input) ≡ got atom-count at-atoms
+  pub atoms-are : atoms l atom-count 0 [] at-atoms ≡ got (f .atoms) at-pair-count
+  pub pair-count-is : count (l .count-bytes) (l .pairs) at-pair-count ≡ got pair-count at-pairs
+  pub pairs-are : pairs (length (f .atoms)) pair-count [] at-pairs ≡ got (f .pairs) at-sentinel
+  pub sentinel-is : sentinel (length (f .atoms)) (length (f .pairs)) at-sentinel ≡ got (f .sentinel) at-steps
+  pub steps-are : steps (length at-steps) (length (f .atoms)) (length (f .pairs)) (l .steps) [] at-steps ≡ got (f .steps) at-end
+
+pub parts-read : (l : Limits) (input : List ℕ) (f : File) (r : List ℕ) → file l input ≡ got f r → PartsRead l input f
+unfolding file
+parts-read l input f r e =
+    let two = asked-of 2 (leb (length input) (l .file-bytes)) (asked 3 (same (take 5 input) (mark l)) (after-mark l (drop 5 input))) f r e in
+    let three = asked-of 3 (same (take 5 input) (mark l)) (after-mark l (drop 5 input)) f r (two .1) in
+    by-first (count (l .count-bytes) (l .atoms) (drop 5 input)) _ f r (three .1) (λ na s₁ i₁ e₁.
+    by-first (atoms l na 0 [] s₁) _ f r e₁ (λ xs s₂ i₂ e₂.
+    by-first (count (l .count-bytes) (l .pairs) s₂) _ f r e₂ (λ np s₃ i₃ e₃.
+    by-first (pairs (length xs) np [] s₃) _ f r e₃ (λ ps s₄ i₄ e₄.
+    by-first (sentinel (length xs) (length ps) s₄) _ f r e₄ (λ z s₅ i₅ e₅.
+    by-first (steps (length s₅) (length xs) (length ps) (l .steps) [] s₅) _ f r e₅ (λ st s₆ i₆ e₆.
+    subst (PartsRead l input) (got-value (record { atoms = xs; pairs = ps; sentinel = z; steps = st }) f s₆ r e₆)
+    (record {
+      atom-count = na;
+      pair-count = np;
+      at-atoms = s₁;
+      at-pair-count = s₂;
+      at-pairs = s₃;
+      at-sentinel = s₄;
+      at-steps = s₅;
+      at-end = s₆;
+      short = leb-true (length input) (l .file-bytes) (two .0);
+      atom-count-is = i₁;
+      atoms-are = i₂;
+      pair-count-is = i₃;
+      pairs-are = i₄;
+      sentinel-is = i₅;
+      steps-are = i₆;
+    })))))))

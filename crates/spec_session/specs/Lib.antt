@@ -29,6 +29,7 @@ pub mod BytesRead
 pub mod TheoremBytes
 pub mod Kept
 pub mod Bounds
+pub mod EntryNumbers
 pub mod Depth
 pub mod Formed
 pub mod FileAtoms

@@ -8,13 +8,13 @@ use mathlib.Core.Bool.{Bool, true, false, cond}
 use mathlib.Core.List.{List, [], _∷_, _++_, map}
 use mathlib.Core.Option.{none}
 use native.Mathlib.Omega.{arith}
-use lib.Dec.{ltb, leb}
-use lib.ListN.{length, take, drop}
-use borrow.Author.Tests.{ltb-false, leb-true}
+use lib.Dec.{ltb}
+use lib.ListN.{length}
+use borrow.Author.Tests.{ltb-false}
 use Rattle.spec_session.specs.Output.{size-more}
-use Rattle.spec_session.specs.FileLaws.{asked-of}
-use Rattle.words.specs.Lists.{Bytes, same}
-use Rattle.spec_session.specs.File.{File, Limits, got, asked, mark, after-mark, file}
+use Rattle.spec_session.specs.FileLaws.{parts-read}
+use Rattle.words.specs.Lists.{Bytes}
+use Rattle.spec_session.specs.File.{File, Limits, got, file}
 use Rattle.spec_session.specs.Unfold.{unfolded}
 use Rattle.spec_session.specs.Premises.{Apart}
 use Rattle.spec_session.specs.Items.{Item, item-size, size-of}
@@ -36,20 +36,13 @@ room-holds space k items i h e = go (too-deep i k) (ltb space (size-of items + i
     go false true q e = absurd (omega arith)
     go false false q e = omega (arith, ltb-false space (size-of items + item-size i) q, size-more items i)
 
--- Question 2 got yes.
-file-short : (l : Limits) (input : List ℕ) (f : File) (r : List ℕ) → file l input ≡ got f r → length input ≤ l .file-bytes
-unfolding file
-file-short l input f r e =
-    leb-true (length input) (l .file-bytes)
-    (asked-of 2 (leb (length input) (l .file-bytes)) (asked 3 (same (take 5 input) (mark l)) (after-mark l (drop 5 input))) f r e .0)
-
 -- Over any limits of the file that a prefix can carry, any measure that covers a path's atom, and any output that the reading call takes.
 module _ (l : Limits) (carried : l .file-bytes < 2 ^ 34) (measure : List Bool → ℕ) (covers : Covers measure) (space : ℕ) (most : space ≤ 65535) where
   pub read-back-file : (input : List ℕ) → Bytes input → (f : File) (r : List ℕ) → file l input ≡ got f r
       → (hs : List ℕ) (q : Session) → Apart (map (unfolded f) hs) → add-all (find-in measure) (room-in space) (map (unfolded f) hs) start ≡ added q
       → q .waiting ≡ none → BytesReadBack space f hs (q .written .items)
   read-back-file input bytes f r file-is hs q apart e fin =
-      let short : length input < 2 ^ 34 = omega (arith, file-short l input f r file-is) in
+      let short : length input < 2 ^ 34 = omega (arith, parts-read l input f r file-is .short) in
       let kept =
       session-kept Atom (λ (items : List Item). size-of items ≤ space) (find-in measure) (room-in space) (find-near measure) (room-holds space)
       (map (unfolded f) hs) q (all-leaves f (file-atoms l input f r (short, bytes) file-is) hs) (omega arith) e in
