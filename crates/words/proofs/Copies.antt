@@ -77,14 +77,6 @@ module _ (w : List ℕ) (from to n : ℕ) (f : from + n ≤ length w) (t : to + 
         other = λ k o. paste-other w to (drop from w) n k (omega arith) enough o;
       })
 
--- A word at none of the places that were written.
-pub copied-away : (w w′ : List ℕ) (from to n : ℕ) → Copied w w′ from to n → (k : ℕ) → ((j : ℕ) → j < n → k ≡ to + j → ⊥) → at w′ k ≡ at w k
-copied-away w w′ from to n c k q = c .other k (λ a. go a (decLt k (to + n)))
-  where
-    go : to ≤ k → Dec (k < to + n) → to + n ≤ k
-    go a (yes b) = absurd (q (k - to) (omega arith) (omega arith))
-    go a (no b) = omega arith
-
 -- ---- comparison
 
 pub same-length : (a b : List ℕ) → (length a ≡ length b → ⊥) → same a b ≡ false

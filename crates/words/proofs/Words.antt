@@ -8,7 +8,7 @@ use native.Mathlib.Numerals.{add-one}
 use native.Mathlib.Decide.{ℕ-discrete, decLt, decLe}
 use borrow.Rule.Slice.PartMut.{putMid, same-len-mid}
 use lib.ListN.{length, getD, take, drop, set, replicate, length-set, length-take, length-drop, drop-of-length-le, List·getD-append}
-use lib.Seq.{ext-getD, getD-take, getD-drop, getD-set-same, getD-set-other, drop-set-add, take-set-lt, take-suc, take-at, drop-at, drop-drop, take-all, length-take-le}
+use lib.Seq.{ext-getD, getD-take, getD-drop, getD-set-same, getD-set-other, take-suc, take-at, drop-at, drop-drop, take-all, length-take-le}
 use Rattle.words.specs.Choice.{by-lt}
 use Rattle.words.specs.Words.{part, tabulate, at}
 
@@ -44,11 +44,6 @@ module _ {A : Type 0} where
   map-append f [] ys = refl
   map-append f (x ∷ xs) ys = ap {B = List _} (λ r. f x ∷ r) (map-append f xs ys)
 
-  pub map-set : {B : Type 0} (f : A → B) (xs : List A) (i : ℕ) (v : A) → map f (set xs i v) ≡ set (map f xs) i (f v)
-  map-set f [] i v = refl
-  map-set f (x ∷ xs) zero v = refl
-  map-set f (x ∷ xs) (suc i) v = ap {B = List _} (λ r. f x ∷ r) (map-set f xs i v)
-
 -- a part keeps its words where the words at its places are the same
 pub part-length : (w : List ℕ) (off n : ℕ) → off + n ≤ length w → length (part w off n) ≡ n
 unfolding part
@@ -71,11 +66,6 @@ unfolding part
 part-more w off n h =
     let l : n < length (drop off w) = simp length-drop (omega arith) in
     ap (λ (k : ℕ). take k (drop off w)) (add-one n) ∙ take-suc (drop off w) n 0 l ∙ ap (λ (x : ℕ). take n (drop off w) ++ (x ∷ [])) (getD-drop off w n 0)
-
--- a store within
-pub part-store : (w : List ℕ) (off n i v : ℕ) → i < n → part (set w (off + i) v) off n ≡ set (part w off n) i v
-unfolding part
-part-store w off n i v h = ap (take n) (drop-set-add off w i v) ∙ take-set-lt n (drop off w) i v h
 
 -- A part that was lent and came back: w with r in the place of its k words from a on.
 module _ (a k : ℕ) (w r : List ℕ) (h : a + k ≤ length w) (len : length r ≡ k) where

@@ -10,7 +10,7 @@ ghost use mathlib.Core.Bool.{cond};
 ghost use Prim.Native.Nat.{_+_, _*_, _/_, _≤_, _<_};
 ghost use lib.ListN.{length};
 ghost use Rattle.words.specs.Words.{at, WORK};
-ghost use Rattle.work_layout.specs.Layout.{ENTRIES, COUNTS, MAX-PARENTS};
+ghost use Rattle.work_layout.specs.Layout.{ENTRIES, COUNTS, PARENTS, MAX-PARENTS};
 ghost use Rattle.work_layout.specs.Rows.{link-at, moved-at};
 ghost use Rattle.work_layout.specs.Parents.{ParentSet, MovedSet};
 
@@ -49,13 +49,20 @@ pub fn count_of(work: &[u32], e: EntryIndex) -> usize
     work[COUNTS + e.0 as usize] as usize
 }
 
+// The word of parent i of entry e.
+fn word_of(e: EntryIndex, i: usize) -> usize
+    requires { ⌜ (e .0 < ENTRIES) × (i < MAX-PARENTS) ⌝ }
+    ensures { λ k. ⌜ k ≡ PARENTS + i / 2 * ENTRIES + e .0 ⌝ }
+{
+    PARENTS + i / 2 * ENTRIES + e.0 as usize
+}
+
 // Parent i of entry e.
 pub fn parent_at(work: &[u32], e: EntryIndex, i: usize) -> Parent
     requires { ⌜ (WORK ≤ length (now work)) × (e .0 < ENTRIES) × (i < MAX-PARENTS) ⌝ }
     ensures { λ p. ⌜ p .0 ≡ link-at (now (work .entry)) (e .0) i ⌝ }
 {
-    let k = PARENTS + i / 2 * ENTRIES + e.0 as usize;
-    Parent(halves::half_at(work, k, i % 2))
+    Parent(halves::half_at(work, word_of(e, i), i % 2))
 }
 
 // Parent i of entry e is p.
@@ -63,8 +70,7 @@ pub fn set_parent(work: &mut [u32], e: EntryIndex, i: usize, p: Parent)
     requires { ⌜ (WORK ≤ length (now work)) × (e .0 < ENTRIES) × (i < MAX-PARENTS) × (p .0 < 2 * ENTRIES) ⌝ }
     ensures { λ _. ⌜ ParentSet (now (work .entry)) (now (work .exit)) (e .0) i (p .0) ⌝ }
 {
-    let k = PARENTS + i / 2 * ENTRIES + e.0 as usize;
-    halves::set_half(work, k, i % 2, p.0);
+    halves::set_half(work, word_of(e, i), i % 2, p.0);
 }
 
 // Parent i of those that an update moves.
