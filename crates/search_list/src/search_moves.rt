@@ -66,7 +66,7 @@ pub fn drop_path(work: &mut [u32], slot: usize, last: usize, nodes: usize)
     crate::put_path(work, slot, a, v, x);
 }
 
-// The path in `slot` goes to that parent of entry e, each later unseen parent gets a copy, and then the stack. This function and the next give how many
+// The path in `slot` goes to parent k of entry e, each later unseen parent gets a copy, and then the stack. This function and the next give how many
 // paths there are then.
 pub fn go_up(work: &mut [u32], slot: usize, s: Search, e: EntryIndex, k: Unseen) -> usize
     requires { ⌜ (Links (now work)) × (Tops (now work) (s .depth)) × (Nodes (now work) (s .nodes)) × (PathsOK (now work) (s .nodes) (s .paths)) ⌝ }
