@@ -9,13 +9,12 @@ use native.Mathlib.Numerals.{add-one}
 use lib.Dec.{leb}
 use lib.ListN.{length, drop, length-append, drop-of-length-le}
 use lib.Seq.{drop-cons, drop-at}
-use borrow.Author.Tests.{leb-true}
 use Rattle.words.specs.Choice.{by-lt}
 use Rattle.words.specs.Lists.{All, same}
 use Rattle.spec_session.specs.File.{got, and-then, field, count, version-1, atom, atoms, Pair, one-pair, pairs, sentinel, Step, add, restore, one-step, steps, File}
 use Rattle.spec_session.specs.Places.{AtomsAt, PairsAt, StepsAt, StepIs, step-size, PairsNamed, StepNamed, ListedAtom}
 use Rattle.file_parts.specs.Checked.{Contents}
-use Rattle.spec_session.specs.FileLaws.{then-of, asked-of, got-value, got-rest, field-at, atom-at, pair-at, step-at, sentinel-named}
+use Rattle.spec_session.specs.FileLaws.{then-of, asked-of, got-value, got-rest, field-at, atom-at, pair-at, step-at, sentinel-named, count-most, pairs-long, steps-most}
 
 -- One of a list at its front, or at the end of what stands before.
 onward : {A : Type 0} (done : List A) (x : A) (more xs : List A) → xs ≡ (done ++ x ∷ []) ++ more → xs ≡ done ++ x ∷ more
@@ -58,14 +57,13 @@ module _ (input : List ℕ) where
   pub record PairsRead (atoms at n : ℕ) (done xs : List Pair) : Type 0 where
     pub more : List Pair
     pub is : xs ≡ done ++ more
-    pub long : length more ≡ n
     pub there : PairsAt input at more
     pub names : PairsNamed atoms (length done) more
 
   pub pairs-read : (a n at : ℕ) (done xs : List Pair) (r : List ℕ) → pairs a n done (drop at input) ≡ got xs r → PairsRead a at n done xs
   unfolding pairs
   pairs-read a zero at done xs r e =
-      record { more = []; is = sym (got-value done xs (drop at input) r e) ∙ sym (append-nil done); long = refl; there = tt; names = tt }
+      record { more = []; is = sym (got-value done xs (drop at input) r e) ∙ sym (append-nil done); there = tt; names = tt }
   pairs-read a (suc n) at done xs r e =
       let t = then-of (one-pair a (length done) (drop at input)) _ xs r e in
       let q = pair-at input a (length done) at (t .first) (t .rest) (t .first-is) in
@@ -73,7 +71,6 @@ module _ (input : List ℕ) where
       record {
         more = t .first ∷ k .more;
         is = onward done (t .first) (k .more) xs (k .is);
-        long = ap suc (k .long);
         there = (q .there, q .left-is, q .right-is, k .there);
         names = ((q .left-names, q .right-names), subst (λ (i : ℕ). PairsNamed a i (k .more)) (one-longer done (t .first)) (k .names));
       }
@@ -82,14 +79,13 @@ module _ (input : List ℕ) where
   pub record StepsRead (atoms pairs most at : ℕ) (done xs : List Step) : Type 0 where
     pub more : List Step
     pub is : xs ≡ done ++ more
-    pub few : length done ≤ most → length xs ≤ most
     pub there : StepsAt input at more
     pub names : All (StepNamed atoms pairs) more
 
   steps-done : (a p most at : ℕ) (done xs : List Step) (r : List ℕ) → length input ≤ at → got done (drop at input) ≡ got xs r → StepsRead a p most at done xs
   steps-done a p most at done xs r l e =
       let same : done ≡ xs = got-value done xs (drop at input) r e in
-      record { more = []; is = sym same ∙ sym (append-nil done); few = λ h. subst (λ (x : List Step). length x ≤ most) same h; there = l; names = tt }
+      record { more = []; is = sym same ∙ sym (append-nil done); there = l; names = tt }
 
   -- At the end nothing is left, and before it there is one step more.
   none-left : (n a p most : ℕ) (done : List Step) (at : ℕ) → length input ≤ at → got done (drop at input) ≡ steps (suc n) a p most done (drop at input)
@@ -101,13 +97,12 @@ module _ (input : List ℕ) where
   unfolding steps
   more-left n a p most done at l = rw (drop-cons input at 0 l) refl
 
-  one : (a p most at : ℕ) (done xs : List Step) (r : List ℕ) (s : Step) → StepIs input at s → StepNamed a p s → length done < most
+  one : (a p most at : ℕ) (done xs : List Step) (r : List ℕ) (s : Step) → StepIs input at s → StepNamed a p s
       → StepsRead a p most (at + step-size s) (done ++ s ∷ []) xs → StepsRead a p most at done xs
-  one a p most at done xs r s i n f k =
+  one a p most at done xs r s i n k =
       record {
         more = s ∷ k .more;
         is = onward done s (k .more) xs (k .is);
-        few = λ h. k .few (omega (arith, one-longer done s));
         there = (i, k .there);
         names = (n, k .names);
       }
@@ -121,7 +116,7 @@ module _ (input : List ℕ) where
       (λ h.
       let t = then-of (one-step a p (length done) most (drop at input)) _ xs r (more-left n a p most done at h ∙ e) in
       let s = step-at input a p (length done) most at (t .first) (t .rest) (t .first-is) in
-      one a p most at done xs r (t .first) (s .is) (s .names) (s .few)
+      one a p most at done xs r (t .first) (s .is) (s .names)
       (steps-read n a p most (at + step-size (t .first)) (done ++ t .first ∷ []) xs r (omega (arith, size-low (t .first)))
       (ap (steps n a p most (done ++ t .first ∷ [])) (sym (s .rest-is)) ∙ t .then-is)))
       (λ h. steps-done a p most at done xs r h (none-left n a p most done at h ∙ e))
@@ -131,13 +126,12 @@ pub record ContentsRead (input : List ℕ) (f : File) : Type 0 where
   pub atoms-there : AtomsAt input 7 (f .atoms)
   pub contents : Contents f
 
-count-at : (input : List ℕ) (at most n : ℕ) (r : List ℕ) → count 2 most (drop at input) ≡ got n r → (n ≤ most) × (r ≡ drop (at + 2) input)
+-- A count takes two bytes.
+count-at : (input : List ℕ) (at most n : ℕ) (r : List ℕ) → count 2 most (drop at input) ≡ got n r → r ≡ drop (at + 2) input
 count-at input at most n r e =
     let t = then-of (field 2 (drop at input)) _ n r e in
-    let q = asked-of 5 (leb (t .first) most) (got (t .first) (t .rest)) n r (t .then-is) in (
-      subst (λ (k : ℕ). k ≤ most) (got-value (t .first) n (t .rest) r (q .1)) (leb-true (t .first) most (q .0)),
-      sym (got-rest (t .first) n (t .rest) r (q .1)) ∙ field-at input at 2 (t .first) (t .rest) (t .first-is) .rest-is,
-    )
+    let q = asked-of 5 (leb (t .first) most) (got (t .first) (t .rest)) n r (t .then-is) in
+    sym (got-rest (t .first) n (t .rest) r (q .1)) ∙ field-at input at 2 (t .first) (t .rest) (t .first-is) .rest-is
 
 -- Each part of the file, read after the one before it.
 module _ (input : List ℕ) (na : ℕ) (xs : List (List ℕ)) (np : ℕ) (ps : List Pair) (z : Option ℕ) (ss : List Step) (r₁ r₂ r₃ r₄ r₅ r₆ : List ℕ)
@@ -145,7 +139,7 @@ module _ (input : List ℕ) (na : ℕ) (xs : List (List ℕ)) (np : ℕ) (ps : L
     (d : pairs (length xs) np [] r₃ ≡ got ps r₄) (e : sentinel (length xs) (length ps) r₄ ≡ got z r₅)
     (g : steps (length r₅) (length xs) (length ps) 1024 [] r₅ ≡ got ss r₆) where
   atoms-of : AtomsRead input 7 na [] xs
-  atoms-of = atoms-read input na 0 7 [] xs r₂ (ap (atoms version-1 na 0 []) (sym (count-at input 5 1024 na r₁ a .1)) ∙ b)
+  atoms-of = atoms-read input na 0 7 [] xs r₂ (ap (atoms version-1 na 0 []) (sym (count-at input 5 1024 na r₁ a)) ∙ b)
 
   pairs-of : PairsRead r₃ (length xs) 0 np [] ps
   pairs-of = pairs-read r₃ (length xs) np 0 [] ps r₄ (ap (pairs (length xs) np []) (drop-at [] r₃ 0 refl) ∙ d)
@@ -156,15 +150,12 @@ module _ (input : List ℕ) (na : ℕ) (xs : List (List ℕ)) (np : ℕ) (ps : L
   long-atoms : length xs ≡ na
   long-atoms = ap length (atoms-of .is) ∙ atoms-of .long
 
-  long-pairs : length ps ≡ np
-  long-pairs = ap length (pairs-of .is) ∙ pairs-of .long
-
   contents : Contents (record { atoms = xs; pairs = ps; sentinel = z; steps = ss })
   contents =
       record {
-        few-atoms = omega (arith, long-atoms, count-at input 5 1024 na r₁ a .0);
-        few-pairs = omega (arith, long-pairs, count-at r₂ 0 1024 np r₃ (ap (count 2 1024) (drop-at [] r₂ 0 refl) ∙ c) .0);
-        few-steps = steps-of .few (omega arith);
+        few-atoms = omega (arith, long-atoms, count-most 2 1024 (drop 5 input) na r₁ a);
+        few-pairs = omega (arith, pairs-long (length xs) np [] r₃ ps r₄ d, count-most 2 1024 r₂ np r₃ c);
+        few-steps = steps-most (length r₅) (length xs) (length ps) 1024 [] r₅ ss r₆ (omega arith) g;
         atoms-listed = subst (All ListedAtom) (sym (atoms-of .is)) (atoms-of .listed);
         pairs-named = subst (PairsNamed (length xs) 0) (sym (pairs-of .is)) (pairs-of .names);
         sentinel-named = sentinel-named (length xs) (length ps) r₄ z r₅ e;

@@ -9,7 +9,7 @@ use lib.Dec.{ltb}
 use lib.ListN.{length, length-map}
 use borrow.Author.Tests.{lt-ltb, ltb-true}
 use Rattle.words.specs.Choice.{by-cond, by-lt, cond-true}
-use Rattle.words.specs.Words.{at, part}
+use Rattle.words.specs.Words.{at, tabulate}
 use Rattle.spec_session.specs.File.{File}
 use Rattle.spec_session.specs.Cache.{Entry, Cache, length-at, parents-at}
 use Rattle.spec_session.specs.FindPath.{parents-in}
@@ -33,7 +33,7 @@ past-parents (x ∷ es) zero h = absurd (omega arith)
 past-parents (x ∷ es) (suc e) h = past-parents es e (omega arith)
 
 unused-parents : (w : List ℕ) (x : ℕ) → Sound w → at w USED ≤ x → x < ENTRIES → parents-of w x ≡ []
-unfolding parents-of part
+unfolding parents-of tabulate
 unused-parents w x s h l = rw (s .unused x h l)
 
 module _ (f : File) (w : List ℕ) (c : Cache) (ho : Holds f w c) where

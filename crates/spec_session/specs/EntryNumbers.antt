@@ -1,40 +1,19 @@
 -- "Entry numbers never pass 4,096, so the parent lists hold them in 16 bits": the bound, for every file that passes questions 2 to 8.
 -- Assumes nothing.
-use Prim.Native.Nat.{ℕ, zero, suc, _+_, _≤_}
-use mathlib.Core.Path.{_≡_, sym, ap, subst}
+use Prim.Native.Nat.{ℕ, _≤_}
+use mathlib.Core.Path.{_≡_}
 use mathlib.Core.Bool.{Bool}
-use mathlib.Core.List.{List, [], _∷_, _++_}
+use mathlib.Core.List.{List, [], _∷_}
 use native.Mathlib.Omega.{arith}
-use lib.Dec.{leb}
-use lib.ListN.{length, take, length-append, length-take}
-use borrow.Author.Tests.{leb-true}
-use Rattle.spec_session.specs.File.{File, Limits, Pair, Step, add, restore, got, field, count, one-pair, pairs, one-step, steps, file, version-1}
-use Rattle.spec_session.specs.FileLaws.{by-first, asked-of, got-value, step-at, parts-read}
+use lib.ListN.{length, take, length-take}
+use Rattle.spec_session.specs.File.{File, Limits, Step, add, restore, got, file, version-1}
+use Rattle.spec_session.specs.FileLaws.{count-most, pairs-long, steps-most, parts-read}
 use Rattle.spec_session.specs.Cache.{Cache}
 use Rattle.spec_session.specs.Writer.{start}
 use Rattle.spec_session.specs.Steps.{run-steps}
 use Rattle.spec_session.specs.Bounds.{adds, EntryNumbersFit, run-entry-numbers}
 
--- ---- the counts of a file that passes, over any limits
-
-count-most : (width most : ℕ) (s : List ℕ) (n : ℕ) (r : List ℕ) → count width most s ≡ got n r → n ≤ most
-count-most width most s n r e =
-    by-first (field width s) _ n r e (λ v t i j.
-    let q = asked-of 5 (leb v most) (got v t) n r j in subst (λ (x : ℕ). x ≤ most) (got-value v n t r (q .1)) (leb-true v most (q .0)))
-
-pairs-long : (a n : ℕ) (done : List Pair) (s : List ℕ) (ps : List Pair) (r : List ℕ) → pairs a n done s ≡ got ps r → length ps ≡ length done + n
-unfolding pairs
-pairs-long a zero done s ps r e = omega (arith, ap length (got-value done ps s r e))
-pairs-long a (suc n) done s ps r e =
-    by-first (one-pair a (length done) s) _ ps r e (λ q t i j. omega (arith, pairs-long a n (done ++ q ∷ []) t ps r j, length-append done (q ∷ [])))
-
-steps-most : (n a p most : ℕ) (done : List Step) (s : List ℕ) (xs : List Step) (r : List ℕ) → length done ≤ most → steps n a p most done s ≡ got xs r → length xs ≤ most
-unfolding steps
-steps-most zero a p most done s xs r l e = subst (λ (x : List Step). length x ≤ most) (got-value done xs s r e) l
-steps-most (suc n) a p most done [] xs r l e = subst (λ (x : List Step). length x ≤ most) (got-value done xs [] r e) l
-steps-most (suc n) a p most done (b ∷ s) xs r l e =
-    by-first (one-step a p (length done) most (b ∷ s)) _ xs r e (λ x t i j.
-    steps-most n a p most (done ++ x ∷ []) t xs r (omega (arith, step-at (b ∷ s) a p (length done) most 0 x t i .few, length-append done (x ∷ []))) j)
+-- ---- how many pairs and steps a file that passes has, over any limits
 
 module _ (l : Limits) (input : List ℕ) (f : File) (rest : List ℕ) (passes : file l input ≡ got f rest) where
   pub file-pairs : length (f .pairs) ≤ l .pairs

@@ -1,13 +1,13 @@
 -- What is known of a part of the file that was read: which questions got yes, and which bytes it is.
 -- Assumes nothing.
-use Prim.Native.Nat.{ℕ, _+_, _-_, _≤_, _<_}
+use Prim.Native.Nat.{ℕ, zero, suc, _+_, _-_, _≤_, _<_}
 use mathlib.Core.Path.{_≡_, refl, sym, ap, subst, _∙_}
 use mathlib.Core.Bool.{Bool, true, false, cond}
-use mathlib.Core.List.{List, []}
+use mathlib.Core.List.{List, [], _∷_, _++_}
 use mathlib.Core.Option.{Option, none, some}
 use native.Mathlib.Omega.{arith}
 use lib.Dec.{leb, ltb, eqb}
-use lib.ListN.{length, take, drop, length-take, length-drop}
+use lib.ListN.{length, take, drop, length-append, length-take, length-drop}
 use lib.Seq.{drop-drop}
 use borrow.Author.Tests.{leb-true, ltb-true, eqb-true}
 use Rattle.words.specs.Choice.{clash}
@@ -234,6 +234,27 @@ module _ (input : List ℕ) where
           → StepAt a p done most at s r
       go code c l true k q = added code c l (eqb-true code 1 k) q
       go code c l false k q = second code c l (eqb code 2) refl q
+
+-- ---- how many there are
+
+pub count-most : (width most : ℕ) (s : List ℕ) (n : ℕ) (r : List ℕ) → count width most s ≡ got n r → n ≤ most
+count-most width most s n r e =
+    by-first (field width s) _ n r e (λ v t i j.
+    let q = asked-of 5 (leb v most) (got v t) n r j in subst (λ (x : ℕ). x ≤ most) (got-value v n t r (q .1)) (leb-true v most (q .0)))
+
+pub pairs-long : (a n : ℕ) (done : List Pair) (s : List ℕ) (ps : List Pair) (r : List ℕ) → pairs a n done s ≡ got ps r → length ps ≡ length done + n
+unfolding pairs
+pairs-long a zero done s ps r e = omega (arith, ap length (got-value done ps s r e))
+pairs-long a (suc n) done s ps r e =
+    by-first (one-pair a (length done) s) _ ps r e (λ q t i j. omega (arith, pairs-long a n (done ++ q ∷ []) t ps r j, length-append done (q ∷ [])))
+
+pub steps-most : (n a p most : ℕ) (done : List Step) (s : List ℕ) (xs : List Step) (r : List ℕ) → length done ≤ most → steps n a p most done s ≡ got xs r → length xs ≤ most
+unfolding steps
+steps-most zero a p most done s xs r l e = subst (λ (x : List Step). length x ≤ most) (got-value done xs s r e) l
+steps-most (suc n) a p most done [] xs r l e = subst (λ (x : List Step). length x ≤ most) (got-value done xs [] r e) l
+steps-most (suc n) a p most done (b ∷ s) xs r l e =
+    by-first (one-step a p (length done) most (b ∷ s)) _ xs r e (λ x t i j.
+    steps-most n a p most (done ++ x ∷ []) t xs r (omega (arith, step-at (b ∷ s) a p (length done) most 0 x t i .few, length-append done (x ∷ []))) j)
 
 -- ---- what is left of a file of version 1 after each part, from its count of atoms on
 
