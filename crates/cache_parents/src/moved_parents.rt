@@ -13,7 +13,11 @@ ghost use Rattle.cache_parents.specs.Lists.{Saved, Filled};
 
 // The first n parents of entry e go to MOVED.
 fn save_parents(work: &mut [u32], e: EntryIndex, n: usize)
-    requires { ⌜ (WORK ≤ length (now work)) × (e .0 < ENTRIES) × (n ≤ MAX-PARENTS) × ((i : ℕ) → i < n → link-at (now work) (e .0) i < 2 * ENTRIES) ⌝ }
+    requires { ⌜
+        (WORK ≤ length (now work))
+        × (e .0 < ENTRIES)
+        × (n ≤ MAX-PARENTS)
+        × ((i : ℕ) → i < n → link-at (now work) (e .0) i < 2 * ENTRIES) ⌝ }
     ensures { λ _. ⌜ Saved (now (work .entry)) (now (work .exit)) (e .0) n ⌝ }
 {
     let mut i = 0;
@@ -58,7 +62,11 @@ fn drop_parents(work: &mut [u32], e: EntryIndex, dropped: usize, n: usize)
 
 // The n parents in MOVED go behind the first `kept` of entry e.
 fn append_moved(work: &mut [u32], e: EntryIndex, kept: usize, n: usize)
-    requires { ⌜ (WORK ≤ length (now work)) × (e .0 < ENTRIES) × (kept + n ≤ MAX-PARENTS) × ((i : ℕ) → i < n → moved-at (now work) i < 2 * ENTRIES) ⌝ }
+    requires { ⌜
+        (WORK ≤ length (now work))
+        × (e .0 < ENTRIES)
+        × (kept + n ≤ MAX-PARENTS)
+        × ((i : ℕ) → i < n → moved-at (now work) i < 2 * ENTRIES) ⌝ }
     ensures { λ _. ⌜ Filled (now (work .entry)) (now (work .exit)) (e .0) kept n (moved-at (now (work .entry))) ⌝ }
 {
     let mut i = 0;

@@ -25,7 +25,7 @@ fn clear_tables(work: &mut [u32])
     requires { ⌜ WORK ≤ length (now work) ⌝ }
     ensures { λ _. ⌜ TablesClear (now (work .exit)) ⌝ }
 {
-    slices::clear(&mut work[..work_layout::PARENTS]);
+    slices::clear(&mut work[..work_layout::CLEARED]);
 }
 
 // The places of the atoms and the handles of the pairs go to work; the words after them are zero, up to the parents.

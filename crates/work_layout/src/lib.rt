@@ -78,8 +78,11 @@ pub const NEXT: usize = 40089;
 // Entries by slot: one more than the last one of the slot, or 0: 4,096 words.
 pub const HEADS: usize = 43161;
 
-// The parents, two to a word: the first two of each entry, the next two of each, .., the last two of each: 153,600 words.
-pub const PARENTS: usize = 47257;
+// The parents, two to a word: the first two of each entry, the next two of each, .., the last two of each: 153,600 words. Only `parents` looks there.
+const PARENTS: usize = 47257;
+
+// How many words are cleared before the steps: those before the parents.
+pub const CLEARED: usize = PARENTS;
 
 // The search: a bit for each entry that is seen: 96 words.
 pub const SEEN: usize = 200857;
