@@ -15,7 +15,7 @@ save-parents-requires c κs =
     let n = c .before in
     let s = n .before .before .before in
     let a = count-asks (s .pre .0) (s .pre .1) in
-    (a .0, a .1, n .count-of .ensures .1, λ i l. omega (arith, s .pre .0 .used, s .pre .0 .links (s .args .e .0) i (a .1) (omega (arith, n .count-of .ensures .0))))
+    (a .0, a .1, omega (arith, n .count-of .ensures .1), λ i l. omega (arith, s .pre .0 .used, s .pre .0 .links (s .args .e .0) i (a .1) (omega (arith, n .count-of .ensures .0))))
 
 wide-requires : tie.Need-wide-requires
 wide-requires c κs = search needs
