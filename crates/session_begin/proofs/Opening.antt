@@ -1,4 +1,4 @@
--- Loading a session file: the words lent to the loaders come back, and hold the tables of the file; the words after them are zero, up to the rows of parents.
+-- Loading a session file: the words lent to the loaders come back, and hold the tables of the file; the words after them are zero, up to the parents.
 -- Assumes nothing.
 use Prim.Native.Nat.{ℕ, zero, suc, _+_, _*_, _≤_, _<_}
 use mathlib.Core.Path.{_≡_, refl, sym, ap, subst, _∙_}

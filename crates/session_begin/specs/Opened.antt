@@ -12,18 +12,18 @@ use Rattle.cache_entries.specs.Meaning.{Tables}
 use Rattle.write_place.specs.State.{AtomPlaces, AtomsThere}
 use Rattle.session_state.specs.declared.progress.Progress.{Progress}
 
--- The words before the rows of parents are zero.
+-- The words before the parents are zero.
 abbrev pub TablesClear : List ℕ → Type 0
 TablesClear w = (k : ℕ) → k < PARENTS → at w k ≡ 0
 
--- The places of the atoms and the handles of the pairs are there, and the words after them are zero, up to the rows of parents.
+-- The places of the atoms and the handles of the pairs are there, and the words after them are zero, up to the parents.
 pub record Placed (input : List ℕ) (f : File) (w : List ℕ) : Type 0 where
   pub atoms : (i : ℕ) → i < length (f .atoms) → AtomPlace input (at w (ATOMS + 2 * i)) (at w (ATOMS + 2 * i + 1)) (getD (f .atoms) i [])
   pub lefts : (i : ℕ) → i < length (f .pairs) → at w (PAIRS + 2 * i) ≡ pair-of (f .pairs) i .left
   pub rights : (i : ℕ) → i < length (f .pairs) → at w (PAIRS + 2 * i + 1) ≡ pair-of (f .pairs) i .right
   pub zeros : (k : ℕ) → FIRST ≤ k → k < PARENTS → at w k ≡ 0
 
--- All tables of the file are there, and the words after them are zero, up to the rows of parents.
+-- All tables of the file are there, and the words after them are zero, up to the parents.
 pub record Opened (input : List ℕ) (f : File) (w : List ℕ) : Type 0 where
   pub tables : Tables f w
   pub places : AtomPlaces input w
