@@ -7,9 +7,12 @@ use cache_stack::marks;
 pub use find_path::Path;
 use work_layout::EntryIndex;
 ghost use mathlib.Core.Path.{_≡_};
-ghost use Prim.Native.Nat.{_≤_, _<_};
+ghost use mathlib.Core.Bool.{false};
+ghost use Prim.Native.Nat.{ℕ, _≤_, _<_};
+ghost use lib.Dec.{eqb};
 ghost use lib.ListN.{length};
 ghost use Rattle.words.specs.Words.{at, WORK};
+ghost use Rattle.allocator.specs.Handle.{nil, handle-of};
 ghost use Rattle.work_layout.specs.Layout.{USED, ENTRIES};
 ghost use Rattle.work_layout.specs.Rows.{all-counts};
 ghost use Rattle.cache_stack.specs.Contracts.{Stacked};
@@ -35,14 +38,12 @@ pub fn length_at(work: &[u32], e: EntryIndex) -> u64
     table::length_of(work, e)
 }
 
-// The path that is written for a node of entry e, over a stack of `depth` entries: none for nil, for an entry that is not marked written, and for a short one.
-pub fn find(work: &mut [u32], node: NodePtr, e: EntryIndex, depth: usize) -> Path
+// The path that is written for a node of entry e that is not nil, over a stack of `depth` entries: none for an entry that is not marked written, and for a
+// short one.
+pub fn find_marked(work: &mut [u32], e: EntryIndex, depth: usize) -> Path
     requires { ⌜ (Whole (now work)) × (Stacked (now work) depth) × (all-counts (now work) ENTRIES ≤ 2048) × (e .0 < ENTRIES) ⌝ }
-    ensures { λ r. ⌜ FindsIn (now (work .entry)) (now (work .exit)) depth (node .0) (e .0) r ⌝ }
+    ensures { λ r. ⌜ ((h : ℕ) → eqb h (handle-of nil) ≡ false → FindsIn (now (work .entry)) (now (work .exit)) depth h (e .0) r) ⌝ }
 {
-    if node.same(NodePtr::NIL) {
-        return Path::NoPath;
-    }
     if !marks::is_marked(work, e) {
         return Path::NoPath;
     }
@@ -51,4 +52,15 @@ pub fn find(work: &mut [u32], node: NodePtr, e: EntryIndex, depth: usize) -> Pat
         return Path::NoPath;
     }
     find_path::find_path(work, e, len, depth)
+}
+
+// The path that is written for a node of entry e, over a stack of `depth` entries: none for nil, for an entry that is not marked written, and for a short one.
+pub fn find(work: &mut [u32], node: NodePtr, e: EntryIndex, depth: usize) -> Path
+    requires { ⌜ (Whole (now work)) × (Stacked (now work) depth) × (all-counts (now work) ENTRIES ≤ 2048) × (e .0 < ENTRIES) ⌝ }
+    ensures { λ r. ⌜ FindsIn (now (work .entry)) (now (work .exit)) depth (node .0) (e .0) r ⌝ }
+{
+    if node.same(NodePtr::NIL) {
+        return Path::NoPath;
+    }
+    find_marked(work, e, depth)
 }

@@ -1,28 +1,11 @@
--- `search_find::find` meets its contract: the exceptions, and then the search.
+-- `search_find::find` meets its contract: nil, and then what is marked.
 -- Assumes nothing.
-use mathlib.Core.Path.{_≡_, sym, _∙_}
-use mathlib.Core.Bool.{true, false}
-use lib.Dec.{eqb}
-use Rattle.allocator.specs.Handle.{nil, handle-of}
-use Rattle.cache_stack.specs.marks.Contracts.{marked-at}
-use Rattle.cache_stack.proofs.Stacks.{stacked-tops}
-use Rattle.search_find.proofs.Finding.{finds-nil, finds-unmarked, finds-short, finds-path}
+use mathlib.Core.Path.{sym, _∙_}
+use Rattle.allocator.specs.Handle.{handle-of}
+use Rattle.search_find.proofs.Finding.{finds-nil}
 use borrow.Author.Needs.{needs}
-use borrow.Author.Tests.{not-true, not-false}
 use Rattle.search_find.proofs.find.Statement.{statement}
 use Rattle.search_find.proofs.find.Tie as tie
-
--- The node is not nil.
-named : (x : tie.After-is-marked) → eqb (x .before .before .before .before .before .args .node .0) (handle-of nil) ≡ false
-unfolding handle-of
-named x = sym (x .before .before .before .same .ensures) ∙ x .before .before .if1 .left
-
--- The entry is marked.
-abbrev start : tie.After-length-at → tie.Start
-start x = x .before .before .before .before .before .before .before .before
-
-marked : (x : tie.After-length-at) → marked-at (start x .args .work .now) (start x .args .e .0) ≡ true
-marked x = sym (x .before .before .before .is-marked .ensures) ∙ not-false (x .before .before .before .is-marked .result) (x .before .before .if2 .left)
 
 same-requires : tie.Need-same-requires
 same-requires c κs = search needs
@@ -31,55 +14,18 @@ returns : tie.Need-returns
 unfolding handle-of
 returns c = finds-nil (sym (c .before .same .ensures) ∙ c .if1 .taken)
 
-is-marked-requires : tie.Need-is-marked-requires
-is-marked-requires c κs = search needs
+find-marked-requires : tie.Need-find-marked-requires
+find-marked-requires c κs = search needs
 
 same-length : tie.Need-same-length
 same-length c = search needs
 
 returns-2 : tie.Need-returns-2
+unfolding handle-of
 returns-2 c =
-    let x = c .before in
-    finds-unmarked (named x) (x .before .before .before .before .before .pre .3) (sym (x .is-marked .ensures) ∙ not-true (x .is-marked .result) (c .if2 .taken))
-
-length-at-requires : tie.Need-length-at-requires
-length-at-requires c κs = search needs
-
-same-length-2 : tie.Need-same-length-2
-same-length-2 c = search needs
-
-returns-3 : tie.Need-returns-3
-returns-3 c =
-    let x = c .before in
-    finds-short (named (x .before .before .before)) (start x .pre .3) (marked x) (x .length-at .ensures) (c .if3 .taken)
-
-find-path-requires : tie.Need-find-path-requires
-find-path-requires c κs =
-    let s = c .before .before .before .before .before .before .before .before .before .before in
-    (s .pre .0 .sound, stacked-tops (s .args .work .now) (s .args .depth) (s .pre .1), s .pre .2, s .pre .3)
-
-same-length-3 : tie.Need-same-length-3
-same-length-3 c = search needs
-
-returns-4 : tie.Need-returns-4
-returns-4 c =
-    let x = c .before .before .before .before .before in
-    let s = start x in
-    finds-path (s .pre .0 .sound) (named (x .before .before .before)) (s .pre .3) (marked x) (x .length-at .ensures)
-    (c .before .before .before .before .if3 .left) (c .before .before .find-path .ensures)
+    let x = c .before .before in
+    let no = x .before .before in
+    x .find-marked .ensures _ (sym (no .before .same .ensures) ∙ no .if1 .left)
 
 pub find-spec : {M : Type 1} → statement M
-find-spec =
-    tie.close
-    (tie.spec
-    same-requires
-    returns
-    is-marked-requires
-    same-length
-    returns-2
-    length-at-requires
-    same-length-2
-    returns-3
-    find-path-requires
-    same-length-3
-    returns-4)
+find-spec = tie.close (tie.spec same-requires returns find-marked-requires same-length returns-2)
