@@ -55,10 +55,14 @@ pub fn find_marked(work: &mut [u32], e: EntryIndex, depth: usize) -> Path
 }
 
 // The path that is written for a node of entry e, over a stack of `depth` entries: none for nil, for an entry that is not marked written, and for a short one.
+// The search has two callers here, so that it stays a function of its own: its loop needs the registers.
 pub fn find(work: &mut [u32], node: NodePtr, e: EntryIndex, depth: usize) -> Path
     requires { ⌜ (Whole (now work)) × (Stacked (now work) depth) × (all-counts (now work) ENTRIES ≤ 2048) × (e .0 < ENTRIES) ⌝ }
     ensures { λ r. ⌜ FindsIn (now (work .entry)) (now (work .exit)) depth (node .0) (e .0) r ⌝ }
 {
+    if node.is_pair() {
+        return find_marked(work, e, depth);
+    }
     if node.same(NodePtr::NIL) {
         return Path::NoPath;
     }

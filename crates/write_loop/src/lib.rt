@@ -59,8 +59,7 @@ fn parse(work: &mut [u32], file: &[u8], output: &mut [u8], place: Place, node: N
     }
 }
 
-// What is left to write: the node, and then what the open pairs say. The first node is parsed before the loop: with two callers `parse` stays a function of
-// its own, which the search's loop needs for its registers.
+// What is left to write: the node, and then what the open pairs say.
 pub fn resume(
     work: &mut [u32],
     file: &[u8],
@@ -73,7 +72,7 @@ pub fn resume(
         Turns (now (file .entry)) (now (work .entry)) (now (work .exit)) (now (output .entry)) (now (output .exit))
         (Parse place node) (ended r) ⌝ }
 {
-    let mut next = parse(work, file, output, place, node);
+    let mut next = Next::Parse(place, node);
     loop {
         match next {
             Next::Parse(p, h) => {

@@ -10,7 +10,7 @@ use Rattle.work_layout.specs.Layout.{PAIR-COUNT}
 use Rattle.cache_entries.specs.Meaning.{Names, Whole}
 use Rattle.write_place.specs.declared.Place.{Place}
 use Rattle.write_loop.specs.declared.write_turn.Next.{Next}
-use Rattle.write_loop.specs.declared.write_turn.Next.the-variants.{Parse, Close, Done, Stopped, Refused}
+use Rattle.write_loop.specs.declared.write_turn.Next.the-variants.{Parse}
 use Rattle.write_place.specs.State.{AtomPlaces}
 use Rattle.write_loop.specs.Contracts.{Runs, ahead, Fine, Turns, Falls}
 use Rattle.write_loop.proofs.write_turn.Frames.{places-stay}
@@ -24,25 +24,10 @@ pub record Looping (file w₀ out₀ : List ℕ) (first : Next) (w out : List �
   pub space : length out ≡ length out₀
   pub turns : Turns file w₀ w out₀ out first next
 
--- Whatever comes next, the words are whole there.
-whole-where : (w out : List ℕ) (n : Next) → Fine w out n → Whole w
-whole-where w out (Parse p h) f = f .0 .stands .whole
-whole-where w out (Close p) f = f .stands .whole
-whole-where w out (Done p) f = f .0 .stands .whole
-whole-where w out (Stopped p) f = f .stands .whole
-whole-where w out (Refused n p) f = f .stands .whole
-
--- The loop begins where the first node's turn ends.
-pub loop-starts : {file w w₁ out out₁ : List ℕ} (p : Place) (h : NodePtr) (r : Next) → AtomPlaces file w → Runs w out p 0 → length w₁ ≡ length w
-    → Turns file w w₁ out out₁ (Parse p h) r → Looping file w₁ out₁ r w₁ out₁ r
-loop-starts {file} {w} {w₁} {out} {out₁} p h r a run lw t =
-    record {
-      whole = whole-where w₁ out₁ r (t .fine);
-      places = places-stay w w₁ lw (t .only) (run .stands .whole) file a;
-      long = refl;
-      space = refl;
-      turns = turns-none file w₁ out₁ r (t .fine);
-    }
+pub loop-starts : {file w out : List ℕ} (p : Place) (h : NodePtr) → AtomPlaces file w → Runs w out p 0 → Names w (at w PAIR-COUNT) (h .0)
+    → Looping file w out (Parse p h) w out (Parse p h)
+loop-starts {file} {w} {out} p h a run n =
+    record { whole = run .stands .whole; places = a; long = refl; space = refl; turns = turns-none file w out (Parse p h) (run, n) }
 
 pub loop-turns : {file w₀ out₀ : List ℕ} {first : Next} {w out : List ℕ} {next b : Next} {w′ out′ : List ℕ} {r : Next}
     → next ≡ b → Looping file w₀ out₀ first w out next → length w′ ≡ length w → length out′ ≡ length out → Turns file w w′ out out′ b r
@@ -66,10 +51,8 @@ module _ {file w₀ out₀ : List ℕ} {first : Next} {w out : List ℕ} {next b
   pub places-now : AtomPlaces file w
   places-now = places-stay w₀ w (k .long) (k .turns .only) (k .whole) file (k .places)
 
-  -- The first node's turn, and then the loop's.
-  pub loop-ends : {w′ out′ : List ℕ} {a : Next} → Whole w′ → length w₀ ≡ length w′ → length out₀ ≡ length out′ → Turns file w′ w₀ out′ out₀ a first
-      → Turns file w′ w out′ out a b
-  loop-ends {w′} {out′} {a} wh lw lo t = turns-then wh lw lo t (subst (λ (y : Next). Turns file w₀ w out₀ out first y) q (k .turns))
+  pub loop-ends : Turns file w₀ w out₀ out first b
+  loop-ends = subst (λ (y : Next). Turns file w₀ w out₀ out first y) q (k .turns)
 
 -- The loop falls.
 pub loop-falls : {next b : Next} (r : Next) (out out′ : List ℕ) → next ≡ b → length out′ ≡ length out → Falls (length out) b r
