@@ -40,7 +40,7 @@ pub fn length_at(work: &[u32], e: EntryIndex) -> u64
 
 // The path that is written for a node of entry e that is not nil, over a stack of `depth` entries: none for an entry that is not marked written, and for a
 // short one.
-pub fn find_marked(work: &mut [u32], e: EntryIndex, depth: usize) -> Path
+fn find_marked(work: &mut [u32], e: EntryIndex, depth: usize) -> Path
     requires { ⌜ (Whole (now work)) × (Stacked (now work) depth) × (all-counts (now work) ENTRIES ≤ 2048) × (e .0 < ENTRIES) ⌝ }
     ensures { λ r. ⌜ ((h : ℕ) → eqb h (handle-of nil) ≡ false → FindsIn (now (work .entry)) (now (work .exit)) depth h (e .0) r) ⌝ }
 {

@@ -57,11 +57,6 @@ half-set w k h v l m n = record {
 
 -- ---- what the code computes
 
--- A half is below 2^16.
-pub half-below : (h word : ℕ) → half h word < 2 ^ 16
-unfolding half
-half-below h word = omega arith
-
 pub low-half : (h word : ℕ) → h ≡ 0 → word % 65536 ≡ half h word
 unfolding half
 low-half h word e = rw e (omega arith)
