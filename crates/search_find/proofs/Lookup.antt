@@ -60,7 +60,7 @@ module _ (f : File) (w : List ℕ) (c : Cache) (ho : Holds f w c) where
 -- ---- what the getters give
 
 pub length-here : (w : List ℕ) (e n : ℕ) → e < at w USED → n ≡ length-of w e → LengthOf w e n
-length-here w e n h q = record { is = λ f c ho. ap (length-at e) (ho .entries) ∙ length-of-rows f w e h ∙ sym q }
+length-here w e n h q = record { is = λ f c ho. ap (length-at e) (ho .entries) ∙ length-of-rows f w e h ∙ sym q; in-use = λ p. h }
 
 pub length-past : (w : List ℕ) (e : ℕ) → at w USED ≤ e → LengthOf w e 0
-length-past w e h = record { is = λ f c ho. past-length (c .entries) e (omega (arith, entry-count f w c ho)) }
+length-past w e h = record { is = λ f c ho. past-length (c .entries) e (omega (arith, entry-count f w c ho)); in-use = λ p. absurd (omega arith) }

@@ -4,13 +4,14 @@ use mathlib.Core.Path.{_≡_}
 use mathlib.Core.Bool.{Bool}
 use mathlib.Core.List.{List}
 use mathlib.Core.Option.{Option, none, some}
+use Rattle.words.specs.Words.{at}
 use Rattle.path.specs.Measure.{counted}
 use Rattle.spec_search.specs.Search.{member}
 use Rattle.spec_search.specs.PathBits.{Ends}
 use Rattle.spec_session.specs.File.{File}
 use Rattle.spec_session.specs.Cache.{Cache, length-at}
 use Rattle.spec_session.specs.FindPath.{without-terminator, find-in}
-use Rattle.work_layout.specs.Layout.{ENTRIES}
+use Rattle.work_layout.specs.Layout.{USED, ENTRIES}
 use Rattle.work_layout.specs.Rows.{stack-of}
 use Rattle.search_find.specs.declared.find_path.Path.{Path}
 use Rattle.search_find.specs.declared.find_path.Path.the-variants.{At, NoPath}
@@ -19,9 +20,10 @@ use Rattle.search_list.specs.Steps.{Kept}
 use Rattle.cache_stack.specs.marks.Contracts.{marked-at}
 use Rattle.cache_entries.specs.Meaning.{Tables, Holds}
 
--- n is the length of entry e.
+-- n is the length of entry e, 0 where there is no such entry.
 pub record LengthOf (w : List ℕ) (e n : ℕ) : Type 0 where
   pub is : (f : File) (c : Cache) → Holds f w c → length-at e (c .entries) ≡ n
+  pub in-use : 0 < n → e < at w USED
 
 -- The steps of the path that was found.
 abbrev pub steps-of : List ℕ → Path → Option (List Bool)

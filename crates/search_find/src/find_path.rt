@@ -6,9 +6,10 @@ ghost use mathlib.Core.Bool.{Bool};
 ghost use mathlib.Core.List.{List};
 ghost use Prim.Native.Nat.{_≤_, _<_};
 ghost use lib.ListN.{length};
+ghost use Rattle.words.specs.Words.{at};
 ghost use Rattle.path.specs.Measure.{counted};
 ghost use Rattle.spec_search.specs.PathBits.{Ends};
-ghost use Rattle.work_layout.specs.Layout.{ENTRIES};
+ghost use Rattle.work_layout.specs.Layout.{USED, ENTRIES};
 ghost use Rattle.work_layout.specs.Rows.{Tops, Sound, all-counts};
 ghost use Rattle.search_find.specs.Answers.{FoundPath};
 
@@ -28,7 +29,7 @@ pub enum Path {
 
 // The path to entry e, where it is shorter than what it stands for.
 pub fn find_path(work: &mut [u32], e: EntryIndex, len: u64, depth: usize) -> Path
-    requires { ⌜ (Sound (now work)) × (Tops (now work) depth) × (all-counts (now work) ENTRIES ≤ 2048) × (e .0 < ENTRIES) ⌝ }
+    requires { ⌜ (Sound (now work)) × (Tops (now work) depth) × (all-counts (now work) ENTRIES ≤ 2048) × (e .0 < at (now work) USED) ⌝ }
     ensures { λ r. ⌜ FoundPath (now (work .entry)) (now (work .exit)) depth len (e .0) r ⌝ }
 {
     match search_passes::search(work, e, len, depth) {

@@ -11,12 +11,12 @@ use native.Mathlib.Decide.{ℕ-discrete}
 use Rattle.spec_search.specs.Search.{Trail, member, upward, sideward, distance, most-visits}
 use Rattle.words.specs.Choice.{cond-true, cond-false}
 use Rattle.words.specs.Words.{at, WORK}
-use Rattle.work_layout.specs.Layout.{COUNTS, PREVS, NODES, LENS, PATHS, COPIES, DEPTH, ENTRIES, TOPS}
+use Rattle.work_layout.specs.Layout.{USED, COUNTS, PREVS, NODES, LENS, PATHS, COPIES, DEPTH, ENTRIES, TOPS}
 use Rattle.search_list.specs.Steps.{copies, stacked, from-top, Links, Nodes, PathsOK, Stored, Relisted, Marked, Visited, FirstUnseen}
 use Rattle.search_list.specs.State.{seen-of, node-bits, trail, trails-of, node-at, place-at, seen-at, count-at, MOST-PATHS}
 use Rattle.work_layout.specs.Rows.{link-at, parent-of, parents-of, stack-of, Tops}
 use Rattle.words.proofs.Words.{Store, stores, miss, hits}
-use Rattle.search_list.proofs.Nodes.{low-bits, low-seen, low-nodes, node-made}
+use Rattle.search_list.proofs.Nodes.{marks-of, low-bits, low-seen, low-nodes, node-made}
 use Rattle.search_list.proofs.Least.{least}
 use Rattle.search_list.proofs.Trails.{store-end, length-trails}
 use Rattle.search_list.proofs.Upward.{links-cons, links-end, length-upward, low-link, low-links}
@@ -42,19 +42,19 @@ unchanged : (w : List ℕ) (m n : ℕ) (list : List Trail) → PathsOK w m n →
 unchanged w m n list p e = record { trails = e; paths = p; low = λ k l. refl; high = λ k l. refl }
 
 module _ (w : List ℕ) (m n : ℕ) (ok : Nodes w m) (p : PathsOK w m n) where
-  pub copy-seen : (v b : ℕ) → v ≡ b → v / 2 < ENTRIES → true ≡ seen-at w (v / 2)
+  pub copy-seen : Links w → (v b : ℕ) → v ≡ b → v < 2 * at w USED → true ≡ seen-at w (v / 2)
       → Relisted w w m n (trails-of w n ++ upward (seen-of w m) (node-bits w m) (parent-of b ∷ []))
-  copy-seen v b e h t =
-      let s : member (b / 2) (seen-of w m) ≡ true = subst (λ (z : ℕ). member (z / 2) (seen-of w m) ≡ true) e (sym (ok .marks (v / 2) h) ∙ sym t) in
+  copy-seen links v b e h t =
+      let s : member (b / 2) (seen-of w m) ≡ true = subst (λ (z : ℕ). member (z / 2) (seen-of w m) ≡ true) e (sym (marks-of links ok (v / 2) (omega arith)) ∙ sym t) in
       unchanged w m n (trails-of w n ++ upward (seen-of w m) (node-bits w m) (parent-of b ∷ [])) p
       (sym (ap (λ (x : List Trail). trails-of w n ++ x) (cond-true _ _ _ s) ∙ append-nil (trails-of w n)))
 
-  pub copy-new : (y : List ℕ) (v b : ℕ) → v ≡ b → v / 2 < ENTRIES → n < MOST-PATHS → false ≡ seen-at w (v / 2) → Stored w y n m v 0
+  pub copy-new : Links w → (y : List ℕ) (v b : ℕ) → v ≡ b → v < 2 * at w USED → n < MOST-PATHS → false ≡ seen-at w (v / 2) → Stored w y n m v 0
       → Relisted w y m (n + 1) (trails-of w n ++ upward (seen-of w m) (node-bits w m) (parent-of b ∷ []))
-  copy-new y v b e h r t s =
-      let f : member (b / 2) (seen-of w m) ≡ false = subst (λ (z : ℕ). member (z / 2) (seen-of w m) ≡ false) e (sym (ok .marks (v / 2) h) ∙ sym t) in
+  copy-new links y v b e h r t s =
+      let f : member (b / 2) (seen-of w m) ≡ false = subst (λ (z : ℕ). member (z / 2) (seen-of w m) ≡ false) e (sym (marks-of links ok (v / 2) (omega arith)) ∙ sym t) in
       let l : Relisted w y m (n + 1) (trails-of w n ++ trail 0 (node-bits w m) b ∷ []) = subst (λ (z : ℕ). Relisted w y m (n + 1) (trails-of w n ++ trail 0 (node-bits w m) z ∷ [])) e
-      (store-end w y m n m v 0 ok s (omega arith) (λ q. omega arith) (λ q. absurd (omega arith)) r p) in
+      (store-end w y m n m v 0 ok s (omega arith) (λ q. h) (λ q. absurd (omega arith)) r p) in
       subst (λ (x : List Trail). Relisted w y m (n + 1) (trails-of w n ++ x)) (sym (cond-false _ _ _ f)) l
 
   -- ---- the copy on the stack

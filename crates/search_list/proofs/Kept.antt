@@ -10,7 +10,7 @@ use lib.ListN.{length, getD, set, drop, length-append, List·getD-append, length
 use Rattle.spec_search.specs.Search.{Trail, upward, sideward, distance}
 use Rattle.spec_search.specs.Flat.{swap-remove}
 use Rattle.words.specs.Words.{at, WORK}
-use Rattle.work_layout.specs.Layout.{COUNTS, STACK, SEEN, PATHS, DEPTH, ENTRIES, TOPS}
+use Rattle.work_layout.specs.Layout.{USED, COUNTS, STACK, SEEN, PATHS, DEPTH, ENTRIES, TOPS}
 use Rattle.search_list.specs.State.{seen-of, node-bits, trail, trail-of, trails-of, count-at, MOST-PATHS}
 use Rattle.search_list.specs.Steps.{copies, stacked, Links, Nodes, PathsOK, Stored, Relisted}
 use Rattle.work_layout.specs.Rows.{link-at, parents-of, stack-of, Tops}
@@ -70,8 +70,8 @@ pub record Up (w x : List ℕ) (c n m e k d v a : ℕ) : Type 0 where
   pub len : length x ≡ length w
 
 module _ {w x : List ℕ} {c n m e k d v a : ℕ} (u : Up w x c n m e k d v a) where
-  hv : v < 2 * ENTRIES
-  hv = subst (λ (q : ℕ). q < 2 * ENTRIES) (sym (u .word)) (u .links .links e k (u .entry) (omega (arith, u .parent, u .all)))
+  hv : v < 2 * at w USED
+  hv = subst (λ (q : ℕ). q < 2 * at w USED) (sym (u .word)) (u .links .links e k (u .entry) (omega (arith, u .parent, u .all)))
 
   first : Relisted w x m n (set (trails-of w n) c (trail 0 (node-bits w m) v))
   first = store-at w x m c m v 0 (u .nodes) (u .stored) (omega arith) (λ q. hv) (λ q. absurd (omega arith)) n (u .slot) (omega (arith, u .room)) (u .paths)

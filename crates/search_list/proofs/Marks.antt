@@ -3,8 +3,9 @@
 use mathlib.Core.Path.{_≡_, sym, ap, _∙_}
 use mathlib.Core.Bool.{Bool, true, false}
 use mathlib.Core.List.{List}
-use Prim.Native.Nat.{ℕ, _/_, _%_, _^_, _≤_, _<_}
+use Prim.Native.Nat.{ℕ, _*_, _/_, _%_, _^_, _≤_, _<_}
 use native.Mathlib.Omega.{arith}
+use native.Mathlib.Nat.{zero-div}
 use borrow.Rule.Slice.PartMut.{putMid}
 use lib.ListN.{length, getD, set, replicate, getD-replicate}
 use lib.Seq.{getD-set-same, getD-set-other}
@@ -13,7 +14,7 @@ use Rattle.words.proofs.Words.{part-length, part-at, put-length, put-part, put-
 use Rattle.path.specs.Bytes.{odd}
 use Rattle.bitset.specs.BitSet.{bits-of}
 use Rattle.bitset.specs.BitSetLaws.{bits-of-at, length-bits-of}
-use Rattle.work_layout.specs.Layout.{SEEN, ENTRIES}
+use Rattle.work_layout.specs.Layout.{USED, SEEN, ENTRIES}
 use Rattle.search_list.specs.State.{seen-at}
 use Rattle.search_list.specs.Steps.{Marked, Cleared}
 
@@ -49,9 +50,13 @@ module _ (w r : List ℕ) (long : WORK ≤ length w) (len : length r ≡ 96) whe
     high = λ k l. put-other SEEN 96 w r (omega arith) len k (λ j m e. omega arith);
   }
 
-  pub cleared : (n : ℕ) → n ≡ 96 → r ≡ replicate n 0 → Cleared w (putMid SEEN 96 w r)
-  cleared n e q = record {
-    zeros = λ k l. put-at SEEN 96 w r (omega arith) len k l ∙ ap (λ (x : List ℕ). at x k) q ∙ getD-replicate n k 0 0 (omega arith);
-    low = λ k l. put-other SEEN 96 w r (omega arith) len k (λ j m e. omega arith);
-    high = λ k l. put-other SEEN 96 w r (omega arith) len k (λ j m e. omega arith);
-  }
+-- The first n words came back as zeros.
+pub cleared : (w r : List ℕ) (n : ℕ) → WORK ≤ length w → n ≤ 96 → at w USED ≤ 32 * n → length r ≡ n → r ≡ replicate n 0 → Cleared w (putMid SEEN n w r)
+cleared w r n long h u len q = record {
+  none = λ x l.
+      ap (λ (z : ℕ). odd (z / 2 ^ (x % 32)))
+      (put-at SEEN n w r (omega arith) len (x / 32) (omega arith) ∙ ap (λ (z : List ℕ). at z (x / 32)) q ∙ getD-replicate n (x / 32) 0 0 (omega arith))
+      ∙ ap odd (zero-div (2 ^ (x % 32)));
+  low = λ k l. put-other SEEN n w r (omega arith) len k (λ j m e. omega arith);
+  high = λ k l. put-other SEEN n w r (omega arith) len k (λ j m e. omega arith);
+}

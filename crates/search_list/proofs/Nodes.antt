@@ -11,9 +11,9 @@ use lib.ListN.{length}
 use borrow.Author.Tests.{eq-eqb, ne-eqb}
 use Rattle.spec_search.specs.Search.{member, most-visits}
 use Rattle.words.specs.Words.{at}
-use Rattle.work_layout.specs.Layout.{PREVS, NODES, LENS, PATHS, SEEN, ENTRIES}
+use Rattle.work_layout.specs.Layout.{USED, PREVS, NODES, LENS, PATHS, SEEN, ENTRIES}
 use Rattle.search_list.specs.State.{chain, node-bits, seen-of, seen-at, node-at, place-at}
-use Rattle.search_list.specs.Steps.{Nodes, Marked, Visited}
+use Rattle.search_list.specs.Steps.{Links, Nodes, Marked, Visited}
 use Rattle.path.specs.Bytes.{odd}
 use Rattle.search_list.proofs.Room.{or-true, or-false}
 
@@ -56,6 +56,10 @@ module _ (w : List ℕ) (m : ℕ) (prev : (k : ℕ) → k < m → at w (PREVS + 
     seen-same zero h = refl
     seen-same (suc k) h = ap₂ {C = List ℕ} (λ v r. v / 2 ∷ r) (same-nodes k (omega arith)) (seen-same k (omega arith))
 
+-- The bit of an entry in use.
+pub marks-of : {w : List ℕ} {m : ℕ} → Links w → Nodes w m → (x : ℕ) → x < at w USED → seen-at w x ≡ member x (seen-of w m)
+marks-of links ok x h = ok .marks x (omega (arith, links .used)) h
+
 pub length-seen : (w : List ℕ) (m : ℕ) → length (seen-of w m) ≡ m
 unfolding seen-of
 length-seen w zero = refl
@@ -78,7 +82,7 @@ module _ (w w′ : List ℕ) (m : ℕ) (ok : Nodes w m) (low : (k : ℕ) → k <
         prev = λ k h. subst (λ (x : ℕ). x ≤ k) (sym (low (PREVS + suc k) (omega arith))) (ok .prev k h);
         lens = λ k h. low (LENS + k) (omega arith) ∙ ok .lens k h ∙ ap length (sym (low-bits k h));
         short = λ k h. subst (λ (x : ℕ). x ≤ k) (sym (low (LENS + k) (omega arith))) (ok .short k h);
-        marks = λ x h. rw (low (SEEN + x / 32) (omega arith), low-seen) (ok .marks x h);
+        marks = λ x h u. rw (low (SEEN + x / 32) (omega arith), low-seen) (ok .marks x h (rw (low USED (omega arith)) at u));
       }
 
 -- ---- one node more
@@ -133,13 +137,14 @@ module _ (w x y : List ℕ) (c m : ℕ) (ok : Nodes w m) (h : m < most-visits) (
           let q : at y (LENS + k) ≡ at w (LENS + k) = kept (LENS + k) (omega arith) (omega arith) (omega arith) (omega arith) in
           rw (q, older k (omega arith)) (ok .lens k (omega arith), ok .short k (omega arith))
 
-  marks : (z : ℕ) → z < ENTRIES → seen-at y z ≡ member z (place-at w c / 2 ∷ seen-of w m)
-  marks z l = go (ℕ-discrete z (place-at w c / 2))
+  marks : (z : ℕ) → z < ENTRIES → z < at y USED → seen-at y z ≡ member z (place-at w c / 2 ∷ seen-of w m)
+  marks z l u = go (ℕ-discrete z (place-at w c / 2))
     where
       go : Dec (z ≡ place-at w c / 2) → seen-at y z ≡ member z (place-at w c / 2 ∷ seen-of w m)
       go (yes e) = ap (λ (k : ℕ). seen-at y k) e ∙ mk .here ∙ sym (or-true _ _ (eq-eqb z (place-at w c / 2) e))
       go (no e) =
-          mk .other z l e ∙ rw (other (SEEN + z / 32) (omega arith) (omega arith) (omega arith)) (ok .marks z l)
+          mk .other z l e ∙ rw (other (SEEN + z / 32) (omega arith) (omega arith) (omega arith))
+          (ok .marks z l (rw (mk .low USED (omega arith), other USED (omega arith) (omega arith) (omega arith)) at u))
           ∙ sym (or-false _ _ (ne-eqb z (place-at w c / 2) e))
 
   pub node-made : Visited w y c m
@@ -150,7 +155,7 @@ module _ (w x y : List ℕ) (c m : ℕ) (ok : Nodes w m) (h : m < most-visits) (
           prev = prevs;
           lens = λ k l. lens k l .0;
           short = λ k l. lens k l .1;
-          marks = λ z l. rw seen-suc (marks z l);
+          marks = λ z l u. rw seen-suc (marks z l u);
         });
         seen = rw add-one seen-suc;
         bits = rw add-one bits-suc;

@@ -11,7 +11,7 @@ use Rattle.search_list.specs.State.{count-at}
 use Rattle.search_list.specs.Steps.{unseen, Links}
 
 pub sound-links : (w : List ℕ) → Sound w → Links w
-sound-links w s = record { long = s .long; counts = s .counts; links = λ x i h l. omega (arith, s .used, s .links x i h l) }
+sound-links w s = record { long = s .long; used = s .used; counts = s .counts; links = s .links }
 
 -- Where nothing is seen, the unseen parents are all of them.
 pub unseen-all : (w : List ℕ) (n : ℕ) → unseen (count-at w) [] n ≡ all-counts w n

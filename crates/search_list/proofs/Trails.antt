@@ -11,7 +11,7 @@ use Rattle.spec_search.specs.Search.{Trail}
 use Rattle.spec_search.specs.Lists.{size}
 use Rattle.spec_search.specs.Flat.{swap-remove, last, init, last-seam, init-seam}
 use Rattle.words.specs.Words.{at, tabulate, WORK}
-use Rattle.work_layout.specs.Layout.{PATHS, DEPTH, ENTRIES, LENS}
+use Rattle.work_layout.specs.Layout.{USED, PATHS, DEPTH, LENS}
 use Rattle.search_list.specs.State.{node-bits, trail, trues, trail-of, trails-of, path-at, Readable, node-at, place-at, extra-at, MOST-PATHS}
 use Rattle.search_list.specs.Steps.{Nodes, PathOK, PathsOK, Stored, Relisted}
 use Rattle.words.proofs.Words.{Store, miss, hits, length-tabulate, getD-tabulate, tabulate-set, tabulate-more}
@@ -75,11 +75,11 @@ module _ (w w′ : List ℕ) (m c a v x : ℕ) (ok : Nodes w m) (s : Stored w w�
       )
       (ap (λ (b : List Bool). trail (extra-at w i) b (place-at w i)) (low-bits w w′ m ok store-low (node-at w i) l))
 
-  module _ (pe : x ≡ 0 → v < 2 * ENTRIES) (ps : 0 < x → x + v ≤ DEPTH) where
+  module _ (pe : x ≡ 0 → v < 2 * at w USED) (ps : 0 < x → x + v ≤ DEPTH) where
     path-here : PathOK w′ m c
     path-here = record {
       node = rw (s .node) h;
-      entry = rw (s .extra, s .place) pe;
+      entry = rw (s .extra, s .place, store-low USED (omega arith)) pe;
       stack = rw (s .extra, s .place) ps;
     }
 
@@ -88,7 +88,7 @@ module _ (w w′ : List ℕ) (m c a v x : ℕ) (ok : Nodes w m) (s : Stored w w�
         let a : node-at w′ i ≡ node-at w i = words-other i (PATHS + 3 * i) d (omega arith) (omega arith) in
         let b : place-at w′ i ≡ place-at w i = words-other i (PATHS + 3 * i + 1) d (omega arith) (omega arith) in
         let e : extra-at w′ i ≡ extra-at w i = words-other i (PATHS + 3 * i + 2) d (omega arith) (omega arith) in
-        record { node = rw a (p .node); entry = rw (b, e) (p .entry); stack = rw (b, e) (p .stack) }
+        record { node = rw a (p .node); entry = rw (b, e, store-low USED (omega arith)) (p .entry); stack = rw (b, e) (p .stack) }
 
     paths-after : (n : ℕ) → ((i : ℕ) → i < n → (i ≡ c → ⊥) → PathOK w m i) → PathsOK w′ m n
     paths-after n ps i l = go (ℕ-discrete i c)

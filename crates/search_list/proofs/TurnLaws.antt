@@ -15,13 +15,14 @@ use Rattle.spec_search.specs.Flat.{swap-remove, init, last}
 use Rattle.search_list.specs.Cursor.{goes, Mid, ahead}
 use Rattle.search_list.proofs.CursorLaws.{Facing, over, over-mid, over-less, is-result, is-capped, stays-goes, stays-mid, stays-less, dropped-goes, dropped-mid, dropped-less}
 use Rattle.search_list.specs.declared.Turned.the-variants.{On, Result, Capped}
-use Rattle.work_layout.specs.Layout.{COUNTS, PATHS, DEPTH, ENTRIES}
+use Rattle.work_layout.specs.Layout.{USED, COUNTS, PATHS, DEPTH, ENTRIES}
 use Rattle.work_layout.specs.Rows.{link-at, parents-of, stack-of, Tops}
 use Rattle.search_list.specs.State.{parents-of-all, seen-of, node-bits, trail, trail-of, trails-of, node-at, place-at, extra-at, seen-at, count-at, Readable, MOST-PATHS}
 use Rattle.search_list.specs.Steps.{copies, stacked, search-of, unseen, Links, Nodes, PathOK, PathsOK, Working, Kept, Stored, Relisted, Visited, FirstUnseen, Turns, Steps}
 use Rattle.path.specs.Bytes.{odd}
+use Rattle.words.specs.Words.{at}
 use Rattle.words.proofs.Words.{tabulate-same}
-use Rattle.search_list.proofs.Nodes.{low-seen, length-seen}
+use Rattle.search_list.proofs.Nodes.{marks-of, low-seen, length-seen}
 use Rattle.search_list.proofs.Trails.{length-trails, at-trails, store-at}
 use Rattle.search_list.proofs.Upward.{up-skip, up-new, up-end, length-upward, low-links, low-links-of, low-parents, length-links, parents-are}
 use Rattle.search_list.proofs.Room.{unseen-visit, unseen-same}
@@ -208,8 +209,11 @@ module _ {w : List ℕ} {d c n m e : ℕ} (a : At-entry w d c n m e) where
   B : List Bool
   B = node-bits w (node-at w c)
 
+  entry-used : e < at w USED
+  entry-used = omega (arith, a .is, a .here .ok .paths c (a .here .slot) .entry (a .none))
+
   pub entry-low : e < ENTRIES
-  entry-low = omega (arith, a .is, a .here .ok .paths c (a .here .slot) .entry (a .none))
+  entry-low = omega (arith, entry-used, a .here .ok .links .used)
 
   is-trail : trail-of w c ≡ trail 0 B (place-at w c)
   unfolding trail-of B
@@ -217,7 +221,7 @@ module _ {w : List ℕ} {d c n m e : ℕ} (a : At-entry w d c n m e) where
 
   is-member : seen-at w e ≡ member e seen
   unfolding seen
-  is-member = a .here .ok .nodes .marks e entry-low
+  is-member = marks-of (a .here .ok .links) (a .here .ok .nodes) e entry-used
 
   -- What the step at entry k gives.
   stepped : ℕ → Stepped
@@ -287,7 +291,7 @@ module _ {w x : List ℕ} {d c n m e : ℕ} (u : Visiting w x d c n m e) where
       let a : node-at x i ≡ node-at w i = v .high (PATHS + 3 * i) (omega arith) in
       let b : place-at x i ≡ place-at w i = v .high (PATHS + 3 * i + 1) (omega arith) in
       let q : extra-at x i ≡ extra-at w i = v .high (PATHS + 3 * i + 2) (omega arith) in
-      record { node = omega (arith, p .node); entry = rw (b, q) (p .entry); stack = rw (b, q) (p .stack) }
+      record { node = omega (arith, p .node); entry = rw (b, q, v .low USED (omega arith)) (p .entry); stack = rw (b, q) (p .stack) }
 
   trails-x : trails-of x n ≡ trails-of w n
   unfolding trails-of trail-of
@@ -325,14 +329,15 @@ module _ {w x : List ℕ} {d c n m e : ℕ} (u : Visiting w x d c n m e) where
   visit-asks-2 = ((visit-links, tops-x, v .nodes, paths-x), (here .slot, visit-low, omega (arith, few (here .ok))))
 
   module _ {k p a : ℕ} (f : FirstUnseen x e k p a) where
-    link-low : (j : ℕ) → j < count-at x e → link-at x e j / 2 < ENTRIES
-    link-low j l = omega (arith, visit-links .links e j visit-low l)
+    link-member : (j : ℕ) → j < count-at x e → seen-at x (link-at x e j / 2) ≡ member (link-at x e j / 2) S′
+    unfolding S′
+    link-member j l = marks-of visit-links (v .nodes) (link-at x e j / 2) (omega (arith, visit-links .links e j visit-low l))
 
     skipped : upward S′ B′ (parents-of x e) ≡ upward S′ B′ (drop k (parents-of x e))
     unfolding S′
     skipped =
         let b : k ≤ count-at x e = omega (arith, f .within, f .all) in
-        up-skip x e S′ B′ k b (λ j l. sym (v .nodes .marks _ (link-low j (omega arith))) ∙ f .passed j l)
+        up-skip x e S′ B′ k b (λ j l. sym (link-member j (omega arith)) ∙ f .passed j l)
 
     module _ {y : List ℕ} {n′ : ℕ} (ly : length y ≡ length x) where
       -- The words are sound again, after the list was changed.
@@ -366,7 +371,7 @@ module _ {w x : List ℕ} {d c n m e : ℕ} (u : Visiting w x d c n m e) where
           let side : List Trail = stacked x (m + 1) e d in
           let s : step (parents-of-all w) (stack-of w d) (seen-of w m) (trail-of w c) ≡ stays q (up ++ side) (seen-of x (m + 1)) =
           step-visit ∙ ap (λ (l : List Trail). moves l side (seen-of x (m + 1)))
-          (skipped ∙ up-new x e S′ B′ k l (sym (v .nodes .marks _ (link-low k l)) ∙ f .stands h)) in
+          (skipped ∙ up-new x e S′ B′ k l (sym (link-member k l) ∙ f .stands h)) in
           let few-up : length up ≤ count-at w e - (k + 1) =
           omega (arith, length-upward S′ B′ (drop (k + 1) (parents-of x e)), length-drop (k + 1) (parents-of x e), length-links x e, count-x) in
           let b : n′ ≤ n + count-at w e + 1 =

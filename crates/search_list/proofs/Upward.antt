@@ -13,7 +13,7 @@ use borrow.Author.Tests.{lt-ltb, ltb-true}
 use Rattle.spec_search.specs.Search.{Trail, at-entry, member, upward}
 use Rattle.words.specs.Choice.{cond-true, cond-false, by-cond}
 use Rattle.words.specs.Words.{at, tabulate}
-use Rattle.work_layout.specs.Layout.{COUNTS, SEEN, ENTRIES}
+use Rattle.work_layout.specs.Layout.{USED, COUNTS, SEEN, ENTRIES}
 use Rattle.work_layout.specs.Rows.{link-at, parent-of, parents-of}
 use Rattle.work_layout.specs.Parents.{link-same}
 use Rattle.search_list.specs.State.{parents-of-all, count-at}
@@ -88,6 +88,7 @@ module _ (w w′ : List ℕ) (ok : Links w) (low : (k : ℕ) → k < SEEN → at
   pub low-links : length w′ ≡ length w → Links w′
   low-links len = record {
     long = omega (arith, ok .long);
+    used = rw (low USED (omega arith)) (ok .used);
     counts = λ x h. rw (low (COUNTS + x) (omega arith)) (ok .counts x h);
-    links = λ x i h q. let l : i < count-at w x = rw (low (COUNTS + x) (omega arith)) at q in rw (low-link x i h l) (ok .links x i h l);
+    links = λ x i h q. let l : i < count-at w x = rw (low (COUNTS + x) (omega arith)) at q in rw (low-link x i h l, low USED (omega arith)) (ok .links x i h l);
   }

@@ -10,7 +10,7 @@ use Rattle.words.specs.Words.{at, WORK}
 use Rattle.path.specs.Bytes.{odd}
 use Rattle.spec_search.specs.Search.{Trail, member, distance, upward, sideward, Passed, found, gone, most-visits}
 use Rattle.spec_search.specs.Lists.{size}
-use Rattle.work_layout.specs.Layout.{COUNTS, SEEN, PREVS, LENS, PATHS, COPIES, ENTRIES, DEPTH, MAX-PARENTS}
+use Rattle.work_layout.specs.Layout.{USED, COUNTS, SEEN, PREVS, LENS, PATHS, COPIES, ENTRIES, DEPTH, MAX-PARENTS}
 use Rattle.work_layout.specs.Rows.{link-at, parents-of, stack-of, Tops}
 use Rattle.search_list.specs.declared.Search.{Search}
 use Rattle.search_list.specs.declared.Turned.{Turned}
@@ -20,24 +20,25 @@ use Rattle.search_list.specs.Cursor.{goes, Mid, ahead}
 
 -- ---- when the words are sound
 
--- The parents of the entries are entries, at most 100 of each. Follows from the cache's soundness.
+-- The parents of the entries are entries in use, at most 100 of each. Follows from the cache's soundness.
 pub record Links (w : List ℕ) : Type 0 where
   pub long : WORK ≤ length w
+  pub used : at w USED ≤ ENTRIES
   pub counts : (x : ℕ) → x < ENTRIES → at w (COUNTS + x) ≤ MAX-PARENTS
-  pub links : (x i : ℕ) → x < ENTRIES → i < at w (COUNTS + x) → link-at w x i < 2 * ENTRIES
+  pub links : (x i : ℕ) → x < ENTRIES → i < at w (COUNTS + x) → link-at w x i < 2 * at w USED
 
--- m nodes, and the bit set of the entries seen mirrors them.
+-- m nodes, and the bit set of the entries seen mirrors them, for the entries in use.
 pub record Nodes (w : List ℕ) (m : ℕ) : Type 0 where
   pub few : m ≤ most-visits
   pub prev : (k : ℕ) → k < m → at w (PREVS + suc k) ≤ k
   pub lens : (k : ℕ) → k ≤ m → at w (LENS + k) ≡ length (node-bits w k)
   pub short : (k : ℕ) → k ≤ m → at w (LENS + k) ≤ k
-  pub marks : (x : ℕ) → x < ENTRIES → seen-at w x ≡ member x (seen-of w m)
+  pub marks : (x : ℕ) → x < ENTRIES → x < at w USED → seen-at w x ≡ member x (seen-of w m)
 
 -- Path i, where there are m nodes.
 pub record PathOK (w : List ℕ) (m i : ℕ) : Type 0 where
   pub node : node-at w i ≤ m
-  pub entry : extra-at w i ≡ 0 → place-at w i < 2 * ENTRIES
+  pub entry : extra-at w i ≡ 0 → place-at w i < 2 * at w USED
   pub stack : 0 < extra-at w i → extra-at w i + place-at w i ≤ DEPTH
 
 abbrev pub PathsOK : List ℕ → ℕ → ℕ → Type 0
@@ -82,9 +83,9 @@ pub record Marked (w w′ : List ℕ) (e : ℕ) : Type 0 where
   pub low : (k : ℕ) → k < SEEN → at w′ k ≡ at w k
   pub high : (k : ℕ) → PREVS ≤ k → at w′ k ≡ at w k
 
--- No entry is marked.
+-- No entry in use is marked.
 pub record Cleared (w w′ : List ℕ) : Type 0 where
-  pub zeros : (k : ℕ) → k < 96 → at w′ (SEEN + k) ≡ 0
+  pub none : (x : ℕ) → x < at w USED → seen-at w′ x ≡ false
   pub low : (k : ℕ) → k < SEEN → at w′ k ≡ at w k
   pub high : (k : ℕ) → PREVS ≤ k → at w′ k ≡ at w k
 

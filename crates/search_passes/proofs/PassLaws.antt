@@ -1,6 +1,5 @@
 -- A pass, turn by turn; and the passes.
 -- Assumes nothing.
-use native.Mathlib.Nat.{zero-div}
 use borrow.Author.Tests.{eq-eqb}
 use mathlib.Core.Path.{_≡_, refl, sym, ap, ap₂, subst, _∙_}
 use mathlib.Core.Bool.{Bool, true, false}
@@ -24,7 +23,7 @@ use Rattle.search_list.specs.declared.Turned.the-variants.{On, Result, Capped}
 use Rattle.search_passes.specs.declared.Passing.the-variants.{Ended, Over, Next}
 use Rattle.search_passes.specs.declared.Way.{Way}
 use Rattle.search_passes.specs.declared.Way.the-variants.{By, Nothing}
-use Rattle.work_layout.specs.Layout.{SEEN, LENS, COUNTS, ENTRIES, DEPTH}
+use Rattle.work_layout.specs.Layout.{USED, SEEN, LENS, COUNTS, ENTRIES, DEPTH}
 use Rattle.path.specs.Bytes.{odd}
 use Rattle.search_list.specs.State.{seen-at, chain, node-bits, trail-of, trails-of, parents-of-all, seen-of, count-at}
 use Rattle.search_list.specs.Steps.{search-of, meaning, unseen, Links, Working, Kept, Stored, Turns, Cleared}
@@ -92,12 +91,13 @@ module _ {w₀ w : List ℕ} {L : ℕ} {s₀ : Search} {c : ℕ} {s : Search} (k
 
 -- ---- the start
 
-pub started : (w x y : List ℕ) (e : ℕ) → WORK ≤ length x → e < ENTRIES → Cleared w x → Stored (set x LENS 0) y 0 0 (e * 2 + 1) 0 → Started w y e
+pub started : (w x y : List ℕ) (e : ℕ) → WORK ≤ length x → e < at w USED → Cleared w x → Stored (set x LENS 0) y 0 0 (e * 2 + 1) 0 → Started w y e
 unfolding node-bits chain trails-of tabulate trail-of seen-of
 started w x y e long h k s =
-    let bits : (z : ℕ) → z < ENTRIES → seen-at y z ≡ false =
-    λ z l. ap (λ (q : ℕ). odd (q / 2 ^ (z % 32)))
-    (s .below (SEEN + z / 32) (omega arith) ∙ getD-set-other x LENS (SEEN + z / 32) 0 0 (omega arith) ∙ k .zeros (z / 32) (omega arith)) ∙ none-set (z % 32) in
+    let used : at y USED ≡ at w USED = s .below USED (omega arith) ∙ getD-set-other x LENS USED 0 0 (omega arith) ∙ k .low USED (omega arith) in
+    let bits : (z : ℕ) → z < ENTRIES → z < at y USED → seen-at y z ≡ false =
+    λ z l u. ap (λ (q : ℕ). odd (q / 2 ^ (z % 32)))
+    (s .below (SEEN + z / 32) (omega arith) ∙ getD-set-other x LENS (SEEN + z / 32) 0 0 (omega arith)) ∙ k .none z (rw used at u) in
     let lens : at y (LENS + 0) ≡ 0 = s .below (LENS + 0) (omega arith) ∙ getD-set-same x LENS 0 0 (omega arith) in
     record {
       nodes = record {
@@ -109,7 +109,7 @@ started w x y e long h k s =
       };
       paths =
           λ i l. let z : i ≡ 0 = omega arith in rw z
-          (record { node = omega (arith, s .node); entry = λ q. omega (arith, s .place); stack = λ q. absurd (omega (arith, s .extra)) });
+          (record { node = omega (arith, s .node); entry = λ q. omega (arith, s .place, used); stack = λ q. absurd (omega (arith, s .extra)) });
       trails =
           rw (s .node, s .place, s .extra)
           (ap₂ {C = List Trail} (λ a b. at-entry [] a b ∷ []) (omega arith) (eq-eqb ((e * 2 + 1) % 2) 1 (omega arith)));
@@ -118,9 +118,6 @@ started w x y e long h k s =
         high = λ j l. s .above j (omega arith) ∙ getD-set-other x LENS j 0 0 (omega arith) ∙ k .high j (omega arith);
       };
     }
-  where
-    none-set : (j : ℕ) → odd (0 / 2 ^ j) ≡ false
-    none-set j = ap odd (zero-div (2 ^ j))
 
 -- ---- the passes
 

@@ -7,14 +7,13 @@ use search_list::Search;
 use search_list::Turned;
 use words::slices;
 use work_layout::EntryIndex;
-use work_layout::PREVS;
 use work_layout::SEEN;
 use work_layout::parents::Parent;
 ghost use mathlib.Core.List.{[]};
 ghost use Prim.Native.Nat.{_≤_, _<_};
 ghost use lib.ListN.{length};
-ghost use Rattle.words.specs.Words.{WORK};
-ghost use Rattle.work_layout.specs.Layout.{ENTRIES};
+ghost use Rattle.words.specs.Words.{at, WORK};
+ghost use Rattle.work_layout.specs.Layout.{USED, ENTRIES};
 ghost use Rattle.work_layout.specs.Rows.{Tops, Sound, all-counts};
 ghost use Rattle.search_list.specs.Cursor.{Mid};
 ghost use Rattle.search_list.specs.State.{trails-of, count-at};
@@ -53,17 +52,19 @@ fn pass(work: &mut [u32], l: usize, first: Search) -> Passing
     Passing::Next(s)
 }
 
-// No entry is seen.
+// No entry in use is seen.
 fn clear_seen(work: &mut [u32])
-    requires { ⌜ WORK ≤ length (now work) ⌝ }
+    requires { ⌜ (WORK ≤ length (now work)) × (at (now work) USED ≤ ENTRIES) ⌝ }
     ensures { λ _. ⌜ Cleared (now (work .entry)) (now (work .exit)) ⌝ }
 {
-    slices::clear(&mut work[SEEN..PREVS]);
+    let used = words::wide(work[work_layout::USED]);
+    let end = SEEN + (used + 31) / 32;
+    slices::clear(&mut work[SEEN..end]);
 }
 
 // One path, with no bits, at entry e, position 1.
 fn start(work: &mut [u32], e: EntryIndex)
-    requires { ⌜ (WORK ≤ length (now work)) × (e .0 < ENTRIES) ⌝ }
+    requires { ⌜ (WORK ≤ length (now work)) × (at (now work) USED ≤ ENTRIES) × (e .0 < at (now work) USED) ⌝ }
     ensures { λ _. ⌜ Started (now (work .entry)) (now (work .exit)) (e .0) ⌝ }
 {
     clear_seen(work);
@@ -79,7 +80,7 @@ pub enum Way {
 
 // The passes 0, 1, .. up to the last one, from the start.
 fn all_passes(work: &mut [u32], e: EntryIndex, len: u64, depth: usize) -> Way
-    requires { ⌜ (Links (now work)) × (Tops (now work) depth) × (unseen (count-at (now work)) [] ENTRIES ≤ 2048) × (e .0 < ENTRIES) ⌝ }
+    requires { ⌜ (Links (now work)) × (Tops (now work) depth) × (unseen (count-at (now work)) [] ENTRIES ≤ 2048) × (e .0 < at (now work) USED) ⌝ }
     ensures { λ r. ⌜ Finds (now (work .entry)) (now (work .exit)) depth len (e .0) r ⌝ }
 {
     let limit = search_limit::limit_of(len);
@@ -112,7 +113,7 @@ fn all_passes(work: &mut [u32], e: EntryIndex, len: u64, depth: usize) -> Way
 
 // The path to entry e, of length len, from a stack of `depth` entries.
 pub fn search(work: &mut [u32], e: EntryIndex, len: u64, depth: usize) -> Way
-    requires { ⌜ (Sound (now work)) × (Tops (now work) depth) × (all-counts (now work) ENTRIES ≤ 2048) × (e .0 < ENTRIES) ⌝ }
+    requires { ⌜ (Sound (now work)) × (Tops (now work) depth) × (all-counts (now work) ENTRIES ≤ 2048) × (e .0 < at (now work) USED) ⌝ }
     ensures { λ r. ⌜ Finds (now (work .entry)) (now (work .exit)) depth len (e .0) r ⌝ }
 {
     all_passes(work, e, len, depth)

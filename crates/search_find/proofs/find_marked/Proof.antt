@@ -5,6 +5,7 @@ use mathlib.Core.Bool.{true}
 use Rattle.cache_stack.specs.marks.Contracts.{marked-at}
 use Rattle.cache_stack.proofs.Stacks.{stacked-tops}
 use Rattle.search_find.proofs.Finding.{finds-unmarked, finds-short, finds-path}
+use native.Mathlib.Omega.{arith}
 use borrow.Author.Needs.{needs}
 use borrow.Author.Tests.{not-true, not-false}
 use Rattle.search_find.proofs.find_marked.Statement.{statement}
@@ -40,7 +41,7 @@ returns-2 c = λ h named. let x = c .before in finds-short named (start x .pre .
 find-path-requires : tie.Need-find-path-requires
 find-path-requires c κs =
     let s = c .before .before .before .before .before .before .before .before in
-    (s .pre .0 .sound, stacked-tops (s .args .work .now) (s .args .depth) (s .pre .1), s .pre .2, s .pre .3)
+    (s .pre .0 .sound, stacked-tops (s .args .work .now) (s .args .depth) (s .pre .1), s .pre .2, c .before .before .length-at .ensures .in-use (omega (arith, c .before .if2 .left)))
 
 same-length-3 : tie.Need-same-length-3
 same-length-3 c = search needs

@@ -27,7 +27,7 @@ limit-of-requires : tie.Need-limit-of-requires Inv-loop μ-loop
 limit-of-requires c κs = search needs
 
 start-requires : tie.Need-start-requires Inv-loop μ-loop
-start-requires c κs = let s = c .before .before .before in (s .pre .0 .long, s .pre .3)
+start-requires c κs = let s = c .before .before .before in (s .pre .0 .long, s .pre .0 .used, s .pre .3)
 
 loop-holds : tie.Need-loop-holds Inv-loop μ-loop
 loop-holds c = search-start (begun (c .before .before)) _

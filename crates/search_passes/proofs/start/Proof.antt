@@ -31,7 +31,7 @@ returns c =
     let x = p .before .before .before .before .before in
     let s = x .before .before .before in
     let k = x .clear-seen in
-    started (s .args .work .now) (k .last .0) (p .put-at-entry .last .0) (s .args .e .0) (omega (arith, k .kept .0, s .pre .0)) (s .pre .1)
+    started (s .args .work .now) (k .last .0) (p .put-at-entry .last .0) (s .args .e .0) (omega (arith, k .kept .0, s .pre .0)) (s .pre .2)
     (k .ensures) (rw (p .before .new .ensures) at (p .put-at-entry .ensures))
 
 pub start-spec : {M : Type 1} → statement M

@@ -2,16 +2,17 @@
 -- Assumes nothing.
 use Rattle.search_list.proofs.Copies.{copy-seen, copy-new}
 use Rattle.search_list.specs.State.{seen-at}
-use Prim.Native.Nat.{_/_, _<_}
-use Rattle.work_layout.specs.Layout.{ENTRIES}
+use Prim.Native.Nat.{_*_, _/_, _<_}
+use Rattle.words.specs.Words.{at}
+use Rattle.work_layout.specs.Layout.{USED}
 use mathlib.Core.Path.{_≡_, ap, sym, _∙_}
 use native.Mathlib.Omega.{arith}
 use borrow.Author.Needs.{needs}
 use Rattle.search_list.proofs.search_copies.add_copy.Statement.{statement}
 use Rattle.search_list.proofs.search_copies.add_copy.Tie as tie
 
--- The parent is an entry.
-low : (x : tie.After-parent-at) → x .parent-at .result .0 / 2 < ENTRIES
+-- The parent is an entry in use.
+low : (x : tie.After-parent-at) → x .parent-at .result .0 < 2 * at (x .before .before .before .args .work .now) USED
 low x =
     let s = x .before .before .before in
     omega (arith, x .parent-at .ensures, s .pre .0 .0 .links (s .args .e .0) (s .args .i) (s .pre .1 .0) (s .pre .1 .1))
@@ -29,7 +30,7 @@ entry-requires : tie.Need-entry-requires
 entry-requires c κs = search needs
 
 is-seen-requires : tie.Need-is-seen-requires
-is-seen-requires c κs = (c .before .before .before .before .before .pre .0 .0 .long, omega (arith, c .entry .ensures, low (c .before .before)))
+is-seen-requires c κs = (c .before .before .before .before .before .pre .0 .0 .long, omega (arith, c .entry .ensures, low (c .before .before), c .before .before .before .before .before .pre .0 .0 .used))
 
 same-length : tie.Need-same-length
 same-length c = search needs
@@ -38,7 +39,7 @@ returns : tie.Need-returns
 returns c =
     let v = c .before .before .before .before in
     let s = v .before .before .before in
-    copy-seen (s .args .work .now) (s .args .nodes) (s .args .paths) (s .pre .0 .1) (s .pre .0 .2) (v .parent-at .result .0) _ (v .parent-at .ensures) (low v)
+    copy-seen (s .args .work .now) (s .args .nodes) (s .args .paths) (s .pre .0 .1) (s .pre .0 .2) (s .pre .0 .0) (v .parent-at .result .0) _ (v .parent-at .ensures) (low v)
     (sym (c .if1 .taken) ∙ seen (c .before))
 
 cast-put-at-entry : tie.Need-cast-put-at-entry
@@ -58,7 +59,7 @@ returns-2 c =
     let p = c .before .before .put-at-entry in
     let v = c .before .before .before .before .before .before .before .before in
     let s = v .before .before .before in
-    copy-new (s .args .work .now) (s .args .nodes) (s .args .paths) (s .pre .0 .1) (s .pre .0 .2) (p .last .0) (v .parent-at .result .0) _
+    copy-new (s .args .work .now) (s .args .nodes) (s .args .paths) (s .pre .0 .1) (s .pre .0 .2) (s .pre .0 .0) (p .last .0) (v .parent-at .result .0) _
     (v .parent-at .ensures) (low v) (s .pre .1 .2) (sym (c .before .before .before .before .if1 .left) ∙ seen (c .before .before .before .before .before)) (p .ensures)
 
 pub add-copy-spec : {M : Type 1} → statement M

@@ -37,7 +37,7 @@ add-node-requires : tie.Need-add-node-requires
 add-node-requires c κs =
     let s = c .before .before .before .before in
     let p = s .pre .0 .paths (s .args .slot) (s .pre .1) in
-    ((s .pre .0 .links .long, s .pre .0 .nodes, s .pre .4, omega (arith, few (s .pre .0), s .pre .1)), (p .node, p .entry (s .pre .2)))
+    ((s .pre .0 .links .long, s .pre .0 .nodes, s .pre .4, omega (arith, few (s .pre .0), s .pre .1)), (p .node, omega (arith, p .entry (s .pre .2), s .pre .0 .links .used)))
 
 add-next : tie.Need-add-next
 add-next c = search needs
