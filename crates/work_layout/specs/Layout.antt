@@ -106,37 +106,37 @@ NEXT = 40089
 abbrev pub HEADS : ℕ
 HEADS = 43161
 
--- The parents, two to a word: the first two of each entry, the next two of each, .., the last two of each.
+-- The parents, two to a word: the first two of each entry, the next two of each, .., the last two of each. Before it 128 words are left out.
 abbrev pub PARENTS : ℕ
-PARENTS = 47257
+PARENTS = 47385
 
 -- The search: a bit for each entry that is seen.
 abbrev pub SEEN : ℕ
-SEEN = 200857
+SEEN = 200985
 
 -- The search: for each node the node before it.
 abbrev pub PREVS : ℕ
-PREVS = 200953
+PREVS = 201081
 
 -- The search: for each node the entry visited, doubled, and the position bit.
 abbrev pub NODES : ℕ
-NODES = 201978
+NODES = 202106
 
 -- The search: the bits of each node.
 abbrev pub LENS : ℕ
-LENS = 203003
+LENS = 203131
 
 -- The search: three words for each path under way: node, place, extra.
 abbrev pub PATHS : ℕ
-PATHS = 204028
+PATHS = 204156
 
 -- Undo: sixteen copies of open pairs, stack and marks.
 abbrev pub COPIES : ℕ
-COPIES = 214027
+COPIES = 214155
 
 -- Not used, to the end of work.
 abbrev pub FREE : ℕ
-FREE = 346651
+FREE = 346779
 
 -- The most entries, and the slots of their table.
 abbrev pub ENTRIES : ℕ
@@ -207,6 +207,6 @@ Apart from most (r ∷ rs) = (from ≤ r .offset) × Apart (r .offset + r .size)
 pub regions-apart : Apart 0 FREE regions
 regions-apart = omega arith
 
--- So many words of work are not used.
-pub free-words : FREE + 177637 ≡ WORK
+-- So many words of work are not used after them.
+pub free-words : FREE + 177509 ≡ WORK
 free-words = refl

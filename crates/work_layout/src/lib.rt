@@ -78,32 +78,33 @@ pub const NEXT: usize = 40089;
 // Entries by slot: one more than the last one of the slot, or 0: 4,096 words.
 pub const HEADS: usize = 43161;
 
-// The parents, two to a word: the first two of each entry, the next two of each, .., the last two of each: 153,600 words. Only `parents` looks there.
-const PARENTS: usize = 47257;
+// The parents, two to a word: the first two of each entry, the next two of each, .., the last two of each: 153,600 words. Only `parents` looks there. The
+// 128 words before it are a gap: without it an entry's parents and its words in the tables before share a set of a processor's first cache.
+const PARENTS: usize = 47385;
 
 // How many words are cleared before the steps: those before the parents.
 pub const CLEARED: usize = PARENTS;
 
 // The search: a bit for each entry that is seen: 96 words.
-pub const SEEN: usize = 200857;
+pub const SEEN: usize = 200985;
 
 // The search: for each node the node before it: 1,025 words.
-pub const PREVS: usize = 200953;
+pub const PREVS: usize = 201081;
 
 // The search: for each node the entry visited, doubled, and the position bit: 1,025 words.
-pub const NODES: usize = 201978;
+pub const NODES: usize = 202106;
 
 // The search: the bits of each node: 1,025 words.
-pub const LENS: usize = 203003;
+pub const LENS: usize = 203131;
 
 // The search: three words for each path under way: node, place, extra: 9,999 words.
-pub const PATHS: usize = 204028;
+pub const PATHS: usize = 204156;
 
 // Undo: sixteen copies of open pairs, stack and marks: 132,624 words.
-pub const COPIES: usize = 214027;
+pub const COPIES: usize = 214155;
 
-// Not used, to the end of work: 177,637 words.
-pub const FREE: usize = 346651;
+// Not used, to the end of work: 177,509 words.
+pub const FREE: usize = 346779;
 
 // An entry of the tree cache, by its number. A handle (NodePtr) and an entry number never stand for each other.
 pub struct EntryIndex(pub u32);
