@@ -98,7 +98,9 @@ module _ (T : ℕ → Tree) (parents : Parents) (stack : List ℕ) (e : ℕ) whe
     leads : (len : ℕ) (bits : List Bool) → search parents stack len e ≡ some bits → Reaches bits
     unfolding Good
     leads len bits q =
-        search-ok (λ seen. Good) Reaches parents stack len e bits (λ L l seen p s h. step-ok parents stack (λ seen. Good) (λ seen. Good) Reaches good-steps seen p h) (record { steps = []; ends = refl; arrives = refl }) q
+        search-ok (λ seen. Good) Reaches parents stack len e bits
+        (λ L l seen p s h. step-ok parents stack (λ seen. Good) (λ seen. Good) Reaches good-steps seen p h)
+        (record { steps = []; ends = refl; arrives = refl }) q
 
 -- ---- how many bits the result has
 

@@ -143,7 +143,9 @@ module _ (is : List Item) (ih : Goes is) (k : List Op) (vs : List Tree) (m : ℕ
   path-case path b q none g e n l = absurd (Option·none-ne-some t e)
   path-case path b q (some v) g e zero l = absurd (omega arith)
   path-case path b q (some v) g e (suc n) l =
-      stepped (0xfe ∷ (b ++ output is)) is ih k v vs m n t f (reference-step b (output is) (ops-of k) vs m (path-bytes (path ++ true ∷ [])) v q (path-referred path vs v g)) e (omega (arith, length-append b (output is)))
+      stepped (0xfe ∷ (b ++ output is)) is ih k v vs m n t f
+      (reference-step b (output is) (ops-of k) vs m (path-bytes (path ++ true ∷ [])) v q (path-referred path vs v g)) e
+      (omega (arith, length-append b (output is)))
 
 pub goes : (is : List Item) → Goes is
 unfolding bind

@@ -221,7 +221,8 @@ module _ {input : List ℕ} {f : File} {w words : List ℕ} {rows : List Checkpo
         → Underway input f w′ words′ (set rows (slot-for (u .left) (p .adds)) r) out t
     restored-on next there {words′} {q} {t} qi ws ti =
         subst (λ (x : Progress). Underway input f w′ words′ (set rows (slot-for (u .left) (p .adds)) r) out x) (sym ti)
-        (subst (λ (x : List Checkpoint). Underway input f w′ words′ x out (noted-at q next)) (sym (ap (set rows (slot-for (u .left) (p .adds))) (sym r-is) ∙ set-getD rows (slot-for (u .left) (p .adds)) blank))
+        (subst (λ (x : List Checkpoint). Underway input f w′ words′ x out (noted-at q next))
+        (sym (ap (set rows (slot-for (u .left) (p .adds))) (sym r-is) ∙ set-getD rows (slot-for (u .left) (p .adds)) blank))
         (subst (λ (x : Progress). words′ ≡ set words (x .steps) (x .size * 2 + bit (x .finished)) → Underway input f w′ words′ rows out (noted-at x next)) (sym qi)
         (λ y. go-on input f w′ words words′ rows out (undone-at p r n) next rest (take n (u .past)) back
         (record { running = running; writes = writes; waiting = waiting }) stocked history (omega (arith, u .few-adds)) there

@@ -30,7 +30,9 @@ entry-requires : tie.Need-entry-requires
 entry-requires c κs = search needs
 
 is-seen-requires : tie.Need-is-seen-requires
-is-seen-requires c κs = (c .before .before .before .before .before .pre .0 .0 .long, omega (arith, c .entry .ensures, low (c .before .before), c .before .before .before .before .before .pre .0 .0 .used))
+is-seen-requires c κs =
+    let s = c .before .before .before .before .before in
+    (s .pre .0 .0 .long, omega (arith, c .entry .ensures, low (c .before .before), s .pre .0 .0 .used))
 
 same-length : tie.Need-same-length
 same-length c = search needs
