@@ -1,11 +1,10 @@
--- Loading a session file: the words lent to the loaders come back, and hold the tables of the file; the words after them are zero, up to the parents.
+-- Loading a session file: the words lent to the loaders come back, and hold the tables of the file; what is read before it is written is zero.
 -- Assumes nothing.
-use Prim.Native.Nat.{ℕ, zero, suc, _+_, _*_, _≤_, _<_}
+use Prim.Native.Nat.{ℕ, _+_, _-_, _*_, _≤_, _<_}
 use mathlib.Core.Path.{_≡_, refl, sym, ap, subst, _∙_}
-use mathlib.Core.List.{List, [], _∷_, _++_}
+use mathlib.Core.List.{List, [], _∷_}
 use native.Mathlib.Omega.{arith}
-use lib.ListN.{length, getD, set, take, replicate}
-use lib.Seq.{length-take-le}
+use lib.ListN.{length, getD, set, replicate, getD-replicate}
 use borrow.Rule.Slice.PartMut.{putMid}
 use Rattle.words.specs.Words.{at, part, WORK}
 use Rattle.words.specs.Lists.{all-at}
@@ -15,21 +14,25 @@ use Rattle.spec_session.specs.Places.{ListedAtom}
 use Rattle.file_parts.specs.Checked.{Passed}
 use Rattle.file_parts.specs.Loaded.{AtomPlace, AtomsLoaded, PairsLoaded}
 use Rattle.file_parts.specs.declared.session_file.Checked.{Checked}
-use Rattle.work_layout.specs.Layout.{ATOMS, PAIRS, FIRST, ATOM-LENGTHS, ATOM-HEADS, ATOM-COUNT, PAIR-COUNT, SENTINEL, OPEN}
+use Rattle.work_layout.specs.Layout.{ATOMS, PAIRS, FIRST, ATOM-LENGTHS, ATOM-HEADS, ATOM-NEXT, ATOM-COUNT, PAIR-COUNT, SENTINEL, OPEN, TOPS, PARENTS}
 use Rattle.work_layout.specs.Rows.{atom-bytes}
 use Rattle.file_tables.specs.Load.{Ready, Loaded}
 use Rattle.file_tables.proofs.Tables.{table-firsts, table-lengths}
-use Rattle.session_begin.specs.Opened.{TablesClear, Placed, Opened}
+use Rattle.session_begin.specs.Opened.{PartClear, TablesClear, Placed, Opened}
 
--- The words before place n were lent, and came back cleared.
-pub front-cleared : (n : ℕ) (w t rest : List ℕ) → n ≤ length w → t ≡ replicate (length (take n w)) 0 → (k : ℕ) → k < n → at (t ++ rest) k ≡ 0
-front-cleared n w t rest long e k l =
-    ap (λ (x : List ℕ). at (x ++ rest) k) (e ∙ ap (λ (m : ℕ). replicate m 0) (length-take-le n w long)) ∙ go n k l
-  where
-    go : (m j : ℕ) → j < m → at (replicate m 0 ++ rest) j ≡ 0
-    go zero j h = absurd (omega arith)
-    go (suc m) zero h = refl
-    go (suc m) (suc j) h = go m j (omega arith)
+-- The words from a up to b were lent, and came back cleared.
+pub part-clear : (w r : List ℕ) (a b : ℕ) → a ≤ b → b ≤ length w → length r ≡ b - a → r ≡ replicate (b - a) 0 → PartClear w (putMid a (b - a) w r) a b
+part-clear w r a b h long len q = record {
+  zeros = λ k l m.
+      let e : k ≡ a + (k - a) = omega arith in
+      ap (at (putMid a (b - a) w r)) e ∙ put-at a (b - a) w r (omega arith) len (k - a) (omega arith) ∙ ap (λ (x : List ℕ). at x (k - a)) q
+      ∙ getD-replicate (b - a) (k - a) 0 0 (omega arith);
+  others = λ k d. put-other a (b - a) w r (omega arith) len k (λ j m e. d (omega arith) (omega arith));
+}
+
+-- Both parts.
+pub tables-clear : {w w₁ w₂ : List ℕ} → PartClear w w₁ ATOM-HEADS ATOM-NEXT → PartClear w₁ w₂ TOPS PARENTS → TablesClear w₂
+tables-clear a b = record { heads = λ k l m. b .others k (λ x y. omega arith) ∙ a .zeros k l m; zeros = b .zeros }
 
 pub few-twice : {input : List ℕ} {f : File} {c : Checked} → Passed input f c → (2 * c .atoms ≤ 2048) × (2 * c .pairs ≤ 2048)
 few-twice p =
@@ -73,6 +76,12 @@ module _ {input : List ℕ} {f : File} {c : Checked} (p : Passed input f c) {n :
   handle : (k j : ℕ) → k ≡ 2048 + j → j < 2048 → at w₂ k ≡ at r₂ j
   handle k j e l = ap (λ (i : ℕ). at w₂ i) e ∙ put-at 2048 2048 w₁ r₂ (omega (arith, long₁)) have₂ j l
 
+  -- The words after them stay.
+  later : (k : ℕ) → FIRST ≤ k → at w₂ k ≡ at w₀ k
+  later k l =
+      put-other 2048 2048 w₁ r₂ (omega (arith, long₁)) have₂ k (λ i m e. omega (arith, e))
+      ∙ put-other 0 2048 w₀ r₁ (omega (arith, long₀)) have₁ k (λ i m e. omega (arith, e))
+
   pub placed : Placed input f w₂
   placed =
       let fa = p .contents .few-atoms in
@@ -84,10 +93,10 @@ module _ {input : List ℕ} {f : File} {c : Checked} (p : Passed input f c) {n :
             (l₁ .places i l));
         lefts = λ i l. handle (PAIRS + 2 * i) (2 * i) (omega arith) (omega arith) ∙ l₂ .lefts i l;
         rights = λ i l. handle (PAIRS + 2 * i + 1) (2 * i + 1) (omega arith) (omega arith) ∙ l₂ .rights i l;
-        zeros = λ k l b.
-            put-other 2048 2048 w₁ r₂ (omega (arith, long₁)) have₂ k (λ i m e. omega (arith, e))
-            ∙ put-other 0 2048 w₀ r₁ (omega (arith, long₀)) have₁ k (λ i m e. omega (arith, e))
-            ∙ clear k b;
+        clear = record {
+          heads = λ k l b. later k (omega arith) ∙ clear .heads k l b;
+          zeros = λ k l b. later k (omega arith) ∙ clear .zeros k l b;
+        };
       }
 
 -- ---- the other tables
@@ -100,7 +109,7 @@ module _ {input : List ℕ} {f : File} {c : Checked} (p : Passed input f c) {w :
         short = p .short;
         few = omega (arith, p .atoms-are, p .contents .few-atoms);
         inside = λ i l. let q = pl .atoms i (omega (arith, p .atoms-are)) in (q .before, q .inside);
-        heads = λ s l. pl .zeros (ATOM-HEADS + s) (omega arith) (omega arith);
+        heads = λ s l. pl .clear .heads (ATOM-HEADS + s) (omega arith) (omega arith);
       }
 
   module _ (n : ℕ) (e : n ≡ c .atoms) (w₁ : List ℕ) (long₁ : length w₁ ≡ length w) (ld : Loaded input w w₁ n) where
@@ -114,8 +123,8 @@ module _ {input : List ℕ} {f : File} {c : Checked} (p : Passed input f c) {w :
     other : (k : ℕ) → (k < ATOM-COUNT) → at last k ≡ at w₁ k
     other k l = miss put w₁ k (omega arith)
 
-    later : (k : ℕ) → OPEN ≤ k → at last k ≡ at w₁ k
-    later k l = miss put w₁ k (omega arith)
+    after : (k : ℕ) → OPEN ≤ k → at last k ≡ at w₁ k
+    after k l = miss put w₁ k (omega arith)
 
     low : (k : ℕ) → k < FIRST → at last k ≡ at w k
     low k l = other k (omega arith) ∙ ld .kept .low k l
@@ -160,5 +169,5 @@ module _ {input : List ℕ} {f : File} {c : Checked} (p : Passed input f c) {w :
                     let m : i < length (f .atoms) = omega (arith, count) in omega (arith, pl .atoms i m .inside, low (ATOMS + 2 * i + 1) (omega arith));
               };
           atoms-there = record { bytes = λ i l. atom-same i (omega arith) ∙ bytes-are i l };
-          zeros = λ k l b. later k l ∙ ld .kept .high k (omega arith) ∙ pl .zeros k (omega arith) b;
+          zeros = λ k l b. after k (omega arith) ∙ ld .kept .high k (omega arith) ∙ pl .clear .zeros k l b;
         }

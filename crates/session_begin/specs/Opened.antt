@@ -7,28 +7,34 @@ use lib.ListN.{length, getD}
 use Rattle.words.specs.Words.{at}
 use Rattle.spec_session.specs.File.{File}
 use Rattle.file_parts.specs.Loaded.{AtomPlace, pair-of}
-use Rattle.work_layout.specs.Layout.{ATOMS, PAIRS, FIRST, OPEN, PARENTS}
+use Rattle.work_layout.specs.Layout.{ATOMS, PAIRS, ATOM-HEADS, ATOM-NEXT, TOPS, PARENTS}
 use Rattle.cache_entries.specs.Meaning.{Tables}
 use Rattle.write_place.specs.State.{AtomPlaces, AtomsThere}
 use Rattle.session_state.specs.declared.progress.Progress.{Progress}
 
--- The words before the parents are zero.
-abbrev pub TablesClear : List ℕ → Type 0
-TablesClear w = (k : ℕ) → k < PARENTS → at w k ≡ 0
+-- The words from a up to b became zero, and no other changed.
+pub record PartClear (w w′ : List ℕ) (a b : ℕ) : Type 0 where
+  pub zeros : (k : ℕ) → a ≤ k → k < b → at w′ k ≡ 0
+  pub others : (k : ℕ) → (a ≤ k → k < b → ⊥) → at w′ k ≡ at w k
 
--- The places of the atoms and the handles of the pairs are there, and the words after them are zero, up to the parents.
+-- The heads of the atoms' slots are zero, and from TOPS up to the parents all words: what is read before it is written.
+pub record TablesClear (w : List ℕ) : Type 0 where
+  pub heads : (k : ℕ) → ATOM-HEADS ≤ k → k < ATOM-NEXT → at w k ≡ 0
+  pub zeros : (k : ℕ) → TOPS ≤ k → k < PARENTS → at w k ≡ 0
+
+-- The places of the atoms and the handles of the pairs are there, and what is read before it is written is zero.
 pub record Placed (input : List ℕ) (f : File) (w : List ℕ) : Type 0 where
   pub atoms : (i : ℕ) → i < length (f .atoms) → AtomPlace input (at w (ATOMS + 2 * i)) (at w (ATOMS + 2 * i + 1)) (getD (f .atoms) i [])
   pub lefts : (i : ℕ) → i < length (f .pairs) → at w (PAIRS + 2 * i) ≡ pair-of (f .pairs) i .left
   pub rights : (i : ℕ) → i < length (f .pairs) → at w (PAIRS + 2 * i + 1) ≡ pair-of (f .pairs) i .right
-  pub zeros : (k : ℕ) → FIRST ≤ k → k < PARENTS → at w k ≡ 0
+  pub clear : TablesClear w
 
--- All tables of the file are there, and the words after them are zero, up to the parents.
+-- All tables of the file are there, and from TOPS up to the parents all words are zero.
 pub record Opened (input : List ℕ) (f : File) (w : List ℕ) : Type 0 where
   pub tables : Tables f w
   pub places : AtomPlaces input w
   pub atoms-there : AtomsThere input f w
-  pub zeros : (k : ℕ) → OPEN ≤ k → k < PARENTS → at w k ≡ 0
+  pub zeros : (k : ℕ) → TOPS ≤ k → k < PARENTS → at w k ≡ 0
 
 -- The first step comes next; nothing is added, open or written.
 abbrev pub start-at : ℕ → Progress

@@ -11,7 +11,7 @@ ghost use Rattle.words.specs.Words.{WORK};
 ghost use Rattle.words.specs.Lists.{Bytes};
 ghost use Rattle.file_parts.specs.Checked.{Passed};
 ghost use Rattle.session_state.specs.State.{the-file};
-ghost use Rattle.session_begin.specs.Opened.{TablesClear, Placed, Opened, start-at};
+ghost use Rattle.session_begin.specs.Opened.{PartClear, TablesClear, Placed, Opened, start-at};
 ghost use Rattle.session_begin.specs.Begins.{asked, refused-with, Begins};
 
 // Where the run starts, and how many checkpoint records are to be cleared after it. With 1 to 8 the run is over before it starts, and no record is cleared.
@@ -20,15 +20,24 @@ pub struct Begun {
     pub records: usize,
 }
 
-// The words before the parents become zero. What lies from there on is not used before it is written.
+// The words from one place up to another become zero.
+fn clear_part(work: &mut [u32], from: usize, to: usize)
+    requires { ⌜ (from ≤ to) × (to ≤ length (now work)) ⌝ }
+    ensures { λ _. ⌜ PartClear (now (work .entry)) (now (work .exit)) from to ⌝ }
+{
+    slices::clear(&mut work[from..to]);
+}
+
+// What is read before it is written becomes zero.
 fn clear_tables(work: &mut [u32])
     requires { ⌜ WORK ≤ length (now work) ⌝ }
     ensures { λ _. ⌜ TablesClear (now (work .exit)) ⌝ }
 {
-    slices::clear(&mut work[..work_layout::CLEARED]);
+    clear_part(work, work_layout::ATOM_HEADS, work_layout::ATOM_NEXT);
+    clear_part(work, work_layout::TOPS, work_layout::CLEARED);
 }
 
-// The places of the atoms and the handles of the pairs go to work; the words after them are zero, up to the parents.
+// The places of the atoms and the handles of the pairs go to work; the heads of the atoms' slots are zero, and from TOPS up to the parents all words.
 fn load_places(file: &[u8], tables: &mut [u32], checked: Checked)
     requires { ⌜ (Passed (now file) (the-file (now file)) checked) × (WORK ≤ length (now tables)) ⌝ }
     ensures { λ _. ⌜ Placed (now (file .entry)) (the-file (now (file .entry))) (now (tables .exit)) ⌝ }
@@ -47,7 +56,7 @@ fn load_places(file: &[u8], tables: &mut [u32], checked: Checked)
     );
 }
 
-// The tables of the file go to work; the words after them are zero, up to the parents.
+// The tables of the file go to work; from TOPS up to the parents all words are zero.
 fn open(file: &[u8], work: &mut [u32], checked: Checked)
     requires { ⌜ (Passed (now file) (the-file (now file)) checked) × (WORK ≤ length (now work)) ⌝ }
     ensures { λ _. ⌜ Opened (now (file .entry)) (the-file (now (file .entry))) (now (work .exit)) ⌝ }

@@ -82,7 +82,7 @@ pub const HEADS: usize = 43161;
 // 128 words before it are a gap: without it an entry's parents and its words in the tables before share a set of a processor's first cache.
 const PARENTS: usize = 47385;
 
-// How many words are cleared before the steps: those before the parents.
+// Where the clearing before the steps ends: at the parents.
 pub const CLEARED: usize = PARENTS;
 
 // The search: a bit for each entry that is seen: 96 words.
