@@ -16,16 +16,17 @@ use Rattle.words.specs.Choice.{by-cond, by-lt}
 use Rattle.words.specs.Lists.{All, all-append, all-drop, all-take, all-map, all-or}
 use Rattle.path.specs.Bytes.{bit}
 use Rattle.allocator.specs.Handle.{Node, pair, listed-atom, small-atom, unknown, node-of, handle-of}
-use Rattle.spec_session.specs.File.{File, Pair, Step, add, restore}
+use Rattle.spec_session.specs.File.{File, Pair, Step, add, restore, forget}
 use Rattle.spec_session.specs.Unfold.{Unfolded, hole, leaf, node, is-sentinel, named-by, unfold-with, unfold-pairs, unfolded}
 use Rattle.spec_session.specs.Cache.{Key, Parent, Entry, Cache, same-key, later, find-key, lookup, adjust, parents-at, add-parent, move-parents}
 use Rattle.spec_session.specs.Cache.{no-parents, new-entry, with-entries, keep-or-add, find-or-add, link-pair, join-pair, known-or, fresh}
 use Rattle.spec_session.specs.Cache.{enter, sentinel-parents, clear-sentinel, place-root, update}
 use Rattle.spec_session.specs.Items.{Item}
 use Rattle.spec_session.specs.Writer.{Todo, parse, Outcome, done, stopped, refused, resume, Session, start, Added, added, turned-down, settle, add-at, add-tree}
-use Rattle.spec_session.specs.Trees.{nth}
+use Rattle.spec_session.specs.Trees.{nth, both-more, both-fewer}
 use Rattle.spec_session.specs.FindPath.{find-in}
-use Rattle.spec_session.specs.Steps.{UndoState, undo-state, or-known, restored, room-in, Run, after-add, unless-full, after-restore, run-steps}
+use Rattle.spec_session.specs.Steps.{or-known, restored, room-in, State, at-start, Stepped, went, halted, Run, unless-full, after-add, after-restore}
+use Rattle.spec_session.specs.Steps.{after-forget, add-handle, add-step, run-step, after-step, run-steps}
 
 -- ---- all parents
 
@@ -567,41 +568,56 @@ module _ (n k : ℕ) (c : Cache) (h : Held n k c) where
   pub held-parents : all-parents (c .entries) ≤ 2 * n
   held-parents = omega (arith, h .parents-held, held-mapped)
 
--- The state before an add has no sentinel's entry beyond the entries of c.
-abbrev pub UndoBelow : ℕ → UndoState → Type 0
-UndoBelow m u = Below m (u .sentinel-entry)
+-- A session whose sentinel's entry is one of the first m.
+abbrev pub SentinelBelow : ℕ → Session → Type 0
+SentinelBelow m u = Below m (u .cache .sentinel-entry)
 
--- A session after at most k adds, and the states before the adds on the present history.
-pub record InBounds (n k : ℕ) (past : List UndoState) (s : Session) : Type 0 where
+-- A session after at most k adds, and the sessions before the adds on its history.
+pub record Stood (n k : ℕ) (past : List Session) (s : Session) : Type 0 where
   pub held : Held n k (s .cache)
-  pub past-below : All (UndoBelow (length (s .cache .entries))) past
+  pub past-below : All (SentinelBelow (length (s .cache .entries))) past
+
+-- The same of each session before an add, which may come back.
+pub record InBounds (n k : ℕ) (past : List Session) (s : Session) : Type 0 where
+  pub stood : Stood n k past s
+  pub past-stood : (i : ℕ) (u : Session) → nth past i ≡ some u → Stood n k (take i past) u
 
 pub in-bounds-start : (n : ℕ) → InBounds n 0 [] start
-in-bounds-start n = record { held = held-start n; past-below = tt }
+in-bounds-start n = record {
+  stood = record { held = held-start n; past-below = tt };
+  past-stood = λ i u q. absurd (Option·none-ne-some u q);
+}
+
+stood-later : (n k m : ℕ) (past : List Session) (s : Session) → k ≤ m → Stood n k past s → Stood n m past s
+stood-later n k m past s l h = record { held = held-later n k m (s .cache) l (h .held); past-below = h .past-below }
+
+pub in-bounds-later : (n k m : ℕ) (past : List Session) (s : Session) → k ≤ m → InBounds n k past s → InBounds n m past s
+in-bounds-later n k m past s l h = record {
+  stood = stood-later n k m past s l (h .stood);
+  past-stood = λ i u q. stood-later n k m (take i past) u l (h .past-stood i u q);
+}
 
 abbrev pub session-of : Added → Session
 session-of (added s) = s
 session-of (turned-down m s) = s
 
-settled : (s : Session) (c : Cache) (o : Outcome) → session-of (settle s c o) .cache ≡ c
+pub settled : (s : Session) (c : Cache) (o : Outcome) → session-of (settle s c o) .cache ≡ c
 settled s c (done w) = refl
 settled s c (stopped k w) = refl
 settled s c (refused m w) = refl
 
 past-more : (s : Session) (m : ℕ) → length (s .cache .entries) ≤ m → Below (length (s .cache .entries)) (s .cache .sentinel-entry)
-    → (past : List UndoState) → All (UndoBelow (length (s .cache .entries))) past → All (UndoBelow m) (past ++ undo-state s ∷ [])
+    → (past : List Session) → All (SentinelBelow (length (s .cache .entries))) past → All (SentinelBelow m) (past ++ s ∷ [])
 past-more s m l b past h =
-    all-append (UndoBelow m) past (undo-state s ∷ [])
-    (all-map (UndoBelow (length (s .cache .entries))) (UndoBelow m) (λ u. below-mono (length (s .cache .entries)) m l (u .sentinel-entry)) past h)
+    all-append (SentinelBelow m) past (s ∷ [])
+    (all-map (SentinelBelow (length (s .cache .entries))) (SentinelBelow m) (λ u. below-mono (length (s .cache .entries)) m l (u .cache .sentinel-entry)) past h)
     (below-mono (length (s .cache .entries)) m l (s .cache .sentinel-entry) b, tt)
 
-module _ (find : Cache → List ℕ → List ℕ → ℕ → ℕ → Option (List Bool)) (room : List Todo → List Item → Item → ℕ) (n k : ℕ) (past : List UndoState) where
-  -- An add, refused or not.
-  pub in-bounds-add : (t : Unfolded) (s : Session) → Under n t → InBounds n k past s
-      → InBounds n (suc k) (past ++ undo-state s ∷ []) (session-of (add-tree find room t s))
-  in-bounds-add t s u h = go (s .waiting)
+module _ (find : Cache → List ℕ → List ℕ → ℕ → ℕ → Option (List Bool)) (room : List Todo → List Item → Item → ℕ) (n k : ℕ) (past : List Session) where
+  stood-add : (t : Unfolded) (s : Session) → Under n t → Stood n k past s → Stood n (suc k) (past ++ s ∷ []) (session-of (add-tree find room t s))
+  stood-add t s u h = go (s .waiting)
     where
-      go : (o : Option (List Todo)) → InBounds n (suc k) (past ++ undo-state s ∷ []) (session-of (add-at find room t s o))
+      go : (o : Option (List Todo)) → Stood n (suc k) (past ++ s ∷ []) (session-of (add-at find room t s o))
       go none = record {
         held = held-later n k (suc k) (s .cache) (omega arith) (h .held);
         past-below = past-more s (length (s .cache .entries)) (omega arith) (h .held .bounded .sentinel-below) past (h .past-below);
@@ -613,9 +629,18 @@ module _ (find : Cache → List ℕ → List ℕ → ℕ → ℕ → Option (Lis
           record {
             held = subst (Held n (suc k)) (sym e) (held-update n k t (s .cache) u (h .held));
             past-below =
-                subst (λ (d : Cache). All (UndoBelow (length (d .entries))) (past ++ undo-state s ∷ [])) (sym e)
+                subst (λ (d : Cache). All (SentinelBelow (length (d .entries))) (past ++ s ∷ [])) (sym e)
                 (past-more s (length (c .entries)) (update-grown n t (s .cache) u (h .held .bounded) .entries-grow) (h .held .bounded .sentinel-below) past (h .past-below));
           }
+
+  -- An add, refused or not.
+  pub in-bounds-add : (t : Unfolded) (s : Session) → Under n t → InBounds n k past s → InBounds n (suc k) (past ++ s ∷ []) (session-of (add-tree find room t s))
+  in-bounds-add t s u h = record {
+    stood = stood-add t s u (h .stood);
+    past-stood =
+        both-more (Stood n (suc k)) past past s s refl (λ i v q. stood-later n k (suc k) (take i past) v (omega arith) (h .past-stood i v q))
+        (stood-later n k (suc k) past s (omega arith) (h .stood));
+  }
 
 pub all-nth : {A : Type 0} (P : A → Type 0) (xs : List A) (i : ℕ) (x : A) → All P xs → nth xs i ≡ some x → P x
 all-nth P [] i x h q = absurd (Option·none-ne-some x q)
@@ -626,122 +651,151 @@ or-known-below : (m : ℕ) (o now : Option ℕ) → Below m o → Below m now �
 or-known-below m none now h k = k
 or-known-below m (some s) now h k = h
 
--- A restore.
-pub in-bounds-restore : (n k i : ℕ) (past : List UndoState) (u : UndoState) (s : Session) → nth past i ≡ some u → InBounds n k past s
+-- A `02`.
+pub in-bounds-restore : (n k i : ℕ) (past : List Session) (u s : Session) → nth past i ≡ some u → InBounds n k past s
     → InBounds n k (take i past) (restored u s)
 in-bounds-restore n k i past u s q h = record {
-  held = record {
-    bounded = record {
-      parents-ok = h .held .bounded .parents-ok;
-      mapped-in = h .held .bounded .mapped-in;
-      mapped-below = h .held .bounded .mapped-below;
-      sentinel-below =
-          or-known-below (length (s .cache .entries)) (u .sentinel-entry) (s .cache .sentinel-entry)
-          (all-nth (UndoBelow (length (s .cache .entries))) past i u (h .past-below) q) (h .held .bounded .sentinel-below);
+  stood = record {
+    held = record {
+      bounded = record {
+        parents-ok = h .stood .held .bounded .parents-ok;
+        mapped-in = h .stood .held .bounded .mapped-in;
+        mapped-below = h .stood .held .bounded .mapped-below;
+        sentinel-below =
+            or-known-below (length (s .cache .entries)) (u .cache .sentinel-entry) (s .cache .sentinel-entry)
+            (all-nth (SentinelBelow (length (s .cache .entries))) past i u (h .stood .past-below) q) (h .stood .held .bounded .sentinel-below);
+      };
+      entries-held = h .stood .held .entries-held;
+      parents-held = h .stood .held .parents-held;
     };
-    entries-held = h .held .entries-held;
-    parents-held = h .held .parents-held;
+    past-below = all-take (SentinelBelow (length (s .cache .entries))) i past (h .stood .past-below);
   };
-  past-below = all-take (UndoBelow (length (s .cache .entries))) i past (h .past-below);
+  past-stood = both-fewer (Stood n k) i past past refl (h .past-stood);
 }
+
+-- A `03`.
+pub in-bounds-forget : (n k i : ℕ) (past : List Session) (u s : Session) → nth past i ≡ some u → InBounds n k past s → InBounds n k (take i past) u
+in-bounds-forget n k i past u s q h = record { stood = h .past-stood i u q; past-stood = both-fewer (Stood n k) i past past refl (h .past-stood) }
 
 -- ---- a run
 
--- To show R of the session where a run ends: I, of the steps that are left, the states before the adds and the session, is kept by each step, and gives R.
-module _ (measure : List Bool → ℕ) (space : ℕ) (f : File) (I : List Step → List UndoState → Session → Type 0) (R : Session → Type 0) where
-  abbrev pub AddKept : List Step → List UndoState → Added → Type 0
-  AddKept steps past (added s) = I steps past s
-  AddKept steps past (turned-down m s) = R s
-
-  pub record StepsKept : Type 0 where
-    pub stop-kept : (steps : List Step) (past : List UndoState) (s : Session) → I steps past s → R s
-    pub add-kept : (h : ℕ) (steps : List Step) (past : List UndoState) (s : Session) (k : List Todo) → s .waiting ≡ some k → length past ≤ 15
-        → I (add h ∷ steps) past s → AddKept steps (past ++ undo-state s ∷ []) (add-tree (find-in measure) (room-in space) (unfolded f h) s)
-    pub restore-kept : (i : ℕ) (steps : List Step) (past : List UndoState) (s : Session) (u : UndoState) → nth past i ≡ some u
-        → I (restore i ∷ steps) past s → I steps (take i past) (restored u s)
-
-  EndsIn : Run → Type 0
-  EndsIn r = R (r .last)
-
-  ends-add : (steps : List Step) (past : List UndoState) (a : Added) (next : Session → Run) → AddKept steps past a
-      → ((s : Session) → I steps past s → EndsIn (next s)) → EndsIn (after-add a next)
-  unfolding EndsIn
-  ends-add steps past (added s) next h g = g s h
-  ends-add steps past (turned-down m s) next h g = h
-
-  ends-full : (o : Option (List Todo)) (full : Bool) (s : Session) (r : Run) → R s → ((k : List Todo) → o ≡ some k → full ≡ false → EndsIn r)
-      → EndsIn (unless-full o full s r)
-  unfolding EndsIn
-  ends-full none full s r h g = h
-  ends-full (some k) true s r h g = h
-  ends-full (some k) false s r h g = g k refl refl
-
-  ends-restore : (o : Option UndoState) (s : Session) (next : Session → Run) → R s → ((u : UndoState) → o ≡ some u → EndsIn (next (restored u s)))
-      → EndsIn (after-restore o s next)
-  unfolding EndsIn
-  ends-restore none s next h g = h
-  ends-restore (some u) s next h g = g u refl
-
-  pub run-kept : StepsKept → (steps : List Step) (past : List UndoState) (s : Session) → I steps past s → R (run-steps measure space f steps past s .last)
-  unfolding run-steps EndsIn
-  run-kept K [] past s h = K .stop-kept [] past s h
-  run-kept K (add g ∷ steps) past s h =
-      ends-full (s .waiting) (ltb 15 (length past)) s _ (K .stop-kept (add g ∷ steps) past s h) (λ k w e.
-      ends-add steps (past ++ undo-state s ∷ []) (add-tree (find-in measure) (room-in space) (unfolded f g) s)
-      (λ t. run-steps measure space f steps (past ++ undo-state s ∷ []) t)
-      (K .add-kept g steps past s k w (ltb-false 15 (length past) e) h)
-      (λ t j. run-kept K steps (past ++ undo-state s ∷ []) t j))
-  run-kept K (restore i ∷ steps) past s h =
-      ends-restore (nth past i) s (λ t. run-steps measure space f steps (take i past) t) (K .stop-kept (restore i ∷ steps) past s h)
-      (λ u q. run-kept K steps (take i past) (restored u s) (K .restore-kept i steps past s u q h))
-
--- ---- the bounds of a run
-
+-- The steps that add a tree.
 abbrev pub adds : List Step → ℕ
 adds [] = 0
 adds (add h ∷ steps) = suc (adds steps)
 adds (restore i ∷ steps) = adds steps
+adds (forget i ∷ steps) = adds steps
+
+pub adds-few : (steps : List Step) → adds steps ≤ length steps
+adds-few [] = omega arith
+adds-few (add h ∷ steps) = omega (arith, adds-few steps)
+adds-few (restore i ∷ steps) = omega (arith, adds-few steps)
+adds-few (forget i ∷ steps) = omega (arith, adds-few steps)
+
+-- To show R of the session where a run ends: I, of how many adds are left, the sessions before the adds and the session, is kept by each step, and gives R.
+module _ (measure : List Bool → ℕ) (space : ℕ) (f : File) (I : ℕ → List Session → Session → Type 0) (R : Session → Type 0) where
+  abbrev pub AddKept : ℕ → List Session → Added → Type 0
+  AddKept left past (added s) = I left past s
+  AddKept left past (turned-down m s) = R s
+
+  pub record StepsKept : Type 0 where
+    pub stop-kept : (left : ℕ) (past : List Session) (s : Session) → I left past s → R s
+    pub add-kept : (h left : ℕ) (past : List Session) (s : Session) (k : List Todo) → s .waiting ≡ some k → length past ≤ 15
+        → I (suc left) past s → AddKept left (past ++ s ∷ []) (add-handle measure space f h s)
+    pub restore-kept : (i left : ℕ) (past : List Session) (u s : Session) → nth past i ≡ some u → I left past s → I left (take i past) (restored u s)
+    pub forget-kept : (i left : ℕ) (past : List Session) (u s : Session) → nth past i ≡ some u → I left past s → I left (take i past) u
+
+  -- What a step leaves.
+  abbrev pub StepKept : ℕ → Stepped → Type 0
+  StepKept left (went w st) = I left (st .past) (st .now)
+  StepKept left (halted n s) = R s
+
+  kept-full : (left : ℕ) (o : Option (List Todo)) (full : Bool) (s : Session) (x : Stepped) → R s → ((k : List Todo) → o ≡ some k → full ≡ false → StepKept left x)
+      → StepKept left (unless-full o full s x)
+  kept-full left none full s x h g = h
+  kept-full left (some k) true s x h g = h
+  kept-full left (some k) false s x h g = g k refl refl
+
+  kept-add : (left : ℕ) (a : Added) (st : State) → AddKept left (st .past ++ st .now ∷ []) a → StepKept left (after-add a st)
+  kept-add left (added s) st h = h
+  kept-add left (turned-down m s) st h = h
+
+  module _ (K : StepsKept) where
+    add-step-kept : (h left : ℕ) (st : State) → I (suc left) (st .past) (st .now) → StepKept left (add-step measure space f h st)
+    add-step-kept h left st i =
+        kept-full left (st .now .waiting) (ltb 15 (length (st .past))) (st .now) _ (K .stop-kept (suc left) (st .past) (st .now) i) (λ k w e.
+        kept-add left (add-handle measure space f h (st .now)) st (K .add-kept h left (st .past) (st .now) k w (ltb-false 15 (length (st .past)) e) i))
+
+    restore-step-kept : (o : Option Session) (n left : ℕ) (st : State) → nth (st .past) n ≡ o → I left (st .past) (st .now) → StepKept left (after-restore o n st)
+    restore-step-kept none n left st q i = K .stop-kept left (st .past) (st .now) i
+    restore-step-kept (some u) n left st q i = K .restore-kept n left (st .past) u (st .now) q i
+
+    forget-step-kept : (o : Option Session) (n left : ℕ) (st : State) → nth (st .past) n ≡ o → I left (st .past) (st .now) → StepKept left (after-forget o n st)
+    forget-step-kept none n left st q i = K .stop-kept left (st .past) (st .now) i
+    forget-step-kept (some u) n left st q i = K .forget-kept n left (st .past) u (st .now) q i
+
+    pub step-kept : (x : Step) (steps : List Step) (st : State) → I (adds (x ∷ steps)) (st .past) (st .now) → StepKept (adds steps) (run-step measure space f x st)
+    step-kept (add h) steps st i = add-step-kept h (adds steps) st i
+    step-kept (restore n) steps st i = restore-step-kept (nth (st .past) n) n (adds steps) st refl i
+    step-kept (forget n) steps st i = forget-step-kept (nth (st .past) n) n (adds steps) st refl i
+
+    kept-run : (left : ℕ) (x : Stepped) (next : State → Run) → StepKept left x → ((st : State) → I left (st .past) (st .now) → R (next st .last)) → R (after-step x next .last)
+    kept-run left (went w st) next i g = g st i
+    kept-run left (halted n s) next i g = i
+
+    pub run-kept : (steps : List Step) (st : State) → I (adds steps) (st .past) (st .now) → R (run-steps measure space f steps st .last)
+    unfolding run-steps
+    run-kept [] st i = K .stop-kept 0 (st .past) (st .now) i
+    run-kept (x ∷ steps) st i =
+        kept-run (adds steps) (run-step measure space f x st) (λ t. run-steps measure space f steps t) (step-kept x steps st i) (λ t j. run-kept steps t j)
+
+-- ---- the bounds of a run
 
 -- A session after so many adds that those left make at most m together, in a file with n pairs.
-pub record Underway (n m : ℕ) (steps : List Step) (past : List UndoState) (s : Session) : Type 0 where
+pub record Underway (n m left : ℕ) (past : List Session) (s : Session) : Type 0 where
   pub done-adds : ℕ
-  pub adds-most : done-adds + adds steps ≤ m
+  pub adds-most : done-adds + left ≤ m
   pub in-bounds : InBounds n done-adds past s
 
 -- What an add leaves, and the end of the run where it is refused.
-added-underway : (measure : List Bool → ℕ) (space : ℕ) (f : File) (n m k : ℕ) (steps : List Step) (past : List UndoState) (a : Added)
-    → suc k + adds steps ≤ m → InBounds n (suc k) past (session-of a) → AddKept measure space f (Underway n m) (λ s. Held n m (s .cache)) steps past a
-added-underway measure space f n m k steps past (added s) l b = record { done-adds = suc k; adds-most = l; in-bounds = b }
-added-underway measure space f n m k steps past (turned-down i s) l b = held-later n (suc k) m (s .cache) (omega arith) (b .held)
+added-underway : (measure : List Bool → ℕ) (space : ℕ) (f : File) (n m k left : ℕ) (past : List Session) (a : Added)
+    → suc k + left ≤ m → InBounds n (suc k) past (session-of a) → AddKept measure space f (Underway n m) (λ s. Held n m (s .cache)) left past a
+added-underway measure space f n m k left past (added s) l b = record { done-adds = suc k; adds-most = l; in-bounds = b }
+added-underway measure space f n m k left past (turned-down i s) l b = held-later n (suc k) m (s .cache) (omega arith) (b .stood .held)
 
 module _ (measure : List Bool → ℕ) (space : ℕ) (f : File) where
-  held-steps : (m : ℕ) → StepsKept measure space f (Underway (length (f .pairs)) m) (λ s. Held (length (f .pairs)) m (s .cache))
+  pub held-steps : (m : ℕ) → StepsKept measure space f (Underway (length (f .pairs)) m) (λ s. Held (length (f .pairs)) m (s .cache))
   held-steps m = record {
-    stop-kept = λ steps past s h. held-later (length (f .pairs)) (h .done-adds) m (s .cache) (omega (arith, h .adds-most)) (h .in-bounds .held);
-    add-kept = λ g steps past s k w l h.
-        added-underway measure space f (length (f .pairs)) m (h .done-adds) steps (past ++ undo-state s ∷ [])
-        (add-tree (find-in measure) (room-in space) (unfolded f g) s) (omega (arith, h .adds-most))
+    stop-kept = λ left past s h. held-later (length (f .pairs)) (h .done-adds) m (s .cache) (omega (arith, h .adds-most)) (h .in-bounds .stood .held);
+    add-kept = λ g left past s k w l h.
+        added-underway measure space f (length (f .pairs)) m (h .done-adds) left (past ++ s ∷ [])
+        (add-handle measure space f g s) (omega (arith, h .adds-most))
         (in-bounds-add (find-in measure) (room-in space) (length (f .pairs)) (h .done-adds) past (unfolded f g) s (unfolded-under f g) (h .in-bounds));
-    restore-kept = λ i steps past s u q h. record {
+    restore-kept = λ i left past u s q h. record {
       done-adds = h .done-adds;
       adds-most = h .adds-most;
       in-bounds = in-bounds-restore (length (f .pairs)) (h .done-adds) i past u s q (h .in-bounds);
     };
+    forget-kept = λ i left past u s q h. record {
+      done-adds = h .done-adds;
+      adds-most = h .adds-most;
+      in-bounds = in-bounds-forget (length (f .pairs)) (h .done-adds) i past u s q (h .in-bounds);
+    };
   }
 
   -- The cache where a run ends, from a session after k adds.
-  pub run-held : (steps : List Step) (past : List UndoState) (s : Session) (k : ℕ) → InBounds (length (f .pairs)) k past s
-      → Held (length (f .pairs)) (k + adds steps) (run-steps measure space f steps past s .last .cache)
-  run-held steps past s k h =
+  pub run-held : (steps : List Step) (st : State) (k : ℕ) → InBounds (length (f .pairs)) k (st .past) (st .now)
+      → Held (length (f .pairs)) (k + adds steps) (run-steps measure space f steps st .last .cache)
+  run-held steps st k h =
       run-kept measure space f (Underway (length (f .pairs)) (k + adds steps)) (λ t. Held (length (f .pairs)) (k + adds steps) (t .cache))
-      (held-steps (k + adds steps)) steps past s (record { done-adds = k; adds-most = omega arith; in-bounds = h })
+      (held-steps (k + adds steps)) steps st (record { done-adds = k; adds-most = omega arith; in-bounds = h })
 
   module _ (steps : List Step) (pairs-few : length (f .pairs) ≤ 1024) (few : adds steps ≤ 1024) where
     abbrev end-cache : Cache
-    end-cache = run-steps measure space f steps [] start .last .cache
+    end-cache = run-steps measure space f steps at-start .last .cache
 
     end-held : Held (length (f .pairs)) (0 + adds steps) end-cache
-    end-held = run-held steps [] start 0 (in-bounds-start (length (f .pairs)))
+    end-held = run-held steps at-start 0 (in-bounds-start (length (f .pairs)))
 
     -- With at most 1,024 pairs and 1,024 adds: 3,072 entries, 2,048 parents and 1,024 handles.
     pub run-entries : length (end-cache .entries) ≤ 3072

@@ -1,14 +1,13 @@
 -- The session call of 01, whole: from the file's bytes and the lent slices to the answer and to what each slice holds afterwards, for every input.
 use Prim.Native.Nat.{ℕ, min}
 use mathlib.Core.Bool.{Bool, cond, _&&_}
-use mathlib.Core.List.{List, []}
+use mathlib.Core.List.{List}
 use lib.Dec.{leb}
 use lib.ListN.{length, replicate}
 use Rattle.spec_reading.specs.Call.{zeroed, filled}
 use Rattle.spec_session.specs.File.{File, Limits, Got, got, refused, file}
 use Rattle.spec_session.specs.Items.{size-of, output}
-use Rattle.spec_session.specs.Writer.{start}
-use Rattle.spec_session.specs.Steps.{Run, run-steps}
+use Rattle.spec_session.specs.Steps.{Run, at-start, run-steps}
 
 -- "A session gives its number, 0 for none, with the count of finished steps and the size in bytes."
 pub record Answer : Type 0 where
@@ -59,7 +58,7 @@ module _ {C : Type 0} (blank : C) where
   -- The steps run from a fresh session.
   abbrev pub after-file : Limits → (measure : List Bool → ℕ) → Got File → Slices C → Result C
   after-file l measure (refused n) s = untouched n s
-  after-file l measure (got f rest) s = after-run (run-steps measure (usable l s) f (f .steps) [] start) s
+  after-file l measure (got f rest) s = after-run (run-steps measure (usable l s) f (f .steps) at-start) s
 
   -- Over any limits and any measure of a found path. 01's are `version-1` and `counted`.
   unfoldable pub session : Limits → (measure : List Bool → ℕ) → (input : List ℕ) → Slices C → Result C

@@ -1,6 +1,7 @@
 -- 01's whole case and undo example, computed; that the whole case meets the premises; and why each premise is needed.
 use Prim.Native.Nat.{ℕ}
 use mathlib.Core.Path.{_≡_, refl}
+use mathlib.Core.Logic.{_⊎_, inl, inr}
 use mathlib.Core.List.{List, [], _∷_, map}
 use mathlib.Core.Option.{Option, none, some, bind}
 use native.Mathlib.Omega.{arith}
@@ -13,22 +14,23 @@ use Rattle.spec_reading.specs.Tree.{Tree, place, atom, cons}
 use Rattle.path.specs.Bytes.{path-bytes, octets}
 use Rattle.path.specs.Measure.{counted}
 use Rattle.spec_search.specs.Search.{walk, passes, search}
-use Rattle.spec_session.specs.File.{File, got, add, restore, version-1, file, atoms, pairs, steps}
+use Rattle.spec_session.specs.File.{File, Step, got, add, restore, forget, version-1, file, atoms, pairs, steps}
 use Rattle.spec_session.specs.Unfold.{unfolded}
 use Rattle.spec_session.specs.Filling.{plain-filling}
-use Rattle.spec_session.specs.Premises.{Apart}
+use Rattle.spec_session.specs.Survivors.{survivors}
+use Rattle.spec_session.specs.Premises.{In, Above, Apart}
 use Rattle.spec_session.specs.Cache.{enter, update}
 use Rattle.spec_session.specs.Items.{read-items, output}
-use Rattle.spec_session.specs.Writer.{write, resume, start}
+use Rattle.spec_session.specs.Writer.{write, resume}
 use Rattle.spec_session.specs.FindPath.{find-in}
-use Rattle.spec_session.specs.Steps.{Run, run-steps}
+use Rattle.spec_session.specs.Steps.{Run, at-start, run-steps}
 use Rattle.spec_session.specs.Call.{after-file}
 
 abbrev pub foobar : List ℕ
 foobar = 0x66 ∷ 0x6f ∷ 0x6f ∷ 0x62 ∷ 0x61 ∷ 0x72 ∷ []
 
 abbrev run : File → Run
-run f = run-steps counted 65535 f (f .steps) [] start
+run f = run-steps counted 65535 f (f .steps) at-start
 
 -- The words of a run, and the tree that its items are read as.
 abbrev words-read : File → List ℕ × Option Tree
@@ -83,10 +85,11 @@ unfolding file atoms pairs steps number-after fits-in-small-atom is-small-atom f
     serialized-length encode prefix-width first-width path-bytes octets big-endian
 whole-call = refl
 
--- ---- undo: A = ((S . nil) . B) is pair 1, C = (B . nil) is pair 2, B = foobar is atom 0; the sentinel S is the small atom 1
+-- ---- undo: A = ((S . nil) . B) is pair 1, C = (B . nil) is pair 2, B = foobar is atom 0; the sentinel S is the small atom 1. A is added, then a handle that an
+-- undo step takes back, then C
 
-undone : File
-undone =
+abbrev taken-back : (handle : ℕ) → (undo : Step) → File
+taken-back h undo =
     record {
       atoms = foobar ∷ [];
       pairs =
@@ -95,8 +98,12 @@ undone =
           ∷ record { left = 0x4000000; right = 0x8000000 }
           ∷ [];
       sentinel = some 0x8000001;
-      steps = add 1 ∷ add 0x4000000 ∷ restore 1 ∷ add 2 ∷ [];
+      steps = add 1 ∷ add h ∷ undo ∷ add 2 ∷ [];
     }
+
+-- B is taken back by `02`.
+undone : File
+undone = taken-back 0x4000000 (restore 1)
 
 undone-bytes : output (run undone .last .written .items)
     ≡ 0xff ∷ 0xff ∷ 0xff ∷ 0x86 ∷ 0x66 ∷ 0x6f ∷ 0x6f ∷ 0x62 ∷ 0x61 ∷ 0x72 ∷ 0x80 ∷ 0x80 ∷ 0xfe ∷ 0x04 ∷ []
@@ -110,6 +117,52 @@ undone-read : words-read undone
 unfolding undone bind run-steps unfolded enter update write resume find-in walk passes search node-of handle-of
     serialized-length encode prefix-width first-width path-bytes octets big-endian small-bytes len-for-value further-bytes
 undone-read = refl
+
+-- The same with `03`: it takes back the finish too, what the add of B entered is forgotten, and the bytes read as the filling of the survivors, A and C.
+forgotten : File
+forgotten = taken-back 0x4000000 (forget 1)
+
+forgotten-filled : plain-filling forgotten (survivors (forgotten .steps)) ≡ cons (cons (cons (atom foobar) (atom [])) (atom [])) (atom foobar)
+unfolding forgotten plain-filling unfolded node-of handle-of small-bytes len-for-value further-bytes big-endian
+forgotten-filled = refl
+
+forgotten-apart : Apart (map (unfolded forgotten) (survivors (forgotten .steps)))
+unfolding forgotten unfolded node-of handle-of
+forgotten-apart = (omega arith, (shut, tt), (omega arith, tt, tt))
+  where
+    only : (h : ℕ) → In h (unfolded forgotten 2) → h ≡ 2
+    only h (inl e) = e
+    only h (inr (inl i)) = absurd i
+    only h (inr (inr i)) = absurd i
+
+    shut : (h : ℕ) → Above h (unfolded forgotten 1) → In h (unfolded forgotten 2) → ⊥
+    shut h (inl a) i = omega (arith, a .0, only h i)
+    shut h (inr (inl (inl a))) i = omega (arith, a .0, only h i)
+    shut h (inr (inl (inr (inl a)))) i = a
+    shut h (inr (inl (inr (inr a)))) i = a
+    shut h (inr (inr a)) i = a
+
+forgotten-read : words-read forgotten ≡ (4 ∷ 25 ∷ 4 ∷ 29 ∷ [], some (cons (cons (cons (atom foobar) (atom [])) (atom [])) (atom foobar)))
+unfolding forgotten bind run-steps unfolded enter update write resume find-in walk passes search node-of handle-of
+    serialized-length encode prefix-width first-width path-bytes octets big-endian small-bytes len-for-value further-bytes
+forgotten-read = refl
+
+-- Where nil is taken back the words differ: after `02` the sentinel's parent stays with nil, so no path leads to C, and B is written in full a second time.
+nil-undone : run (taken-back 0x8000000 (restore 1)) .words ≡ 4 ∷ 23 ∷ 4 ∷ 39 ∷ []
+unfolding run-steps unfolded enter update write resume find-in walk passes search node-of handle-of
+    serialized-length encode prefix-width first-width path-bytes octets big-endian small-bytes len-for-value further-bytes
+nil-undone = refl
+
+nil-forgotten : run (taken-back 0x8000000 (forget 1)) .words ≡ 4 ∷ 23 ∷ 4 ∷ 29 ∷ []
+unfolding run-steps unfolded enter update write resume find-in walk passes search node-of handle-of
+    serialized-length encode prefix-width first-width path-bytes octets big-endian small-bytes len-for-value further-bytes
+nil-forgotten = refl
+
+-- Number 11: there is no add 2 to go back to.
+forget-refused : run (taken-back 0x8000000 (forget 2)) .number ≡ 11
+unfolding run-steps unfolded enter update write resume find-in walk passes search node-of handle-of
+    serialized-length encode prefix-width first-width path-bytes octets big-endian small-bytes len-for-value further-bytes
+forget-refused = refl
 
 -- ---- why no pair above the sentinel may occur in a later tree: P = (S . nil) is added, then (foobar . (1 . (2 . (P . foobar)))), then 3
 

@@ -20,7 +20,7 @@ use Rattle.spec_session.specs.Writer.{pop2, close-up, choose, put-if, pu
 use Rattle.spec_session.specs.Writer.{settle, add-at, add-tree}
 use Rattle.spec_session.specs.Trees.{nth}
 use Rattle.spec_session.specs.FindPath.{find-in}
-use Rattle.spec_session.specs.Steps.{open-pairs, room-in, UndoState, undo-state, restored, run-steps}
+use Rattle.spec_session.specs.Steps.{open-pairs, room-in, restored, State, at-start, add-handle, run-steps}
 use Rattle.spec_session.specs.Bounds.{all-nth, AddKept, StepsKept, run-kept}
 
 -- ---- what is left to write
@@ -182,43 +182,47 @@ pub waiting-most : (o : Option (List Todo)) (stack : List ℕ) → WaitingOK o s
 waiting-most none stack p = omega (arith, p .over)
 waiting-most (some k) stack b = balanced-most k stack b
 
-abbrev pub UndoDepth : UndoState → Type 0
-UndoDepth u = WaitingOK (u .waiting) (u .written .stack)
+abbrev pub StackOK : Session → Type 0
+StackOK s = WaitingOK (s .waiting) (s .written .stack)
 
--- A session, and the states before the adds on the present history.
-pub record InDepth (past : List UndoState) (s : Session) : Type 0 where
-  pub now : WaitingOK (s .waiting) (s .written .stack)
-  pub before : All UndoDepth past
+-- A session, and the sessions before the adds on the present history.
+pub record InDepth (past : List Session) (s : Session) : Type 0 where
+  pub now : StackOK s
+  pub before : All StackOK past
 
 pub in-depth-start : InDepth [] start
 in-depth-start = record { now = record { formed = tt; even = omega arith; shallow = omega arith }; before = tt }
 
-pub in-depth-most : (past : List UndoState) (s : Session) → InDepth past s → length (s .written .stack) ≤ 4096
+pub in-depth-most : (past : List Session) (s : Session) → InDepth past s → length (s .written .stack) ≤ 4096
 in-depth-most past s d = waiting-most (s .waiting) (s .written .stack) (d .now)
 
 -- An add that is refused ends the run.
-abbrev pub AddedDepth : List UndoState → Added → Type 0
+abbrev pub AddedDepth : List Session → Added → Type 0
 AddedDepth past (added s) = InDepth past s
 AddedDepth past (turned-down n s) = length (s .written .stack) ≤ 4096
 
-settle-depth : (past : List UndoState) (s : Session) (c : Cache) (o : Outcome) → All UndoDepth past → DepthOK [] o → AddedDepth past (settle s c o)
+settle-depth : (past : List Session) (s : Session) (c : Cache) (o : Outcome) → All StackOK past → DepthOK [] o → AddedDepth past (settle s c o)
 settle-depth past s c (done w) a h = record { now = h; before = a }
 settle-depth past s c (stopped k w) a h = record { now = h; before = a }
 settle-depth past s c (refused n w) a h = h
 
 pub in-depth-add : (find : Cache → List ℕ → List ℕ → ℕ → ℕ → Option (List Bool)) (room : List Todo → List Item → Item → ℕ) → Shallow room
-    → (past : List UndoState) (t : Unfolded) (s : Session) → InDepth past s → AddedDepth (past ++ undo-state s ∷ []) (add-tree find room t s)
+    → (past : List Session) (t : Unfolded) (s : Session) → InDepth past s → AddedDepth (past ++ s ∷ []) (add-tree find room t s)
 in-depth-add find room shallow past t s d = go (s .waiting) (d .now)
   where
-    go : (o : Option (List Todo)) → WaitingOK o (s .written .stack) → AddedDepth (past ++ undo-state s ∷ []) (add-at find room t s o)
+    go : (o : Option (List Todo)) → WaitingOK o (s .written .stack) → AddedDepth (past ++ s ∷ []) (add-at find room t s o)
     go none h = waiting-most none (s .written .stack) h
     go (some k) h =
-        settle-depth (past ++ undo-state s ∷ []) s (update t (s .cache)) (resume find room (update t (s .cache)) (parse t ∷ k) (s .written))
-        (all-append UndoDepth past (undo-state s ∷ []) (d .before) (d .now, tt))
+        settle-depth (past ++ s ∷ []) s (update t (s .cache)) (resume find room (update t (s .cache)) (parse t ∷ k) (s .written))
+        (all-append StackOK past (s ∷ []) (d .before) (d .now, tt))
         (depth-add find room shallow (update t (s .cache)) t k (s .written) h)
 
-pub in-depth-restore : (i : ℕ) (past : List UndoState) (u : UndoState) (s : Session) → nth past i ≡ some u → InDepth past s → InDepth (take i past) (restored u s)
-in-depth-restore i past u s q d = record { now = all-nth UndoDepth past i u (d .before) q; before = all-take UndoDepth i past (d .before) }
+-- A `02` and a `03` bring back the same stack.
+pub in-depth-restore : (i : ℕ) (past : List Session) (u s : Session) → nth past i ≡ some u → InDepth past s → InDepth (take i past) (restored u s)
+in-depth-restore i past u s q d = record { now = all-nth StackOK past i u (d .before) q; before = all-take StackOK i past (d .before) }
+
+pub in-depth-forget : (i : ℕ) (past : List Session) (u s : Session) → nth past i ≡ some u → InDepth past s → InDepth (take i past) u
+in-depth-forget i past u s q d = record { now = all-nth StackOK past i u (d .before) q; before = all-take StackOK i past (d .before) }
 
 -- ---- a run
 
@@ -226,23 +230,23 @@ module _ (measure : List Bool → ℕ) (space : ℕ) (f : File) where
   abbrev EndDepth : Session → Type 0
   EndDepth s = length (s .written .stack) ≤ 4096
 
-  added-depth : (steps : List Step) (past : List UndoState) (a : Added) → AddedDepth past a → AddKept measure space f (λ rest. InDepth) EndDepth steps past a
-  added-depth steps past (added s) h = h
-  added-depth steps past (turned-down n s) h = h
+  added-depth : (left : ℕ) (past : List Session) (a : Added) → AddedDepth past a → AddKept measure space f (λ left. InDepth) EndDepth left past a
+  added-depth left past (added s) h = h
+  added-depth left past (turned-down n s) h = h
 
-  depth-steps : StepsKept measure space f (λ rest. InDepth) EndDepth
+  depth-steps : StepsKept measure space f (λ left. InDepth) EndDepth
   depth-steps = record {
-    stop-kept = λ steps past s d. in-depth-most past s d;
-    add-kept = λ g steps past s k w l d.
-        added-depth steps (past ++ undo-state s ∷ []) (add-tree (find-in measure) (room-in space) (unfolded f g) s)
+    stop-kept = λ left past s d. in-depth-most past s d;
+    add-kept = λ g left past s k w l d.
+        added-depth left (past ++ s ∷ []) (add-handle measure space f g s)
         (in-depth-add (find-in measure) (room-in space) (room-shallow space) past (unfolded f g) s d);
-    restore-kept = λ i steps past s u q d. in-depth-restore i past u s q d;
+    restore-kept = λ i left past u s q d. in-depth-restore i past u s q d;
+    forget-kept = λ i left past u s q d. in-depth-forget i past u s q d;
   }
 
   -- The stack of the session where a run ends.
-  pub run-depth : (steps : List Step) (past : List UndoState) (s : Session) → InDepth past s
-      → length (run-steps measure space f steps past s .last .written .stack) ≤ 4096
-  run-depth = run-kept measure space f (λ rest. InDepth) EndDepth depth-steps
+  pub run-depth : (steps : List Step) (st : State) → InDepth (st .past) (st .now) → length (run-steps measure space f steps st .last .written .stack) ≤ 4096
+  run-depth = run-kept measure space f (λ left. InDepth) EndDepth depth-steps
 
-  pub run-stack : (steps : List Step) → length (run-steps measure space f steps [] start .last .written .stack) ≤ 4096
-  run-stack steps = run-depth steps [] start in-depth-start
+  pub run-stack : (steps : List Step) → length (run-steps measure space f steps at-start .last .written .stack) ≤ 4096
+  run-stack steps = run-depth steps at-start in-depth-start

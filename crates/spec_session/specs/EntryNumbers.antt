@@ -3,15 +3,14 @@
 use Prim.Native.Nat.{ℕ, _≤_}
 use mathlib.Core.Path.{_≡_}
 use mathlib.Core.Bool.{Bool}
-use mathlib.Core.List.{List, [], _∷_}
+use mathlib.Core.List.{List, []}
 use native.Mathlib.Omega.{arith}
 use lib.ListN.{length, take, length-take}
-use Rattle.spec_session.specs.File.{File, Limits, Step, add, restore, got, file, version-1}
+use Rattle.spec_session.specs.File.{File, Limits, got, file, version-1}
 use Rattle.spec_session.specs.FileLaws.{count-most, pairs-long, steps-most, parts-read}
 use Rattle.spec_session.specs.Cache.{Cache}
-use Rattle.spec_session.specs.Writer.{start}
-use Rattle.spec_session.specs.Steps.{run-steps}
-use Rattle.spec_session.specs.Bounds.{adds, EntryNumbersFit, run-entry-numbers}
+use Rattle.spec_session.specs.Steps.{at-start, run-steps}
+use Rattle.spec_session.specs.Bounds.{adds-few, EntryNumbersFit, run-entry-numbers}
 
 -- ---- how many pairs and steps a file that passes has, over any limits
 
@@ -30,16 +29,11 @@ module _ (l : Limits) (input : List ℕ) (f : File) (rest : List ℕ) (passes : 
       let p = parts-read l input f rest passes in
       steps-most (length (p .at-steps)) (length (f .atoms)) (length (f .pairs)) (l .steps) [] (p .at-steps) (f .steps) (p .at-end) (omega arith) (p .steps-are)
 
-adds-most : (steps : List Step) → adds steps ≤ length steps
-adds-most [] = omega arith
-adds-most (add h ∷ steps) = omega (arith, adds-most steps)
-adds-most (restore n ∷ steps) = omega (arith, adds-most steps)
-
 -- ---- the bound
 
 -- The tree cache after the first k steps of a file, or all of them where there are no more than k, with so many bytes of output lent.
 abbrev pub cache-after : (measure : List Bool → ℕ) → (space : ℕ) → File → (k : ℕ) → Cache
-cache-after measure space f k = run-steps measure space f (take k (f .steps)) [] start .last .cache
+cache-after measure space f k = run-steps measure space f (take k (f .steps)) at-start .last .cache
 
 -- For every file: whatever the input's bytes are, if they pass questions 2 to 8 as the file f, then after any number k of its steps there are at most 4,096
 -- entries, each parent's entry number is below 4,096, and entry × 2 + position takes 16 bits. Over any measure of a path and any output.
@@ -47,4 +41,4 @@ pub file-entry-numbers : (input : List ℕ) (f : File) (rest : List ℕ) → fil
     → EntryNumbersFit (cache-after measure space f k)
 file-entry-numbers input f rest passes measure space k =
     run-entry-numbers measure space f (take k (f .steps)) (file-pairs version-1 input f rest passes)
-    (omega (arith, adds-most (take k (f .steps)), length-take k (f .steps), file-steps version-1 input f rest passes))
+    (omega (arith, adds-few (take k (f .steps)), length-take k (f .steps), file-steps version-1 input f rest passes))

@@ -5,6 +5,7 @@ use Prim.Native.Nat.{ℕ, _≤_, min}
 use mathlib.Core.Path.{_≡_, refl, sym, ap, _∙_, subst}
 use mathlib.Core.Bool.{Bool, true, _&&_}
 use mathlib.Core.List.{List, [], _∷_}
+use mathlib.Core.Option.{none}
 use native.Mathlib.Omega.{arith}
 use lib.Dec.{ltb}
 use lib.ListN.{length, take, getD, replicate, length-replicate}
@@ -26,11 +27,11 @@ use Rattle.spec_session.specs.File.{version-1}
 use Rattle.spec_session.specs.Unfold.{unfolded}
 use Rattle.spec_session.specs.Cases.{foobar, whole-case, whole-file, whole-case-is, whole-states, whole-apart}
 use Rattle.spec_session.specs.Cache.{enter, update}
-use Rattle.spec_session.specs.Writer.{write, resume, start}
+use Rattle.spec_session.specs.Writer.{write, resume}
 use Rattle.spec_session.specs.FindPath.{find-in}
-use Rattle.spec_session.specs.Steps.{Run, run-steps}
+use Rattle.spec_session.specs.Steps.{Run, at-start, run-steps}
 use Rattle.spec_session.specs.Call.{Answer, Slices, Result, long-enough, after-run, session}
-use Rattle.spec_session.specs.Demand3.{Finished, ReadBack, demand-3}
+use Rattle.spec_session.specs.Demand3.{ReadBack, demand-3-adds}
 
 abbrev all-below-256 : List ℕ → Bool
 all-below-256 [] = true
@@ -44,7 +45,7 @@ whole-bytes : Bytes whole-case
 whole-bytes = tested whole-case refl
 
 abbrev whole-run : ℕ → Run
-whole-run space = run-steps counted space whole-file (whole-file .steps) [] start
+whole-run space = run-steps counted space whole-file (whole-file .steps) at-start
 
 abbrev pub finished-bytes : List ℕ
 finished-bytes = 0xff ∷ 0x86 ∷ 0x66 ∷ 0x6f ∷ 0x6f ∷ 0x62 ∷ 0x61 ∷ 0x72 ∷ 0xfe ∷ 0x02 ∷ []
@@ -72,9 +73,9 @@ module _ {C : Type 0} (blank : C) (slices : Slices C) (long : long-enough versio
   bytes-are = ap (λ (r : Result C). take 10 (r .slices .output)) call-is
 
   -- Demand 3 of this call.
-  pub whole-back : ReadBack counted version-1 whole-file (1 ∷ 0x4000000 ∷ []) 1 the-call
+  pub whole-back : ReadBack counted version-1 whole-file (1 ∷ 0x4000000 ∷ []) 1 none the-call
   whole-back =
-      demand-3 blank whole-case whole-bytes whole-file [] whole-case-is (1 ∷ 0x4000000 ∷ []) refl slices 1 (omega (arith, ap (λ a. a .steps) answer-is)) (omega (arith, word-1)) whole-apart
+      demand-3-adds blank whole-case whole-bytes whole-file [] whole-case-is (1 ∷ 0x4000000 ∷ []) refl slices 1 (omega (arith, ap (λ a. a .steps) answer-is)) (omega (arith, word-1)) whole-apart
 
   -- Reading those ten bytes gives (foobar . foobar).
   pub whole-read : (lent : read.Slices) → read.long-enough lent ≡ true → ReadAs (read.reading finished-bytes lent) (cons (atom foobar) (atom foobar))
@@ -101,5 +102,5 @@ module _ (work words checkpoints : ℕ) where
         le-leb 16 checkpoints c,
       ) refl
 
-pub closed-back : ReadBack counted version-1 whole-file (1 ∷ 0x4000000 ∷ []) 1 (session 0 version-1 counted whole-case (filled-with 524288 1024 16))
+pub closed-back : ReadBack counted version-1 whole-file (1 ∷ 0x4000000 ∷ []) 1 none (session 0 version-1 counted whole-case (filled-with 524288 1024 16))
 closed-back = whole-back 0 (filled-with 524288 1024 16) (enough 524288 1024 16 (omega arith) (omega arith) (omega arith)) refl

@@ -43,10 +43,11 @@ pub record Pair : Type 0 where
   pub left : ℕ
   pub right : ℕ
 
--- `01` and a handle adds; `02` and a number restores.
+-- `01` and a handle adds; `02` and a number restores; `03` and a number restores and forgets.
 pub data Step : Type 0 where
   add : (handle : ℕ) → Step
   restore : (number : ℕ) → Step
+  forget : (number : ℕ) → Step
 
 pub record File : Type 0 where
   pub atoms : List (List ℕ)
@@ -130,7 +131,9 @@ sentinel a p rest =
 -- Question 8: is the step code known? Its operand is the next field.
 abbrev pub operand : (atoms pairs code : ℕ) → List ℕ → Got Step
 operand a p code rest =
-    cond (eqb code 1) (and-then (handle a p rest) (λ h r. got (add h) r)) (cond (eqb code 2) (and-then (field 2 rest) (λ k r. got (restore k) r)) (refused 8))
+    cond (eqb code 1) (and-then (handle a p rest) (λ h r. got (add h) r))
+    (cond (eqb code 2) (and-then (field 2 rest) (λ k r. got (restore k) r))
+    (cond (eqb code 3) (and-then (field 2 rest) (λ k r. got (forget k) r)) (refused 8)))
 
 -- A step is counted at its code: question 5, then 8.
 abbrev pub one-step : (atoms pairs done most : ℕ) → List ℕ → Got Step

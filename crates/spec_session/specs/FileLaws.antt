@@ -17,7 +17,7 @@ use Rattle.words.specs.Lists.{same}
 use Rattle.allocator.specs.Handle.{node-of}
 use Rattle.allocator.specs.SmallAtom.{fits-in-small-atom}
 use Rattle.spec_session.specs.File.{Got, got, refused, and-then, asked, bytes-of, field, count, version-1, listed, atom, atoms, named, handle}
-use Rattle.spec_session.specs.File.{Pair, one-pair, pairs, sentinel, Step, add, restore, operand, one-step, steps, File, Limits, mark, after-mark, file}
+use Rattle.spec_session.specs.File.{Pair, one-pair, pairs, sentinel, Step, add, restore, forget, operand, one-step, steps, File, Limits, mark, after-mark, file}
 use Rattle.spec_session.specs.Places.{SentinelNamed, StepIs, StepNamed, step-size}
 
 not-refused : {A : Type 0} (n : ℕ) (a : A) (r : List ℕ) → _≡_ {A = Got A} (refused n) (got a r) → ⊥
@@ -191,49 +191,62 @@ module _ (input : List ℕ) where
     pub few : done < most
     pub rest-is : r ≡ drop (at + step-size s) input
 
+  -- One of two, by a code.
+  by-code : {A : Type 0} (P : Type 0) (code n : ℕ) (x y : Got A) (a : A) (r : List ℕ) → (code ≡ n → x ≡ got a r → P) → (y ≡ got a r → P)
+      → cond (eqb code n) x y ≡ got a r → P
+  by-code {A} P code n x y a r f g = go (eqb code n) refl
+    where
+      go : (b : Bool) → eqb code n ≡ b → cond b x y ≡ got a r → P
+      go true k q = f (eqb-true code n k) q
+      go false k q = g q
+
   pub step-at : (a p done most at : ℕ) (s : Step) (r : List ℕ) → one-step a p done most (drop at input) ≡ got s r → StepAt a p done most at s r
   step-at a p done most at s r e =
       let t = then-of (field 1 (drop at input)) _ s r e in
       let f = field-at at 1 (t .first) (t .rest) (t .first-is) in
       let q = asked-of 5 (ltb done most) (operand a p (t .first) (t .rest)) s r (t .then-is) in
-      go (t .first) (f .is) (ltb-true done most (q .0)) (eqb (t .first) 1) refl (ap (operand a p (t .first)) (sym (f .rest-is)) ∙ q .1)
+      go (t .first) (f .is) (ltb-true done most (q .0)) (ap (operand a p (t .first)) (sym (f .rest-is)) ∙ q .1)
     where
-      added : (code : ℕ) → code ≡ number (part input at 1) → done < most → code ≡ 1
-          → and-then (handle a p (drop (at + 1) input)) (λ h s. got (add h) s) ≡ got s r → StepAt a p done most at s r
-      added code c l one q =
-          let t = then-of (handle a p (drop (at + 1) input)) (λ h s. got (add h) s) s r q in
+      -- A step whose operand is a handle.
+      with-handle : (make : ℕ → Step) → ((h : ℕ) → at + 5 ≤ length input → number (part input (at + 1) 4) ≡ h → StepIs input at (make h))
+          → ((h : ℕ) → named a p (node-of h) ≡ true → StepNamed a p (make h)) → ((h : ℕ) → step-size (make h) ≡ 5) → done < most
+          → and-then (handle a p (drop (at + 1) input)) (λ h s. got (make h) s) ≡ got s r → StepAt a p done most at s r
+      with-handle make is names size l q =
+          let t = then-of (handle a p (drop (at + 1) input)) (λ h s. got (make h) s) s r q in
           let h = handle-at a p (at + 1) (t .first) (t .rest) (t .first-is) in
-          subst (λ (x : Step). StepAt a p done most at x r) (got-value (add (t .first)) s (t .rest) r (t .then-is))
+          subst (λ (x : Step). StepAt a p done most at x r) (got-value (make (t .first)) s (t .rest) r (t .then-is))
           (record {
-            is = (omega (arith, h .there), sym c ∙ one, h .is);
-            names = h .names;
+            is = is (t .first) (omega (arith, h .there)) (h .is);
+            names = names (t .first) (h .names);
             few = l;
-            rest-is = sym (got-rest (add (t .first)) s (t .rest) r (t .then-is)) ∙ h .rest-is ∙ moved (at + 1 + 4) (at + 5) (omega arith);
+            rest-is =
+                sym (got-rest (make (t .first)) s (t .rest) r (t .then-is)) ∙ h .rest-is
+                ∙ moved (at + 1 + 4) (at + step-size (make (t .first))) (omega (arith, size (t .first)));
           })
 
-      restored : (code : ℕ) → code ≡ number (part input at 1) → done < most → code ≡ 2
-          → and-then (field 2 (drop (at + 1) input)) (λ k s. got (restore k) s) ≡ got s r → StepAt a p done most at s r
-      restored code c l two q =
-          let t = then-of (field 2 (drop (at + 1) input)) (λ k s. got (restore k) s) s r q in
+      -- A step whose operand is a number.
+      with-number : (make : ℕ → Step) → ((k : ℕ) → at + 3 ≤ length input → number (part input (at + 1) 2) ≡ k → StepIs input at (make k))
+          → ((k : ℕ) → StepNamed a p (make k)) → ((k : ℕ) → step-size (make k) ≡ 3) → done < most
+          → and-then (field 2 (drop (at + 1) input)) (λ k s. got (make k) s) ≡ got s r → StepAt a p done most at s r
+      with-number make is names size l q =
+          let t = then-of (field 2 (drop (at + 1) input)) (λ k s. got (make k) s) s r q in
           let h = field-at (at + 1) 2 (t .first) (t .rest) (t .first-is) in
-          subst (λ (x : Step). StepAt a p done most at x r) (got-value (restore (t .first)) s (t .rest) r (t .then-is))
+          subst (λ (x : Step). StepAt a p done most at x r) (got-value (make (t .first)) s (t .rest) r (t .then-is))
           (record {
-            is = (omega (arith, h .there), sym c ∙ two, sym (h .is));
-            names = tt;
+            is = is (t .first) (omega (arith, h .there)) (sym (h .is));
+            names = names (t .first);
             few = l;
-            rest-is = sym (got-rest (restore (t .first)) s (t .rest) r (t .then-is)) ∙ h .rest-is ∙ moved (at + 1 + 2) (at + 3) (omega arith);
+            rest-is =
+                sym (got-rest (make (t .first)) s (t .rest) r (t .then-is)) ∙ h .rest-is
+                ∙ moved (at + 1 + 2) (at + step-size (make (t .first))) (omega (arith, size (t .first)));
           })
 
-      second : (code : ℕ) → code ≡ number (part input at 1) → done < most → (b : Bool) → eqb code 2 ≡ b
-          → cond b (and-then (field 2 (drop (at + 1) input)) (λ k s. got (restore k) s)) (refused 8) ≡ got s r → StepAt a p done most at s r
-      second code c l true k q = restored code c l (eqb-true code 2 k) q
-      second code c l false k q = absurd (not-refused 8 s r q)
-
-      go : (code : ℕ) → code ≡ number (part input at 1) → done < most → (b : Bool) → eqb code 1 ≡ b
-          → cond b (and-then (handle a p (drop (at + 1) input)) (λ h s. got (add h) s)) (cond (eqb code 2) (and-then (field 2 (drop (at + 1) input)) (λ k s. got (restore k) s)) (refused 8)) ≡ got s r
-          → StepAt a p done most at s r
-      go code c l true k q = added code c l (eqb-true code 1 k) q
-      go code c l false k q = second code c l (eqb code 2) refl q
+      go : (code : ℕ) → code ≡ number (part input at 1) → done < most → operand a p code (drop (at + 1) input) ≡ got s r → StepAt a p done most at s r
+      go code c l =
+          by-code (StepAt a p done most at s r) code 1 _ _ s r (λ e. with-handle add (λ h i v. (i, sym c ∙ e, v)) (λ h n. n) (λ h. refl) l)
+          (by-code (StepAt a p done most at s r) code 2 _ _ s r (λ e. with-number restore (λ k i v. (i, sym c ∙ e, v)) (λ k. tt) (λ k. refl) l)
+          (by-code (StepAt a p done most at s r) code 3 _ _ s r (λ e. with-number forget (λ k i v. (i, sym c ∙ e, v)) (λ k. tt) (λ k. refl) l)
+          (λ q. absurd (not-refused 8 s r q))))
 
 -- ---- how many there are
 

@@ -22,6 +22,7 @@ pub mod FindPath
 pub mod FindPathLaws
 pub mod Counted
 pub mod Theorem
+pub mod Survivors
 pub mod Steps
 pub mod Call
 pub mod Cases
@@ -31,9 +32,11 @@ pub mod Kept
 pub mod Bounds
 pub mod EntryNumbers
 pub mod Depth
+pub mod Extends
 pub mod Formed
 pub mod FileAtoms
 pub mod TheoremFile
+pub mod StepLaws
 pub mod Demand3
 pub mod Example
 pub mod Sentinel

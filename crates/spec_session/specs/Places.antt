@@ -9,7 +9,7 @@ use Rattle.words.specs.Words.{part}
 use Rattle.words.specs.BigEndian.{number}
 use Rattle.allocator.specs.Handle.{node-of}
 use Rattle.allocator.specs.SmallAtom.{fits-in-small-atom}
-use Rattle.spec_session.specs.File.{Pair, Step, add, restore, named}
+use Rattle.spec_session.specs.File.{Pair, Step, add, restore, forget, named}
 
 -- The atoms stand from this place on: each its length in two bytes, and its bytes.
 abbrev pub AtomsAt : (input : List ℕ) (at : ℕ) → List (List ℕ) → Type 0
@@ -27,11 +27,13 @@ PairsAt input at (q ∷ qs) =
 abbrev pub StepIs : (input : List ℕ) (at : ℕ) → Step → Type 0
 StepIs input at (add h) = (at + 5 ≤ length input) × (number (part input at 1) ≡ 1) × (number (part input (at + 1) 4) ≡ h)
 StepIs input at (restore k) = (at + 3 ≤ length input) × (number (part input at 1) ≡ 2) × (number (part input (at + 1) 2) ≡ k)
+StepIs input at (forget k) = (at + 3 ≤ length input) × (number (part input at 1) ≡ 3) × (number (part input (at + 1) 2) ≡ k)
 
 -- How many they are.
 abbrev pub step-size : Step → ℕ
 step-size (add h) = 5
 step-size (restore k) = 3
+step-size (forget k) = 3
 
 -- The steps stand from this place on, to the end.
 abbrev pub StepsAt : (input : List ℕ) (at : ℕ) → List Step → Type 0
@@ -59,3 +61,4 @@ SentinelNamed a p (some h) = named a p (node-of h) ≡ true
 abbrev pub StepNamed : (atoms pairs : ℕ) → Step → Type 0
 StepNamed a p (add h) = named a p (node-of h) ≡ true
 StepNamed a p (restore k) = Unit {0}
+StepNamed a p (forget k) = Unit {0}

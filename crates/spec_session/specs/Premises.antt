@@ -1,10 +1,12 @@
--- The premises of demand 3, of the added trees: each holds the sentinel at one place at most, a shared pair counting wherever it is seen; and no pair above the
--- sentinel in one of them occurs in a later one.
+-- The premises of demand 3. Of the added trees: each holds the sentinel at one place at most, a shared pair counting wherever it is seen; and no pair above the
+-- sentinel in one of them occurs in a later one. Of the steps: no `02`.
 use Prim.Native.Nat.{ℕ, _+_, _≤_}
 use mathlib.Core.Path.{_≡_}
 use mathlib.Core.Logic.{_⊎_, _≢_}
 use mathlib.Core.List.{List, [], _∷_}
+use mathlib.Core.Option.{Option, none, some}
 use Rattle.spec_reading.specs.Tree.{Tree, place, atom, cons}
+use Rattle.spec_session.specs.File.{Step, add, restore, forget}
 use Rattle.spec_session.specs.Unfold.{Unfolded, hole, leaf, node, tree-of}
 
 -- The open places of a tree.
@@ -34,3 +36,29 @@ Shut D (t ∷ ts) = ((h : ℕ) → D h → In h t → ⊥) × Shut D ts
 abbrev pub Apart : List Unfolded → Type 0
 Apart [] = Unit {0}
 Apart (t ∷ ts) = (opens (tree-of t) ≤ 1) × Shut (λ h. Above h t) ts × Apart ts
+
+-- ---- steps
+
+-- Any step but a `02`.
+abbrev pub NoRestore : Step → Type 0
+NoRestore (add h) = Unit {0}
+NoRestore (restore n) = ⊥
+NoRestore (forget n) = Unit {0}
+
+-- Any step but a `02` or a `03`.
+abbrev pub NoUndo : Step → Type 0
+NoUndo (add h) = Unit {0}
+NoUndo (restore n) = ⊥
+NoUndo (forget n) = ⊥
+
+-- The number of a run whose session is finished, from the step that comes next.
+abbrev pub number-after-finish : Option Step → ℕ
+number-after-finish none = 0
+number-after-finish (some (add h)) = 9
+number-after-finish (some (restore n)) = 11
+number-after-finish (some (forget n)) = 11
+
+-- Of a step, if there is one.
+abbrev pub IfAny : (Step → Type 0) → Option Step → Type 0
+IfAny P none = Unit {0}
+IfAny P (some x) = P x

@@ -5,10 +5,10 @@ use mathlib.Core.List.{List, [], _∷_, _++_}
 use mathlib.Core.Option.{Option, none, some}
 use lib.Dec.{ltb}
 use lib.ListN.{length, take}
-use Rattle.spec_session.specs.File.{File, Step, add, restore}
+use Rattle.spec_session.specs.File.{File, Step, add, restore, forget}
 use Rattle.spec_session.specs.Unfold.{unfolded}
 use Rattle.spec_session.specs.Items.{Item, cons-item, atom-item, reference-item, item-size, size-of}
-use Rattle.spec_session.specs.Writer.{Todo, parse, close, Written, Session, Added, added, turned-down, add-tree}
+use Rattle.spec_session.specs.Writer.{Todo, parse, close, Session, start, Added, added, turned-down, add-tree}
 use Rattle.spec_session.specs.Trees.{nth}
 use Rattle.spec_session.specs.FindPath.{find-in}
 
@@ -28,33 +28,7 @@ too-deep (reference-item path) k = false
 abbrev pub room-in : (space : ℕ) → List Todo → List Item → Item → ℕ
 room-in space k items i = cond (too-deep i k) 12 (cond (ltb space (size-of items + item-size i)) 13 0)
 
--- What an undo brings back. Entries, parents and the handles mapped stay.
-pub record UndoState : Type 0 where
-  pub waiting : Option (List Todo)
-  pub written : Written
-  pub sentinel-entry : Option ℕ
-
-abbrev pub undo-state : Session → UndoState
-undo-state s = record { waiting = s .waiting; written = s .written; sentinel-entry = s .cache .sentinel-entry }
-
--- A sentinel's entry that was not there before the first add stays known.
-abbrev pub or-known : Option ℕ → Option ℕ → Option ℕ
-or-known (some s) now = some s
-or-known none now = now
-
-abbrev pub restored : UndoState → Session → Session
-restored u s =
-    record {
-      cache = record { entries = s .cache .entries; mapped = s .cache .mapped; sentinel-entry = or-known (u .sentinel-entry) (s .cache .sentinel-entry) };
-      waiting = u .waiting;
-      written = u .written;
-    }
-
--- The words of the finished steps, the number (0 where none is refused), and the session at the end.
-pub record Run : Type 0 where
-  pub words : List ℕ
-  pub number : ℕ
-  pub last : Session
+-- ---- what a step writes
 
 abbrev pub finished-bit : Option (List Todo) → ℕ
 finished-bit none = 1
@@ -64,33 +38,98 @@ finished-bit (some k) = 0
 abbrev pub word-of : Session → ℕ
 word-of s = size-of (s .written .items) * 2 + finished-bit (s .waiting)
 
+-- ---- undo
+
+-- A sentinel's entry that was not there before the first add stays known.
+abbrev pub or-known : Option ℕ → Option ℕ → Option ℕ
+or-known (some s) now = some s
+or-known none now = now
+
+-- What `02` brings back of the session before an add. Entries, parents and the handles mapped stay.
+abbrev pub restored : (before now : Session) → Session
+restored b s =
+    record {
+      cache = record { entries = s .cache .entries; mapped = s .cache .mapped; sentinel-entry = or-known (b .cache .sentinel-entry) (s .cache .sentinel-entry) };
+      waiting = b .waiting;
+      written = b .written;
+    }
+
+-- ---- one step
+
+-- Where a session stands between two steps.
+pub record State : Type 0 where
+  pub now : Session
+  -- The whole session before each add on the present history.
+  pub past : List Session
+
+abbrev pub at-start : State
+at-start = record { now = start; past = [] }
+
+pub data Stepped : Type 0 where
+  -- The step is finished, with this word.
+  went : (word : ℕ) → State → Stepped
+  -- It is refused, and the run ends with this session.
+  halted : (number : ℕ) → Session → Stepped
+
+-- Question 9: at an add, is the session unfinished? Question 10: are there fewer than 16 adds on the present history?
+abbrev pub unless-full : Option (List Todo) → (full : Bool) → Session → Stepped → Stepped
+unless-full none full s x = halted 9 s
+unless-full (some k) true s x = halted 10 s
+unless-full (some k) false s x = x
+
+-- An add that 12 or 13 refuses leaves the whole items written.
+abbrev pub after-add : Added → State → Stepped
+after-add (added t) st = went (word-of t) (record { now = t; past = st .past ++ st .now ∷ [] })
+after-add (turned-down n t) st = halted n t
+
+-- The session b comes back, which stood before add n.
+abbrev pub back-to : Session → (n : ℕ) → State → Stepped
+back-to b n st = went (word-of b) (record { now = b; past = take n (st .past) })
+
+-- Question 11: is the restore number below the count of adds on the present history?
+abbrev pub after-restore : Option Session → (n : ℕ) → State → Stepped
+after-restore none n st = halted 11 (st .now)
+after-restore (some b) n st = back-to (restored b (st .now)) n st
+
+-- "Step `03` with a 16-bit number puts back everything the session held before that add." "Number 11 applies to it as to `02`."
+abbrev pub after-forget : Option Session → (n : ℕ) → State → Stepped
+after-forget none n st = halted 11 (st .now)
+after-forget (some b) n st = back-to b n st
+
+module _ (measure : List Bool → ℕ) (space : ℕ) (f : File) where
+  -- The add of a handle to a session: its unfolded tree, with 12 and 13.
+  abbrev pub add-handle : (handle : ℕ) → Session → Added
+  add-handle h s = add-tree (find-in measure) (room-in space) (unfolded f h) s
+
+  abbrev pub add-step : (handle : ℕ) → State → Stepped
+  add-step h st =
+      let x = after-add (add-handle h (st .now)) st in
+      unless-full (st .now .waiting) (ltb 15 (length (st .past))) (st .now) x
+
+  abbrev pub run-step : Step → State → Stepped
+  run-step (add h) st = add-step h st
+  run-step (restore n) st = after-restore (nth (st .past) n) n st
+  run-step (forget n) st = after-forget (nth (st .past) n) n st
+
+-- ---- the steps
+
+-- The words of the finished steps, the number (0 where none is refused), and the session at the end.
+pub record Run : Type 0 where
+  pub words : List ℕ
+  pub number : ℕ
+  pub last : Session
+
 abbrev pub stop-at : ℕ → Session → Run
 stop-at n s = record { words = []; number = n; last = s }
 
 abbrev pub with-word : ℕ → Run → Run
 with-word w r = record { words = w ∷ r .words; number = r .number; last = r .last }
 
-abbrev pub after-add : Added → (Session → Run) → Run
-after-add (added s) next = with-word (word-of s) (next s)
-after-add (turned-down n s) next = stop-at n s
+abbrev pub after-step : Stepped → (State → Run) → Run
+after-step (went w st) next = with-word w (next st)
+after-step (halted n s) next = stop-at n s
 
--- Question 9: at an add, is the session unfinished? Question 10: are there fewer than 16 adds on the present history?
-abbrev pub unless-full : Option (List Todo) → (full : Bool) → Session → Run → Run
-unless-full none full s r = stop-at 9 s
-unless-full (some k) true s r = stop-at 10 s
-unless-full (some k) false s r = r
-
--- Question 11: is the restore number below that count?
-abbrev pub after-restore : Option UndoState → Session → (Session → Run) → Run
-after-restore none s next = stop-at 11 s
-after-restore (some u) s next = with-word (word-of (restored u s)) (next (restored u s))
-
--- The steps from a session on; `past` has the state before each add on the present history.
-unfoldable pub run-steps : (measure : List Bool → ℕ) → (space : ℕ) → File → List Step → (past : List UndoState) → Session → Run
-run-steps measure space f [] past s = stop-at 0 s
-run-steps measure space f (add h ∷ steps) past s =
-    let r =
-    after-add (add-tree (find-in measure) (room-in space) (unfolded f h) s) (λ t. run-steps measure space f steps (past ++ undo-state s ∷ []) t) in
-    unless-full (s .waiting) (ltb 15 (length past)) s r
-run-steps measure space f (restore n ∷ steps) past s =
-    after-restore (nth past n) s (λ t. run-steps measure space f steps (take n past) t)
+-- The steps from a state on.
+unfoldable pub run-steps : (measure : List Bool → ℕ) → (space : ℕ) → File → List Step → State → Run
+run-steps measure space f [] st = stop-at 0 (st .now)
+run-steps measure space f (x ∷ steps) st = after-step (run-step measure space f x st) (λ t. run-steps measure space f steps t)
