@@ -104,7 +104,7 @@ fn operand(file: &[u8], at: usize, atoms: u32, pairs: u32, code: u32) -> Part
     if code == 1 {
         return handle(file, at, atoms, pairs);
     }
-    if code == 2 {
+    if code == 2 || code == 3 {
         return file_atoms::field(file, at, 2);
     }
     file_atoms::refusal(8)

@@ -1,7 +1,8 @@
--- Laws of the loaders: what a turn stores, and that the steps are read one by one.
+-- Laws of the loaders: what a turn stores, that the steps are read one by one, and that a forget among them is found.
 -- Assumes nothing.
 use Prim.Native.Nat.{ℕ, suc, _+_, _-_, _*_, _≤_, _<_}
 use mathlib.Core.Path.{_≡_, refl, sym, ap, subst, _∙_}
+use mathlib.Core.Bool.{true, false}
 use mathlib.Core.List.{List, [], _∷_}
 use native.Mathlib.Omega.{arith}
 use native.Mathlib.Numerals.{add-one}
@@ -11,9 +12,11 @@ use lib.Seq.{drop-cons, getD-set-same, getD-set-other, drop-at}
 use Rattle.words.specs.Choice.{by-lt}
 use Rattle.words.specs.Words.{at, part}
 use Rattle.words.specs.BigEndian.{number}
-use Rattle.spec_session.specs.File.{Pair, Step, add, restore}
-use Rattle.spec_session.specs.Places.{AtomsAt, PairsAt, StepsAt}
-use Rattle.file_parts.specs.Loaded.{AtomsThere, AtomPlace, AtomsLoaded, PairsThere, pair-of, PairsLoaded}
+use Rattle.spec_session.specs.File.{Pair, Step, add, restore, forget}
+use Rattle.spec_session.specs.Places.{AtomsAt, PairsAt, StepIs, StepsAt, step-size}
+use Rattle.file_parts.specs.Loaded.{AtomsThere, AtomPlace, AtomsLoaded, PairsThere, pair-of, PairsLoaded, FirstStep, forgets}
+use Rattle.file_parts.specs.declared.session_file.NextStep.{NextStep}
+use Rattle.file_parts.specs.declared.session_file.NextStep.the-variants as next-step
 
 -- ---- two words stored at 2·i and 2·i + 1
 
@@ -193,30 +196,59 @@ module _ {input : List ℕ} {from count : ℕ} {w w′ : List ℕ} {place i : �
 -- ---- steps
 
 module _ (input : List ℕ) (place : ℕ) where
-  pub step-end : length input ≤ place → (ss : List Step) → StepsAt input place ss → ss ≡ []
-  step-end l [] h = refl
-  step-end l (add n ∷ ss) h = absurd (omega (arith, h .0 .0))
-  step-end l (restore k ∷ ss) h = absurd (omega (arith, h .0 .0))
+  step-room : (s : Step) → StepIs input place s → place + step-size s ≤ length input
+  step-room (add n) h = h .0
+  step-room (restore k) h = h .0
+  step-room (forget k) h = h .0
 
-  module _ (c : ℕ) (e : c ≡ number (part input place 1)) where
-    pub add-short : c ≡ 1 → length input - place < 5 → (ss : List Step) → StepsAt input place ss → ss ≡ []
-    add-short one l [] h = refl
-    add-short one l (add n ∷ ss) h = absurd (omega (arith, h .0 .0))
-    add-short one l (restore k ∷ ss) h = absurd (omega (arith, h .0 .1))
+  -- Where what is left is shorter than every step that can stand there, none does.
+  pub step-short : (size : ℕ) → ((s : Step) → StepIs input place s → size ≤ step-size s) → length input - place < size → (ss : List Step) → StepsAt input place ss → ss ≡ []
+  step-short size least l [] h = refl
+  step-short size least l (s ∷ ss) h = absurd (omega (arith, least s (h .0), step-room s (h .0)))
 
-    pub restore-short : (c ≡ 1 → ⊥) → length input - place < 3 → (ss : List Step) → StepsAt input place ss → ss ≡ []
-    restore-short other l [] h = refl
-    restore-short other l (add n ∷ ss) h = absurd (other (e ∙ h .0 .1))
-    restore-short other l (restore k ∷ ss) h = absurd (omega (arith, h .0 .0))
+  -- The one step that can stand there, of this size.
+  abbrev Only : Step → ℕ → Type 0
+  Only x size = (s : Step) → StepIs input place s → (s ≡ x) × (step-size s ≡ size)
 
-    pub add-step : c ≡ 1 → place < length input → (v : ℕ) → v ≡ number (part input (place + 1) 4) → (ss : List Step) → StepsAt input place ss
-        → (rest : List Step) × (ss ≡ add v ∷ rest) × StepsAt input (place + 5) rest
-    add-step one l v d [] h = absurd (omega arith)
-    add-step one l v d (add n ∷ ss) h = (ss, ap (λ (k : ℕ). add k ∷ ss) (sym (h .0 .2) ∙ sym d), h .1)
-    add-step one l v d (restore k ∷ ss) h = absurd (omega (arith, h .0 .1))
+  -- That step is the first.
+  pub step-first : (x : Step) (size : ℕ) → Only x size → place < length input → (ss : List Step) → StepsAt input place ss
+      → (rest : List Step) × (ss ≡ x ∷ rest) × StepsAt input (place + size) rest
+  step-first x size only l [] h = absurd (omega arith)
+  step-first x size only l (s ∷ ss) h =
+      let o = only s (h .0) in (ss, ap (λ (y : Step). y ∷ ss) (o .0), subst (λ (n : ℕ). StepsAt input (place + n) ss) (o .1) (h .1))
 
-    pub restore-step : (c ≡ 1 → ⊥) → place < length input → (v : ℕ) → v ≡ number (part input (place + 1) 2) → (ss : List Step) → StepsAt input place ss
-        → (rest : List Step) × (ss ≡ restore v ∷ rest) × StepsAt input (place + 3) rest
-    restore-step other l v d [] h = absurd (omega arith)
-    restore-step other l v d (add n ∷ ss) h = absurd (other (e ∙ h .0 .1))
-    restore-step other l v d (restore k ∷ ss) h = (ss, ap (λ (n : ℕ). restore n ∷ ss) (sym (h .0 .2) ∙ sym d), h .1)
+  module _ (c : ℕ) (e : c ≡ number (part input place 1)) (v : ℕ) where
+    pub add-only : c ≡ 1 → v ≡ number (part input (place + 1) 4) → Only (add v) 5
+    add-only one d (add n) h = (ap add (sym (h .2) ∙ sym d), refl)
+    add-only one d (restore k) h = absurd (omega (arith, h .1))
+    add-only one d (forget k) h = absurd (omega (arith, h .1))
+
+    pub forget-only : c ≡ 3 → v ≡ number (part input (place + 1) 2) → Only (forget v) 3
+    forget-only three d (add n) h = absurd (omega (arith, h .1))
+    forget-only three d (restore k) h = absurd (omega (arith, h .1))
+    forget-only three d (forget k) h = (ap forget (sym (h .2) ∙ sym d), refl)
+
+    pub restore-only : (c ≡ 1 → ⊥) → (c ≡ 3 → ⊥) → v ≡ number (part input (place + 1) 2) → Only (restore v) 3
+    restore-only no-add no-forget d (add n) h = absurd (no-add (e ∙ h .1))
+    restore-only no-add no-forget d (restore k) h = (ap restore (sym (h .2) ∙ sym d), refl)
+    restore-only no-add no-forget d (forget k) h = absurd (no-forget (e ∙ h .1))
+
+-- ---- whether a step forgets
+
+-- The steps from `place` on have a forget where those from `at` on have one.
+abbrev pub ForgetsOn : List ℕ → (at place : ℕ) → Type 0
+ForgetsOn input at place = (ss : List Step) → StepsAt input at ss → (rest : List Step) × StepsAt input place rest × (forgets ss ≡ forgets rest)
+
+-- What the step at a place says of it: the same holds from the next place on, or this is the answer.
+abbrev pub ForgetsAfter : List ℕ → (at : ℕ) → NextStep → Type 0
+ForgetsAfter input at (next-step.Add node next) = ForgetsOn input at next
+ForgetsAfter input at (next-step.Restore k next) = ForgetsOn input at next
+ForgetsAfter input at (next-step.Forget k next) = (ss : List Step) → StepsAt input at ss → true ≡ forgets ss
+ForgetsAfter input at next-step.End = (ss : List Step) → StepsAt input at ss → false ≡ forgets ss
+
+pub forgets-after : (input : List ℕ) (at place : ℕ) → ForgetsOn input at place
+    → (x : NextStep) → ((ss : List Step) → StepsAt input place ss → FirstStep input ss x) → ForgetsAfter input at x
+forgets-after input at place on (next-step.Add node next) first = λ ss h. let o = on ss h in let f = first (o .0) (o .1) in (f .0, f .2, o .2 ∙ ap forgets (f .1))
+forgets-after input at place on (next-step.Restore k next) first = λ ss h. let o = on ss h in let f = first (o .0) (o .1) in (f .0, f .2, o .2 ∙ ap forgets (f .1))
+forgets-after input at place on (next-step.Forget k next) first = λ ss h. let o = on ss h in sym (o .2 ∙ ap forgets (first (o .0) (o .1) .1))
+forgets-after input at place on next-step.End first = λ ss h. let o = on ss h in sym (o .2 ∙ ap forgets (first (o .0) (o .1)))

@@ -11,7 +11,7 @@ ghost use Prim.Native.Nat.{ℕ, _*_, _≤_};
 ghost use lib.ListN.{length};
 ghost use Rattle.spec_session.specs.File.{Pair, Step};
 ghost use Rattle.spec_session.specs.Places.{AtomsAt, PairsAt, StepsAt};
-ghost use Rattle.file_parts.specs.Loaded.{AtomsThere, AtomsLoaded, PairsThere, PairsLoaded, FirstStep};
+ghost use Rattle.file_parts.specs.Loaded.{AtomsThere, AtomsLoaded, PairsThere, PairsLoaded, FirstStep, Beyond, forgets};
 
 // Where the bytes of atom i start and end, as words 2·i and 2·i + 1. The rest of the table is as it was.
 pub fn load_atoms(file: &[u8], table: &mut [u32], count: u32)
@@ -60,12 +60,14 @@ pub fn load_pairs(file: &[u8], table: &mut [u32], from: usize, count: u32)
 // The step at a place of a file that passed. Where the file is cut short there, which it is not, this is the end.
 pub fn next_step(file: &[u8], at: usize) -> NextStep
     ensures { λ r. ⌜ ((ss : List Step) → StepsAt (now (file .entry)) at ss → FirstStep (now (file .entry)) ss r) ⌝ }
+    ensures { λ r. ⌜ Beyond (now (file .entry)) at r ⌝ }
 {
     if file.len() <= at {
         return NextStep::End;
     }
     let left = file.len() - at;
-    if session_file::number_at(file, at, 1) == 1 {
+    let code = session_file::number_at(file, at, 1);
+    if code == 1 {
         if left < 5 {
             return NextStep::End;
         }
@@ -77,8 +79,33 @@ pub fn next_step(file: &[u8], at: usize) -> NextStep
     if left < 3 {
         return NextStep::End;
     }
-    NextStep::Restore {
-        number: session_file::number_at(file, at + 1, 2),
-        next: at + 3,
+    let number = session_file::number_at(file, at + 1, 2);
+    let next = at + 3;
+    if code == 3 {
+        return NextStep::Forget { number, next };
+    }
+    NextStep::Restore { number, next }
+}
+
+// Whether one of the steps from this place on is a forget.
+pub fn has_forget(file: &[u8], at: usize) -> bool
+    ensures { λ r. ⌜ ((ss : List Step) → StepsAt (now (file .entry)) at ss → r ≡ forgets ss) ⌝ }
+{
+    let mut place = at;
+    loop {
+        match next_step(file, place) {
+            NextStep::Add { node: _, next } => {
+                place = next;
+            }
+            NextStep::Restore { number: _, next } => {
+                place = next;
+            }
+            NextStep::Forget { number: _, next: _ } => {
+                return true;
+            }
+            NextStep::End => {
+                return false;
+            }
+        }
     }
 }

@@ -3,6 +3,7 @@
 use Prim.Native.Nat.{ℕ, _+_, _-_, _≤_, _<_}
 use mathlib.Core.Path.{_≡_, refl, sym, ap, ap₂, subst, _∙_}
 use mathlib.Core.Bool.{Bool, true, false, cond}
+use mathlib.Core.Logic.{_⊎_, inl, inr}
 use mathlib.Core.List.{List}
 use mathlib.Core.Option.{Option, none, some}
 use native.Mathlib.Omega.{arith}
@@ -22,7 +23,7 @@ use Rattle.allocator.specs.declared.FitsInSmallAtom.{FitsInSmallAtom}
 use Rattle.allocator.specs.declared.FitsInSmallAtom.the-variants.{Small, Listed}
 use Rattle.file_parts.specs.declared.session_file.Part.{Part}
 use Rattle.spec_session.specs.File as format
-use Rattle.spec_session.specs.File.{Got, got, refused, and-then, asked, bytes-of, field, count, version-1, listed, named, handle, one-pair, operand, one-step, add, restore}
+use Rattle.spec_session.specs.File.{Got, got, refused, and-then, asked, bytes-of, field, count, version-1, listed, named, handle, one-pair, operand, one-step, add, restore, forget}
 use Rattle.file_parts.specs.Answers.{Answers, itself, sized, pair-word, operand-word, atom-of}
 use Rattle.spec_session.specs.Sentinel.{sentinel-word}
 
@@ -278,23 +279,22 @@ module _ (input : List ℕ) (p : Part) (at na np : ℕ) (h : Answers input itsel
 -- ---- a step
 
 module _ (input : List ℕ) (q : Part) (at na np code : ℕ) where
+  of-code : (n : ℕ) → code ≡ n → Answers input operand-word q (operand na np n (drop at input)) → Answers input operand-word q (operand na np code (drop at input))
+  of-code n e a = subst (λ (k : ℕ). Answers input operand-word q (operand na np k (drop at input))) (sym e) a
+
   pub operand-add : code ≡ 1 → Answers input itself q (handle na np (drop at input)) → Answers input operand-word q (operand na np code (drop at input))
-  operand-add e a =
-      subst (Answers input operand-word q) (sym (cond-true (eqb code 1) _ _ (eq-eqb code 1 e)))
-      (mapped input itself operand-word q (handle na np (drop at input)) add (λ k. refl) a)
+  operand-add e a = of-code 1 e (mapped input itself operand-word q (handle na np (drop at input)) add (λ k. refl) a)
 
-  module _ (d : code ≡ 1 → ⊥) where
-    not-add : operand na np code (drop at input) ≡ cond (eqb code 2) (and-then (field 2 (drop at input)) (λ k r. got (restore k) r)) (refused 8)
-    not-add = cond-false (eqb code 1) _ _ (ne-eqb code 1 d)
+  -- The number of a restore or of a forget.
+  pub operand-number : (code ≡ 2) ⊎ (code ≡ 3) → Answers input itself q (field 2 (drop at input)) → Answers input operand-word q (operand na np code (drop at input))
+  operand-number (inl e) a = of-code 2 e (mapped input itself operand-word q (field 2 (drop at input)) restore (λ k. refl) a)
+  operand-number (inr e) a = of-code 3 e (mapped input itself operand-word q (field 2 (drop at input)) forget (λ k. refl) a)
 
-    pub operand-restore : code ≡ 2 → Answers input itself q (field 2 (drop at input)) → Answers input operand-word q (operand na np code (drop at input))
-    operand-restore e a =
-        subst (Answers input operand-word q) (sym (not-add ∙ cond-true (eqb code 2) _ _ (eq-eqb code 2 e)))
-        (mapped input itself operand-word q (field 2 (drop at input)) restore (λ k. refl) a)
-
-    pub operand-unknown : (code ≡ 2 → ⊥) → q .number ≡ 8 → Answers input operand-word q (operand na np code (drop at input))
-    operand-unknown f e =
-        refuses input operand-word q (operand na np code (drop at input)) 8 (not-add ∙ cond-false (eqb code 2) _ _ (ne-eqb code 2 f)) e (omega arith) (omega arith)
+  pub operand-unknown : (code ≡ 1 → ⊥) → (code ≡ 2 → ⊥) → (code ≡ 3 → ⊥) → q .number ≡ 8 → Answers input operand-word q (operand na np code (drop at input))
+  operand-unknown d₁ d₂ d₃ e =
+      refuses input operand-word q (operand na np code (drop at input)) 8
+      (cond-false (eqb code 1) _ _ (ne-eqb code 1 d₁) ∙ cond-false (eqb code 2) _ _ (ne-eqb code 2 d₂) ∙ cond-false (eqb code 3) _ _ (ne-eqb code 3 d₃))
+      e (omega arith) (omega arith)
 
 module _ (input : List ℕ) (p : Part) (at na np done : ℕ) (h : Answers input itself p (field 1 (drop at input))) where
   pub step-refused : (p .number ≡ 0 → ⊥) → Answers input operand-word p (one-step na np done 1024 (drop at input))
