@@ -8,9 +8,10 @@ use lib.ListN.{length}
 use Rattle.words.specs.Words.{at}
 use Rattle.words.proofs.Words.{tabulate-same}
 use Rattle.work_layout.specs.Layout.{USED, COUNTS, LEFT, RIGHT, LOW, HIGH, SEEN, ENTRIES, MAX-PARENTS}
+use Rattle.work_layout.specs.Counts.{counts-same}
 use Rattle.work_layout.specs.Rows.{link-at, row-of, rows-of, Sound, all-counts}
 use Rattle.work_layout.specs.Parents.{link-same}
-use Rattle.cache_entries.proofs.table.Rows.{row-same, counts-same}
+use Rattle.cache_entries.proofs.table.Rows.{row-same}
 use Rattle.cache_entries.proofs.table.Chain.{chained-kept, distinct-kept}
 
 module _ (w w′ : List ℕ) (len : length w′ ≡ length w) (same : (k : ℕ) → USED ≤ k → k < SEEN → at w′ k ≡ at w k) (so : Sound w) where

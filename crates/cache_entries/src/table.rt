@@ -8,7 +8,7 @@ ghost use mathlib.Core.Path.{_≡_};
 ghost use Prim.Native.Nat.{_<_};
 ghost use Rattle.words.specs.Words.{at};
 ghost use Rattle.work_layout.specs.Layout.{USED};
-ghost use Rattle.work_layout.specs.Rows.{length-of, rows-of, slot-of, Sound};
+ghost use Rattle.work_layout.specs.Rows.{length-of, rows-of, Sound};
 ghost use Rattle.cache_entries.specs.Meaning.{entry-or-none};
 ghost use Rattle.cache_entries.specs.table.Contracts.{first-word, second-word, find-row, option-of};
 
@@ -62,13 +62,6 @@ fn words_of(key: Key) -> KeyWords
     }
 }
 
-// The slot of a key.
-fn slot_of(k: KeyWords) -> usize
-    ensures { λ s. ⌜ s ≡ slot-of (k .left) (k .right) ⌝ }
-{
-    wide(std::num::wrapping_add_u32(k.left, k.right) % 4096)
-}
-
 // What a lookup gives.
 pub enum Found {
     At(EntryIndex),
@@ -91,7 +84,7 @@ pub fn find_key(work: &[u32], key: Key) -> Found
     ensures { λ x. ⌜ option-of x ≡ find-row (first-word key) (second-word key) (rows-of (now (work .entry))) ⌝ }
 {
     let k = words_of(key);
-    let slot = slot_of(k);
+    let slot = work_layout::slot_of(k.left, k.right);
     let mut head = work[work_layout::HEADS + slot];
     while head != 0 {
         let e = wide(head - 1);

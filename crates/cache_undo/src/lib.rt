@@ -1,4 +1,5 @@
 // incremental.rs: a copy of undo in work, restored.
+pub mod cache_copy;
 pub mod undo_state;
 
 use cache_stack::stack_pop;

@@ -130,13 +130,13 @@ LENS = 203131
 abbrev pub PATHS : ℕ
 PATHS = 204156
 
--- Undo: sixteen copies of open pairs, stack and marks.
+-- Undo: sixteen copies of open pairs, stack and marks, and of the tree cache.
 abbrev pub COPIES : ℕ
 COPIES = 214155
 
 -- Not used, to the end of work.
 abbrev pub FREE : ℕ
-FREE = 346779
+FREE = 477867
 
 -- The most entries, and the slots of their table.
 abbrev pub ENTRIES : ℕ
@@ -155,7 +155,7 @@ DEPTH = 4097
 
 -- The words of one undo copy.
 abbrev pub COPY : ℕ
-COPY = 8289
+COPY = 16482
 
 pub record Region : Type 0 where
   pub offset : ℕ
@@ -195,7 +195,7 @@ regions =
     record { offset = NODES; size = 1025 } ∷
     record { offset = LENS; size = 1025 } ∷
     record { offset = PATHS; size = 9999 } ∷
-    record { offset = COPIES; size = 132624 } ∷
+    record { offset = COPIES; size = 263712 } ∷
     []
 
 -- Regions one after the other, none before `from`, the last one's end at `most` at the latest. So no two meet.
@@ -208,5 +208,5 @@ pub regions-apart : Apart 0 FREE regions
 regions-apart = omega arith
 
 -- So many words of work are not used after them.
-pub free-words : FREE + 177509 ≡ WORK
+pub free-words : FREE + 46421 ≡ WORK
 free-words = refl

@@ -3,3 +3,4 @@ pub mod Halves
 pub mod Rows
 pub mod Parents
 pub mod Prev
+pub mod Counts

@@ -24,10 +24,14 @@ atom-bytes file w i = take (end-of w i - start-of w i) (drop (start-of w i) file
 
 -- ---- entries
 
+-- Word c of the parents of entry e: its parents 2 c and 2 c + 1. The first words of all entries stand side by side, and so do the second ones, ..
+abbrev pub links-at : List ℕ → (e c : ℕ) → ℕ
+links-at w e c = at w (PARENTS + c * ENTRIES + e)
+
 -- Parent i of entry e as a number: the parent's entry, doubled, and 1 more for the right position below it. It takes 16 bits, those of an odd i in the
 -- high half of its word.
 unfoldable pub link-at : List ℕ → (e i : ℕ) → ℕ
-link-at w e i = half (i % 2) (at w (PARENTS + i / 2 * ENTRIES + e))
+link-at w e i = half (i % 2) (links-at w e (i / 2))
 
 -- A parent's entry, and the position below it: false left, true right.
 abbrev pub parent-of : ℕ → ℕ × Bool
@@ -112,6 +116,14 @@ pub record Sound (w : List ℕ) : Type 0 where
 unfoldable pub all-counts : List ℕ → ℕ → ℕ
 all-counts w zero = 0
 all-counts w (suc n) = at w (COUNTS + n) + all-counts w n
+
+-- The words that n parents take after the first one, and those of the first n entries, all together.
+abbrev pub further : ℕ → ℕ
+further n = (n - 1) / 2
+
+unfoldable pub all-further : List ℕ → ℕ → ℕ
+all-further w zero = 0
+all-further w (suc n) = further (at w (COUNTS + n)) + all-further w n
 
 -- ---- the stack
 

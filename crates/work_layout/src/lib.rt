@@ -3,6 +3,9 @@
 pub mod halves;
 pub mod parents;
 
+ghost use mathlib.Core.Path.{_≡_};
+ghost use Rattle.work_layout.specs.Rows.{slot-of};
+
 // Two words for each listed atom of the file: where its bytes start and end: 2,048 words.
 pub const ATOMS: usize = 0;
 
@@ -100,11 +103,11 @@ pub const LENS: usize = 203131;
 // The search: three words for each path under way: node, place, extra: 9,999 words.
 pub const PATHS: usize = 204156;
 
-// Undo: sixteen copies of open pairs, stack and marks: 132,624 words.
+// Undo: sixteen copies of open pairs, stack and marks, and of the tree cache: 263,712 words.
 pub const COPIES: usize = 214155;
 
-// Not used, to the end of work: 177,509 words.
-pub const FREE: usize = 346779;
+// Not used, to the end of work: 46,421 words.
+pub const FREE: usize = 477867;
 
 // An entry of the tree cache, by its number. A handle (NodePtr) and an entry number never stand for each other.
 pub struct EntryIndex(pub u32);
@@ -116,4 +119,11 @@ pub const ENTRIES: usize = 3072;
 pub const MAX_PARENTS: usize = 100;
 
 // The words of one undo copy.
-pub const COPY: usize = 8289;
+pub const COPY: usize = 16482;
+
+// The slot of an entry, by the two words of its key.
+pub fn slot_of(left: u32, right: u32) -> usize
+    ensures { λ s. ⌜ s ≡ slot-of left right ⌝ }
+{
+    words::wide(std::num::wrapping_add_u32(left, right) % 4096)
+}

@@ -16,6 +16,7 @@ use Rattle.words.specs.Words.{at, tabulate}
 use Rattle.words.proofs.Words.{tabulate-same}
 use Rattle.spec_session.specs.Cache.{later}
 use Rattle.work_layout.specs.Layout.{USED, COUNTS, LEFT, RIGHT, LOW, HIGH, MAX-PARENTS}
+use Rattle.work_layout.specs.Counts.{counts-same}
 use Rattle.work_layout.specs.Rows.{Sound, length-of, Row, link-at, parent-of, parents-of, row-of, with-parents, adjust-row, all-counts}
 use Rattle.cache_entries.specs.Meaning.{entry-or-none}
 use Rattle.cache_entries.specs.table.Contracts.{find-row}
@@ -52,11 +53,6 @@ adjust-tabulate (suc n) (suc e) g h f l s q =
     λ i. first i ∷ rest i
 
 -- ---- the parents of all entries
-
-pub counts-same : (w w′ : List ℕ) (n : ℕ) → ((k : ℕ) → k < n → at w′ (COUNTS + k) ≡ at w (COUNTS + k)) → all-counts w′ n ≡ all-counts w n
-unfolding all-counts
-counts-same w w′ zero s = refl
-counts-same w w′ (suc n) s = omega (arith, s n (omega arith), counts-same w w′ n (λ k l. s k (omega arith)))
 
 -- Only the count of entry e is another.
 pub counts-but : (w w′ : List ℕ) (n e : ℕ) → e < n → ((k : ℕ) → k < n → (k ≡ e → ⊥) → at w′ (COUNTS + k) ≡ at w (COUNTS + k))

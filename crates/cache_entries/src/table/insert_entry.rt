@@ -19,7 +19,7 @@ pub fn insert(work: &mut [u32], key: Key, len: u64) -> EntryIndex
     ensures { λ x. ⌜ Inserted (now (work .entry)) (now (work .exit)) (first-word key) (second-word key) len (x .0) ⌝ }
 {
     let k = crate::table::words_of(key);
-    let slot = crate::table::slot_of(k);
+    let slot = work_layout::slot_of(k.left, k.right);
     let used = work[work_layout::USED];
     let e = wide(used);
     let head = work[work_layout::HEADS + slot];

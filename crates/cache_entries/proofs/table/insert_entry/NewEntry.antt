@@ -17,11 +17,12 @@ use Rattle.words.specs.Words.{at, tabulate}
 use Rattle.words.proofs.Words.{Store, stores, Misses, miss, hits, length-stores, tabulate-more}
 use Rattle.spec_session.specs.Cache.{later}
 use Rattle.work_layout.specs.Layout.{USED, COUNTS, LEFT, RIGHT, LOW, HIGH, NEXT, HEADS, SLOTS, ENTRIES, MAX-PARENTS}
+use Rattle.work_layout.specs.Counts.{counts-same}
 use Rattle.work_layout.specs.Parents.{link-same}
 use Rattle.work_layout.specs.Rows.{Row, link-at, parents-of, row-of, rows-of, new-row, length-of, slot-of, slot-at, prev, Chained, Distinct, Sound}
 use Rattle.work_layout.specs.Prev.{prev-same}
 use Rattle.cache_entries.specs.table.Contracts.{find-row, Inserted}
-use Rattle.cache_entries.proofs.table.Rows.{row-same, counts-same, Missing}
+use Rattle.cache_entries.proofs.table.Rows.{row-same, Missing}
 
 later-none : (o : Option ℕ) → later o ≡ none → o ≡ none
 later-none none q = refl

@@ -1,0 +1,3 @@
+mod SaveLaws
+mod TakeLaws
+mod BringLaws
