@@ -10,7 +10,9 @@ use lib.ListN.{length}
 use borrow.Author.Tests.{leb-true}
 use Rattle.words.specs.Choice.{clash}
 use Rattle.words.specs.Words.{WORK}
-use Rattle.spec_session.specs.File.{Got, File, refused, version-1, file}
+use Rattle.spec_session.specs.File.{Got, File, Step, refused, version-1, file}
+use Rattle.spec_session.specs.Places.{StepsAt}
+use Rattle.file_parts.specs.Loaded.{forgets}
 use Rattle.file_parts.specs.Checked.{Passed, Checks}
 use Rattle.file_parts.specs.CheckedLaws.{Accepted, accepted, rejected}
 use Rattle.file_parts.specs.declared.session_file.Checked.{Checked}
@@ -79,9 +81,10 @@ module _ (input w : List ℕ) (ws cs : ℕ) where
       open-asks = (passed, lengths n ws cs is-long .work)
 
       -- The tables are loaded, and the run can start.
-      pub begin-run : (w′ : List ℕ) → length w′ ≡ n → Opened input (the-file input) w′ → {b : Begun} → b ≡ record { start = start-at (c .«steps_at»); records = cs }
+      pub begin-run : (w′ : List ℕ) → length w′ ≡ n → Opened input (the-file input) w′ → {flag : Bool}
+          → ((ss : List Step) → StepsAt input (c .«steps_at») ss → flag ≡ forgets ss) → {b : Begun} → b ≡ record { start = start-at (c .«steps_at») flag; records = cs }
           → Begins input w ws cs w′ b (asked input n ws cs)
-      begin-run w′ e o {b} q =
+      begin-run w′ e o {flag} known {b} q =
           subst (λ (g : Got File). Begins input w ws cs w′ b g) (sym (asked-file is-long ∙ accepted-file .is))
           (subst (λ (x : Begun). Starts input w′ ws cs x) (sym q)
           record {
@@ -89,7 +92,7 @@ module _ (input w : List ℕ) (ws cs : ℕ) where
             many-rows = have .records;
             all-records = refl;
             goes = refl;
-            ready = λ words rows out m r s. starts input (the-file input) c passed w′ words rows out o (omega (arith, have .work)) m r s;
+            ready = λ words rows out m r s. starts input (the-file input) c passed flag known w′ words rows out o (omega (arith, have .work)) m r s;
           })
         where
           have : Long n ws cs

@@ -2,7 +2,7 @@
 -- Assumes nothing.
 use Prim.Native.Nat.{ℕ, _+_, _/_, _%_, _^_, _≤_, _<_}
 use mathlib.Core.Path.{_≡_, refl, sym, ap, subst, _∙_}
-use mathlib.Core.Bool.{false}
+use mathlib.Core.Bool.{Bool, false}
 use mathlib.Core.List.{List, []}
 use mathlib.Core.Option.{Option}
 use native.Mathlib.Omega.{arith}
@@ -11,9 +11,9 @@ use lib.ListN.{length}
 use Rattle.words.specs.Choice.{clash}
 use Rattle.words.specs.Words.{at, WORK}
 use Rattle.path.specs.Bytes.{odd}
-use Rattle.spec_session.specs.File.{File}
-use Rattle.spec_session.specs.Places.{PairNamed, SentinelNamed}
-use Rattle.file_parts.specs.Loaded.{pair-of}
+use Rattle.spec_session.specs.File.{File, Step}
+use Rattle.spec_session.specs.Places.{PairNamed, SentinelNamed, StepsAt}
+use Rattle.file_parts.specs.Loaded.{pair-of, forgets}
 use Rattle.file_parts.specs.Checked.{Passed, Contents}
 use Rattle.file_parts.specs.CheckedLaws.{pair-named}
 use Rattle.file_parts.specs.declared.session_file.Checked.{Checked}
@@ -48,7 +48,8 @@ sorted f c =
 no-mark : (k : ℕ) → odd (0 / 2 ^ k) ≡ false
 no-mark k = ap odd (zero-div (2 ^ k))
 
-module _ (input : List ℕ) (f : File) (c : Checked) (p : Passed input f c) (w words : List ℕ) (rows : List Checkpoint) (out : List ℕ) (o : Opened input f w)
+module _ (input : List ℕ) (f : File) (c : Checked) (p : Passed input f c) (flag : Bool)
+    (known : (ss : List Step) → StepsAt input (c .«steps_at») ss → flag ≡ forgets ss) (w words : List ℕ) (rows : List Checkpoint) (out : List ℕ) (o : Opened input f w)
     (long : WORK ≤ length w) (many-words : 1024 ≤ length words) (many-rows : 16 ≤ length rows) (short : length out ≤ 65535) where
   handles : Handles w
   handles = tables-handles f w (sorted f (p .contents)) (o .tables)
@@ -82,7 +83,7 @@ module _ (input : List ℕ) (f : File) (c : Checked) (p : Passed input f c) (w w
         waiting = refl;
       }
 
-  pub starts : Underway input f w words rows out (start-at (c .«steps_at»))
+  pub starts : Underway input f w words rows out (start-at (c .«steps_at») flag)
   unfolding whole-run
   starts =
       record {
@@ -95,8 +96,7 @@ module _ (input : List ℕ) (f : File) (c : Checked) (p : Passed input f c) (w w
               tables = o .tables;
               places = o .places;
               atoms-there = o .atoms-there;
-              room = omega (arith, fresh-room w long handles cache-zeros);
-              counts = fresh-counts w long handles cache-zeros;
+              room = record { entries = omega (arith, fresh-room w long handles cache-zeros); counts = fresh-counts w long handles cache-zeros };
             };
         history =
             record {
@@ -104,7 +104,10 @@ module _ (input : List ℕ) (f : File) (c : Checked) (p : Passed input f c) (w w
               befores = λ k u e. clash cc;
               sizes = λ k l. absurd (omega arith);
               ordered = λ j k q l. absurd (omega arith);
+              extended = λ k u e. clash cc;
+              older = λ j k u v q d e. clash cc;
             };
+        known = λ e. sym (known (f .steps) (p .steps-there)) ∙ e;
         few-adds = omega arith;
         steps-there = p .steps-there;
         steps-named = p .contents .steps-named;

@@ -1,7 +1,7 @@
 -- What loading a session file leaves in work, and where its run starts.
 use Prim.Native.Nat.{ℕ, _+_, _*_, _≤_, _<_}
 use mathlib.Core.Path.{_≡_}
-use mathlib.Core.Bool.{false}
+use mathlib.Core.Bool.{Bool, false}
 use mathlib.Core.List.{List, []}
 use lib.ListN.{length, getD}
 use Rattle.words.specs.Words.{at}
@@ -37,5 +37,5 @@ pub record Opened (input : List ℕ) (f : File) (w : List ℕ) : Type 0 where
   pub zeros : (k : ℕ) → TOPS ≤ k → k < PARENTS → at w k ≡ 0
 
 -- The first step comes next; nothing is added, open or written.
-abbrev pub start-at : ℕ → Progress
-start-at place = record { at = place; steps = 0; adds = 0; opens = 0; depth = 0; size = 0; finished = false; number = 0; done = false }
+abbrev pub start-at : (place : ℕ) → (forgets : Bool) → Progress
+start-at place b = record { at = place; steps = 0; adds = 0; opens = 0; depth = 0; size = 0; finished = false; number = 0; done = false; forgets = b }

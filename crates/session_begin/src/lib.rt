@@ -68,9 +68,9 @@ fn open(file: &[u8], work: &mut [u32], checked: Checked)
     work[work_layout::SENTINEL] = checked.sentinel;
 }
 
-// The start of the steps, which stand from this place of the file on.
-fn start_at(at: usize) -> Progress
-    ensures { λ r. ⌜ r ≡ start-at at ⌝ }
+// The start of the steps, which stand from this place of the file on; whether one of them forgets.
+fn start_at(at: usize, forgets: bool) -> Progress
+    ensures { λ r. ⌜ r ≡ start-at at forgets ⌝ }
 {
     Progress {
         at,
@@ -82,6 +82,7 @@ fn start_at(at: usize) -> Progress
         finished: false,
         number: 0,
         done: false,
+        forgets,
     }
 }
 
@@ -89,17 +90,17 @@ fn start_at(at: usize) -> Progress
 fn refused(number: u32) -> Begun
     ensures { λ r. ⌜ r ≡ record { start = refused-with number; records = 0 } ⌝ }
 {
-    let mut start = start_at(0);
+    let mut start = start_at(0, false);
     start.number = number;
     start.done = true;
     Begun { start, records: 0 }
 }
 
 // The steps come next, from this place of the file on.
-fn started(at: usize, records: usize) -> Begun
-    ensures { λ r. ⌜ r ≡ record { start = start-at at; records = records } ⌝ }
+fn started(at: usize, forgets: bool, records: usize) -> Begun
+    ensures { λ r. ⌜ r ≡ record { start = start-at at forgets; records = records } ⌝ }
 {
-    let start = start_at(at);
+    let start = start_at(at, forgets);
     Begun { start, records }
 }
 
@@ -118,5 +119,6 @@ pub fn begin(file: &[u8], work: &mut [u32], words: usize, records: usize) -> Beg
         return refused(checked.number);
     }
     open(file, work, checked);
-    started(checked.steps_at, records)
+    let forgets = file_parts::has_forget(file, checked.steps_at);
+    started(checked.steps_at, forgets, records)
 }

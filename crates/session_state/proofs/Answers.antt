@@ -13,7 +13,7 @@ use Rattle.spec_session.specs.Steps.{Run, stop-at, run-steps}
 use Rattle.session_state.specs.declared.progress.Progress.{Progress}
 use Rattle.session_state.specs.declared.progress.StepAnswer.{StepAnswer}
 use Rattle.session_state.specs.Moves.{refused-at, stopped-at}
-use Rattle.session_state.specs.State.{after-words, Underway, Ended, Stands}
+use Rattle.session_state.specs.State.{standing, after-words, Underway, Ended, Stands}
 use Rattle.session_state.specs.Steps.{Onward}
 use Rattle.session_state.proofs.Runs.{words-ended}
 
@@ -33,7 +33,7 @@ module _ (input : List ℕ) (f : File) (w words : List ℕ) (rows : List Checkpo
 module _ (input : List ℕ) (f : File) (w words out : List ℕ) (p : Progress) (c : Checkpoint) where
   -- The run is over at a step.
   over : (rows : List Checkpoint) (u : Underway input f w words rows out p) (n : ℕ)
-      → run-steps counted (length out) f (u .left) (u .past) (u .session) ≡ stop-at n (u .session) → Ended f words out (refused-at p n)
+      → run-steps counted (length out) f (u .left) (standing (u .past) (u .session)) ≡ stop-at n (u .session) → Ended f words out (refused-at p n)
   over rows u n e =
       record {
         session = u .session;
@@ -47,7 +47,7 @@ module _ (input : List ℕ) (f : File) (w words out : List ℕ) (p : Progress) (
 
   -- The answer of a step that is refused, or of the end.
   pub stops : (n : ℕ) (a : StepAnswer) → a ≡ stopped-at p n c
-      → ((rows : List Checkpoint) (u : Underway input f w words rows out p) → run-steps counted (length out) f (u .left) (u .past) (u .session) ≡ stop-at n (u .session))
+      → ((rows : List Checkpoint) (u : Underway input f w words rows out p) → run-steps counted (length out) f (u .left) (standing (u .past) (u .session)) ≡ stop-at n (u .session))
       → Onward input f w words out p c w words out a
   stops n a is h =
       subst (λ (x : StepAnswer). Onward input f w words out p c w words out x) (sym is) (λ rows u r. (over rows u n (h rows u), omega arith))

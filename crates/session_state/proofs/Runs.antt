@@ -12,66 +12,71 @@ use lib.Seq.{take-suc-set}
 use borrow.Author.Tests.{lt-ltb, le-ltb}
 use Rattle.words.specs.Choice.{clash}
 use Rattle.path.specs.Measure.{counted}
-use Rattle.spec_session.specs.File.{File, Step, add, restore}
+use Rattle.spec_session.specs.File.{File, Step, add}
 use Rattle.spec_session.specs.Unfold.{unfolded}
 use Rattle.spec_session.specs.Cache.{update}
 use Rattle.spec_session.specs.Writer.{Todo, parse, Outcome, Session, settle, add-at, resume}
-use Rattle.spec_session.specs.Steps.{UndoState, undo-state, room-in, restored, Run, finished-bit, word-of, stop-at, with-word, after-add, unless-full, run-steps}
+use Rattle.spec_session.specs.Steps.{room-in, State, Stepped, Run, finished-bit, word-of, stop-at, with-word, after-add, unless-full, after-step, run-steps}
 use Rattle.spec_session.specs.FindPath.{find-in}
 use Rattle.spec_session.specs.Trees.{nth}
 use Rattle.path.specs.Bytes.{bit}
-use Rattle.session_state.specs.State.{after-words, waits}
+use Rattle.session_state.specs.State.{standing, after-words, waits, undo-of, undone}
 
-module _ (space : ℕ) (f : File) (past : List UndoState) (s : Session) where
-  pub run-ends : run-steps counted space f [] past s ≡ stop-at 0 s
+module _ (space : ℕ) (f : File) (past : List Session) (s : Session) where
+  pub run-ends : run-steps counted space f [] (standing past s) ≡ stop-at 0 s
   unfolding run-steps
   run-ends = refl
 
   -- Question 9.
-  pub run-finished : (h : ℕ) (steps : List Step) → s .waiting ≡ none → run-steps counted space f (add h ∷ steps) past s ≡ stop-at 9 s
+  pub run-finished : (h : ℕ) (steps : List Step) → s .waiting ≡ none → run-steps counted space f (add h ∷ steps) (standing past s) ≡ stop-at 9 s
   unfolding run-steps
-  run-finished h steps e = go (s .waiting) e (ltb 15 (length past)) _
+  run-finished h steps e = go (s .waiting) e (ltb 15 (length past)) _ _
     where
-      go : (o : Option (List Todo)) → o ≡ none → (b : Bool) (r : Run) → unless-full o b s r ≡ stop-at 9 s
-      go none q b r = refl
-      go (some k) q b r = clash cc
+      go : (o : Option (List Todo)) → o ≡ none → (b : Bool) (x : Stepped) (next : State → Run) → after-step (unless-full o b s x) next ≡ stop-at 9 s
+      go none q b x next = refl
+      go (some k) q b x next = clash cc
 
   -- Question 10.
-  pub run-full : (h : ℕ) (steps : List Step) (k : List Todo) → s .waiting ≡ some k → 16 ≤ length past → run-steps counted space f (add h ∷ steps) past s ≡ stop-at 10 s
+  pub run-full : (h : ℕ) (steps : List Step) (k : List Todo) → s .waiting ≡ some k → 16 ≤ length past
+      → run-steps counted space f (add h ∷ steps) (standing past s) ≡ stop-at 10 s
   unfolding run-steps
-  run-full h steps k e l = go (s .waiting) e (ltb 15 (length past)) (lt-ltb 15 (length past) (omega arith)) _
+  run-full h steps k e l = go (s .waiting) e (ltb 15 (length past)) (lt-ltb 15 (length past) (omega arith)) _ _
     where
-      go : (o : Option (List Todo)) → o ≡ some k → (b : Bool) → b ≡ true → (r : Run) → unless-full o b s r ≡ stop-at 10 s
-      go none q b z r = clash cc
-      go (some j) q true z r = refl
-      go (some j) q false z r = clash cc
+      go : (o : Option (List Todo)) → o ≡ some k → (b : Bool) → b ≡ true → (x : Stepped) (next : State → Run) → after-step (unless-full o b s x) next ≡ stop-at 10 s
+      go none q b z x next = clash cc
+      go (some j) q true z x next = refl
+      go (some j) q false z x next = clash cc
 
   -- An add at an open place.
   pub run-add : (h : ℕ) (steps : List Step) (k : List Todo) (o : Outcome) → s .waiting ≡ some k → length past ≤ 15
       → resume (find-in counted) (room-in space) (update (unfolded f h) (s .cache)) (parse (unfolded f h) ∷ k) (s .written) ≡ o
-      → run-steps counted space f (add h ∷ steps) past s
-      ≡ after-add (settle s (update (unfolded f h) (s .cache)) o) (λ t. run-steps counted space f steps (past ++ undo-state s ∷ []) t)
+      → run-steps counted space f (add h ∷ steps) (standing past s)
+      ≡ after-step (after-add (settle s (update (unfolded f h) (s .cache)) o) (standing past s)) (λ t. run-steps counted space f steps t)
   unfolding run-steps
   run-add h steps k o e l q = go (s .waiting) e (ltb 15 (length past)) (le-ltb 15 (length past) (omega arith)) _
     where
-      go : (p : Option (List Todo)) → p ≡ some k → (b : Bool) → b ≡ false → (next : Session → Run)
-          → unless-full p b s (after-add (add-at (find-in counted) (room-in space) (unfolded f h) s p) next) ≡ after-add (settle s (update (unfolded f h) (s .cache)) o) next
+      go : (p : Option (List Todo)) → p ≡ some k → (b : Bool) → b ≡ false → (next : State → Run)
+          → after-step (unless-full p b s (after-add (add-at (find-in counted) (room-in space) (unfolded f h) s p) (standing past s))) next
+          ≡ after-step (after-add (settle s (update (unfolded f h) (s .cache)) o) (standing past s)) next
       go none z b y next = clash cc
       go (some j) z true y next = clash cc
       go (some j) z false y next =
           let same : j ≡ k = cc in
-          ap (λ (x : Outcome). after-add (settle s (update (unfolded f h) (s .cache)) x) next)
+          ap (λ (x : Outcome). after-step (after-add (settle s (update (unfolded f h) (s .cache)) x) (standing past s)) next)
           (ap (λ (i : List Todo). resume (find-in counted) (room-in space) (update (unfolded f h) (s .cache)) (parse (unfolded f h) ∷ i) (s .written)) same ∙ q)
 
-  -- Question 11.
-  pub run-beyond : (n : ℕ) (steps : List Step) → nth past n ≡ none → run-steps counted space f (restore n ∷ steps) past s ≡ stop-at 11 s
+  -- Question 11, of an undo that forgets or not.
+  pub run-beyond : (b : Bool) (n : ℕ) (steps : List Step) → nth past n ≡ none → run-steps counted space f (undo-of b n ∷ steps) (standing past s) ≡ stop-at 11 s
   unfolding run-steps
-  run-beyond n steps e = rw e refl
+  run-beyond false n steps e = rw e refl
+  run-beyond true n steps e = rw e refl
 
-  pub run-restore : (n : ℕ) (steps : List Step) (u : UndoState) → nth past n ≡ some u
-      → run-steps counted space f (restore n ∷ steps) past s ≡ with-word (word-of (restored u s)) (run-steps counted space f steps (take n past) (restored u s))
+  pub run-undo : (b : Bool) (n : ℕ) (steps : List Step) (u : Session) → nth past n ≡ some u
+      → run-steps counted space f (undo-of b n ∷ steps) (standing past s)
+      ≡ with-word (word-of (undone b u s)) (run-steps counted space f steps (standing (take n past) (undone b u s)))
   unfolding run-steps
-  run-restore n steps u e = rw e refl
+  run-undo false n steps u e = rw e refl
+  run-undo true n steps u e = rw e refl
 
 -- ---- the words
 

@@ -19,11 +19,13 @@ use Rattle.session_state.specs.State.{slot-for}
 abbrev pub slot-of-next : NextStep → ℕ → ℕ
 slot-of-next (next-step.Add node next) adds = cond (ltb adds 16) adds 0
 slot-of-next (next-step.Restore number next) adds = cond (ltb number 16) number 0
+slot-of-next (next-step.Forget number next) adds = cond (ltb number 16) number 0
 slot-of-next next-step.End adds = 0
 
 pub slot-first : (input : List ℕ) (ss : List Step) (r : NextStep) (adds : ℕ) → FirstStep input ss r → slot-of-next r adds ≡ slot-for ss adds
 slot-first input ss (next-step.Add node next) adds h = rw (h .1) refl
 slot-first input ss (next-step.Restore number next) adds h = rw (h .1) refl
+slot-first input ss (next-step.Forget number next) adds h = rw (h .1) refl
 slot-first input ss next-step.End adds h = rw h refl
 
 -- The record that the first step takes, from the answer that tells the step.

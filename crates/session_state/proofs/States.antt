@@ -20,16 +20,41 @@ use Rattle.spec_session.specs.File.{File, Step}
 use Rattle.spec_session.specs.Places.{StepsAt, StepNamed}
 use Rattle.spec_session.specs.Writer.{Session}
 use Rattle.spec_session.specs.Trees.{nth}
-use Rattle.spec_session.specs.Steps.{UndoState, word-of, with-word, run-steps}
-use Rattle.work_layout.specs.Layout.{OPEN, USED, COPIES, COPY}
+use Rattle.spec_session.specs.Steps.{word-of, with-word, run-steps}
+use Rattle.spec_session.specs.Cache.{Cache}
+use Rattle.spec_session.specs.Extends.{Extends, extends-refl, extends-trans}
+use Rattle.file_parts.specs.Loaded.{forgets}
+use Rattle.work_layout.specs.Layout.{OPEN, USED, COPIES, COPY, ENTRIES}
+use Rattle.work_layout.specs.Rows.{all-counts, all-further}
+use Rattle.work_layout.specs.Counts.{further-within, further-few}
 use Rattle.cache_undo.specs.undo_state.Contracts.{copied-open, copied-stack, copied-marks}
+use Rattle.cache_undo.specs.cache_copy.Contracts.{copied-used, copied-maps, copied-counts, copied-firsts, copied-furthers, CacheCopied}
 use Rattle.write_place.specs.State.{todo-of}
 use Rattle.session_state.specs.declared.progress.Progress.{Progress}
 use Rattle.path.specs.Bytes.{bit}
 use Rattle.session_state.specs.Moves.{noted-at}
-use Rattle.session_state.specs.State.{whole-run, after-words, At, Before, size-at, History, Stocked, Underway}
+use Rattle.session_state.specs.State.{standing, whole-run, after-words, Roomy, At, Before, size-at, History, Stocked, Underway}
 use Rattle.session_state.proofs.Slots.{nth-low, nth-take}
 use Rattle.session_state.proofs.Runs.{finished-word, word-noted}
+
+-- ---- the room, and the cache of a copy
+
+pub roomy-later : (w : List ℕ) (m n : ℕ) → m ≤ n → Roomy w m → Roomy w n
+roomy-later w m n l r = record { entries = omega (arith, r .entries); counts = r .counts }
+
+-- The copy of a cache rests on the words of its copy.
+pub copied-kept : (v w w′ : List ℕ) (k : ℕ) → at v USED ≤ ENTRIES → all-counts v ENTRIES ≤ 2048
+    → ((j : ℕ) → copied-open k ≤ j → j < copied-open k + COPY → at w′ j ≡ at w j) → CacheCopied v w k → CacheCopied v w′ k
+copied-kept v w w′ k few counts copies c = record {
+  used = copies (copied-used k) (omega arith) (omega arith) ∙ c .used;
+  maps = λ i l. copies (copied-maps k + i) (omega arith) (omega arith) ∙ c .maps i l;
+  counts = λ e l. copies (copied-counts k + e) (omega arith) (omega arith) ∙ c .counts e l;
+  firsts = λ e l. copies (copied-firsts k + e) (omega arith) (omega arith) ∙ c .firsts e l;
+  furthers = λ e i l m.
+      let b = further-within v ENTRIES e (omega arith) in
+      let h = further-few v ENTRIES in
+      copies (copied-furthers k + all-further v e + i) (omega arith) (omega arith) ∙ c .furthers e i l m;
+}
 
 -- ---- the output
 
@@ -55,53 +80,57 @@ module _ (out out′ : List ℕ) (long : length out′ ≡ length out) where
 
   -- ---- the state before add k
 
-  module _ (f : File) (w w′ : List ℕ) (low : (j : ℕ) → j < OPEN → at w′ j ≡ at w j) (used : at w USED ≤ at w′ USED) where
-    pub before-kept : (k : ℕ) (r : Checkpoint) (u : UndoState) → ((j : ℕ) → copied-open k ≤ j → j < copied-open k + COPY → at w′ j ≡ at w j)
-        → take (r .size) out′ ≡ take (r .size) out → Before f w out k r u → Before f w′ out′ k r u
-    before-kept k r u copies same b =
-        let few = b .stood .running .stands .few-opens in
-        let deep = b .stood .running .stands .stacked .deep in
+  module _ (f : File) (w w′ : List ℕ) (low : (j : ℕ) → j < OPEN → at w′ j ≡ at w j) (b : Bool) (steps steps′ : ℕ) (later : steps ≤ steps′) where
+    pub before-kept : (k : ℕ) (r : Checkpoint) (u : Session) → ((j : ℕ) → copied-open k ≤ j → j < copied-open k + COPY → at w′ j ≡ at w j)
+        → take (r .size) out′ ≡ take (r .size) out → Before f w out b steps k r u → Before f w′ out′ b steps′ k r u
+    before-kept k r u copies same a =
+        let few = a .stood .running .stands .few-opens in
+        let deep = a .stood .running .stands .stacked .deep in
         record {
-          words-then = b .words-then;
-          session-then = b .session-then;
-          stood = at-kept f (b .words-then) (r .opens) (r .depth) (r .size) false (b .session-then) same (b .stood);
-          is = b .is;
-          entry-is = b .entry-is;
-          tables-same = λ j l. low j l ∙ b .tables-same j l;
-          used-more = omega (arith, b .used-more);
-          open-pairs = λ i l. copies (copied-open k + i) (omega arith) (omega arith) ∙ b .open-pairs i l;
-          places = λ i l. copies (copied-stack k + i) (omega arith) (omega arith) ∙ b .places i l;
-          marks = λ i l. copies (copied-marks k + i) (omega arith) (omega arith) ∙ b .marks i l;
+          words-then = a .words-then;
+          stood = at-kept f (a .words-then) (r .opens) (r .depth) (r .size) false u same (a .stood);
+          entry-is = a .entry-is;
+          tables-same = λ j l. low j l ∙ a .tables-same j l;
+          open-pairs = λ i l. copies (copied-open k + i) (omega arith) (omega arith) ∙ a .open-pairs i l;
+          places = λ i l. copies (copied-stack k + i) (omega arith) (omega arith) ∙ a .places i l;
+          marks = λ i l. copies (copied-marks k + i) (omega arith) (omega arith) ∙ a .marks i l;
+          room-then = roomy-later (a .words-then) steps steps′ later (a .room-then);
+          cache-then = λ q. copied-kept (a .words-then) w w′ k (a .stood .running .stands .whole .sound .used) (a .stood .running .stands .counts) copies (a .cache-then q);
         }
 
     -- ---- the states before n adds
 
-    module _ (rows : List Checkpoint) (size n : ℕ) (past : List UndoState) (copies : (j : ℕ) → COPIES ≤ j → j < COPIES + n * COPY → at w′ j ≡ at w j)
-        (same : take size out′ ≡ take size out) (h : History f w out rows size n past) where
-      pub history-kept : (k : ℕ) (u : UndoState) → nth past k ≡ some u → Before f w′ out′ k (getD rows k blank) u
+    module _ (rows : List Checkpoint) (size n : ℕ) (past : List Session) (c : Cache) (copies : (j : ℕ) → COPIES ≤ j → j < COPIES + n * COPY → at w′ j ≡ at w j)
+        (same : take size out′ ≡ take size out) (h : History f w out rows b steps size n past c) where
+      pub history-kept : (k : ℕ) (u : Session) → nth past k ≡ some u → Before f w′ out′ b steps′ k (getD rows k blank) u
       history-kept k u e =
           let l : k < n = omega (arith, nth-low past k u e, h .long) in
           before-kept k (getD rows k blank) u (λ j a b. copies j (omega arith) (omega arith)) (take-less (size-at rows k) size (h .sizes k l) same) (h .befores k u e)
 
-      -- Fewer adds: a restore, with the size at record n.
-      pub history-back : (m : ℕ) → m < n → History f w′ out′ rows (size-at rows m) m (take m past)
-      history-back m l =
+      -- Fewer adds: an undo, with the size at record n, to a cache that has the entries of those before it.
+      pub history-back : (m : ℕ) → m < n → (c′ : Cache) → ((k : ℕ) (u : Session) → k < m → nth past k ≡ some u → Extends (u .cache) c′)
+          → History f w′ out′ rows b steps′ (size-at rows m) m (take m past) c′
+      history-back m l c′ over =
           record {
             long = length-take-le m past (omega (arith, h .long));
             befores = λ k u e. history-kept k u (nth-take m past k u e .1);
             sizes = λ k q. h .ordered k m q l;
             ordered = λ j k q r. h .ordered j k q (omega arith);
+            extended = λ k u e. let t = nth-take m past k u e in over k u (t .0) (t .1);
+            older = λ j k u v q d e. h .older j k u v q (nth-take m past j u d .1) (nth-take m past k v e .1);
           }
 
-      -- One add more, with its record r and the state u before it.
-      pub history-more : (r : Checkpoint) (u : UndoState) (size′ : ℕ) → n < length rows → r .size ≤ size′ → size ≤ r .size → Before f w′ out′ n r u
-          → History f w′ out′ (set rows n r) size′ (n + 1) (past ++ u ∷ [])
-      history-more r u size′ low-n le ge b =
+      -- One add more, with its record r and the session u before it, to a cache that has the entries of u's.
+      pub history-more : (r : Checkpoint) (u : Session) (size′ : ℕ) (c′ : Cache) → n < length rows → r .size ≤ size′ → size ≤ r .size → u .cache ≡ c → Extends c c′
+          → Before f w′ out′ b steps′ n r u → History f w′ out′ (set rows n r) b steps′ size′ (n + 1) (past ++ u ∷ []) c′
+      history-more r u size′ c′ low-n le ge c-is grows now =
           record {
             long = length-append past (u ∷ []) ∙ omega (arith, h .long);
             befores = λ k v e. go k v (nth-snoc past u k v e);
             sizes = λ k q. sizes k q;
             ordered = λ j k q q′. ordered j k q q′;
+            extended = λ k v e. extends-trans (v .cache) c c′ (up-to-c k v (nth-snoc past u k v e)) grows;
+            older = λ j k v x q d e. older j k v x q (nth-snoc past u j v d) (nth-snoc past u k x e);
           }
         where
           here : getD (set rows n r) n blank ≡ r
@@ -110,13 +139,24 @@ module _ (out out′ : List ℕ) (long : length out′ ≡ length out) where
           there : (k : ℕ) → k < n → getD (set rows n r) k blank ≡ getD rows k blank
           there k l = getD-set-other rows n k r blank (λ e. omega (arith, e))
 
-          go : (k : ℕ) (v : UndoState) → (nth past k ≡ some v) ⊎ ((k ≡ length past) × (v ≡ u)) → Before f w′ out′ k (getD (set rows n r) k blank) v
+          go : (k : ℕ) (v : Session) → (nth past k ≡ some v) ⊎ ((k ≡ length past) × (v ≡ u)) → Before f w′ out′ b steps′ k (getD (set rows n r) k blank) v
           go k v (inl e) =
-              subst (λ (x : Checkpoint). Before f w′ out′ k x v) (sym (there k (omega (arith, nth-low past k v e, h .long)))) (history-kept k v e)
+              subst (λ (x : Checkpoint). Before f w′ out′ b steps′ k x v) (sym (there k (omega (arith, nth-low past k v e, h .long)))) (history-kept k v e)
           go k v (inr e) =
               let q : n ≡ k = sym (e .0 ∙ h .long) in
-              subst (λ (j : ℕ). Before f w′ out′ j (getD (set rows n r) j blank) v) q
-              (subst (λ (x : Checkpoint). Before f w′ out′ n x v) (sym here) (subst (λ (x : UndoState). Before f w′ out′ n r x) (sym (e .1)) b))
+              subst (λ (j : ℕ). Before f w′ out′ b steps′ j (getD (set rows n r) j blank) v) q
+              (subst (λ (x : Checkpoint). Before f w′ out′ b steps′ n x v) (sym here) (subst (λ (x : Session). Before f w′ out′ b steps′ n r x) (sym (e .1)) now))
+
+          up-to-c : (k : ℕ) (v : Session) → (nth past k ≡ some v) ⊎ ((k ≡ length past) × (v ≡ u)) → Extends (v .cache) c
+          up-to-c k v (inl e) = h .extended k v e
+          up-to-c k v (inr e) = subst (λ (x : Cache). Extends x c) (sym (ap (λ (x : Session). x .cache) (e .1) ∙ c-is)) (extends-refl c)
+
+          older : (j k : ℕ) (v x : Session) → j < k → (nth past j ≡ some v) ⊎ ((j ≡ length past) × (v ≡ u)) → (nth past k ≡ some x) ⊎ ((k ≡ length past) × (x ≡ u))
+              → Extends (v .cache) (x .cache)
+          older j k v x q (inl d) (inl e) = h .older j k v x q d e
+          older j k v x q (inl d) (inr e) = subst (λ (y : Cache). Extends (v .cache) y) (sym (ap (λ (y : Session). y .cache) (e .1) ∙ c-is)) (h .extended j v d)
+          older j k v x q (inr d) (inl e) = absurd (omega (arith, d .0, nth-low past k x e))
+          older j k v x q (inr d) (inr e) = absurd (omega (arith, d .0, e .0))
 
           size-there : (k : ℕ) → k < n → size-at (set rows n r) k ≡ size-at rows k
           size-there k l = ap (λ (x : Checkpoint). x .size) (there k l)
@@ -141,12 +181,12 @@ module _ (out out′ : List ℕ) (long : length out′ ≡ length out) where
 
 -- The step's word is noted, and the run goes on at the next step.
 pub go-on : (input : List ℕ) (f : File) (w words words′ : List ℕ) (rows : List Checkpoint) (out : List ℕ) (q : Progress) (next : ℕ) (rest : List Step)
-    (past : List UndoState) (t : Session) → At f w out (q .opens) (q .depth) (q .size) (q .finished) t → Stocked input f w (q .steps + 1)
-    → History f w out rows (q .size) (q .adds) past → q .adds ≤ 16 → StepsAt input next rest
+    (past : List Session) (t : Session) → At f w out (q .opens) (q .depth) (q .size) (q .finished) t → Stocked input f w (q .steps + 1)
+    → History f w out rows (q .forgets) (q .steps + 1) (q .size) (q .adds) past (t .cache) → (q .forgets ≡ false → forgets rest ≡ false) → q .adds ≤ 16 → StepsAt input next rest
     → All (StepNamed (length (f .atoms)) (length (f .pairs))) rest → q .steps + 1 + length rest ≤ 1024 → 16 ≤ length rows → 1024 ≤ length words
-    → whole-run f (length out) ≡ after-words (take (q .steps) words) (with-word (word-of t) (run-steps counted (length out) f rest past t))
+    → whole-run f (length out) ≡ after-words (take (q .steps) words) (with-word (word-of t) (run-steps counted (length out) f rest (standing past t)))
     → words′ ≡ set words (q .steps) (q .size * 2 + bit (q .finished)) → Underway input f w words′ rows out (noted-at q next)
-go-on input f w words words′ rows out q next rest past t a s h few there named left many-rows many-words run e =
+go-on input f w words words′ rows out q next rest past t a s h known few there named left many-rows many-words run e =
     record {
       left = rest;
       past = past;
@@ -154,6 +194,7 @@ go-on input f w words words′ rows out q next rest past t a s h few there named
       present = a;
       stocked = s;
       history = h;
+      known = known;
       few-adds = few;
       steps-there = there;
       steps-named = named;
@@ -162,9 +203,9 @@ go-on input f w words words′ rows out q next rest past t a s h few there named
       many-words = omega (arith, ap length e, length-set words (q .steps) (q .size * 2 + bit (q .finished)));
       same =
           run
-          ∙ ap (λ (v : ℕ). after-words (take (q .steps) words) (with-word v (run-steps counted (length out) f rest past t))) word
-          ∙ word-noted words (q .steps) (q .size * 2 + bit (q .finished)) (run-steps counted (length out) f rest past t) (omega arith)
-          ∙ ap (λ (ws : List ℕ). after-words (take (q .steps + 1) ws) (run-steps counted (length out) f rest past t)) (sym e);
+          ∙ ap (λ (v : ℕ). after-words (take (q .steps) words) (with-word v (run-steps counted (length out) f rest (standing past t)))) word
+          ∙ word-noted words (q .steps) (q .size * 2 + bit (q .finished)) (run-steps counted (length out) f rest (standing past t)) (omega arith)
+          ∙ ap (λ (ws : List ℕ). after-words (take (q .steps + 1) ws) (run-steps counted (length out) f rest (standing past t))) (sym e);
     }
   where
     word : word-of t ≡ q .size * 2 + bit (q .finished)

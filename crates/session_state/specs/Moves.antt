@@ -1,4 +1,4 @@
--- Where a session stands after each move: a refusal, a finished step, an add, a restore.
+-- Where a session stands after each move: a refusal, a finished step, an add, an undo.
 use Prim.Native.Nat.{ℕ, _+_}
 use mathlib.Core.Bool.{Bool, true, false}
 use Rattle.session_state.specs.declared.checkpoints.Checkpoint.{Checkpoint}
@@ -21,6 +21,7 @@ refused-at p n =
       finished = p .finished;
       number = n;
       done = true;
+      forgets = p .forgets;
     }
 
 -- A step is finished; the next one stands at `next`.
@@ -36,6 +37,7 @@ noted-at p next =
       finished = p .finished;
       number = p .number;
       done = p .done;
+      forgets = p .forgets;
     }
 
 -- Another place of the writer, and another count of adds.
@@ -51,6 +53,7 @@ moved-to p q n b =
       finished = b;
       number = 0;
       done = false;
+      forgets = p .forgets;
     }
 
 -- The progress after an add.
@@ -59,7 +62,7 @@ after-outcome p (outcome.Done q) = moved-to p q (p .adds + 1) true
 after-outcome p (outcome.Stopped q) = moved-to p q (p .adds + 1) false
 after-outcome p (outcome.Refused n q) = refused-at (moved-to p q (p .adds) false) n
 
--- The progress after a restore.
+-- The progress after an undo.
 abbrev pub undone-at : Progress → Checkpoint → ℕ → Progress
 undone-at p r n = moved-to p (record { opens = r .opens; depth = r .depth; size = r .size }) n false
 

@@ -11,15 +11,19 @@ use Rattle.words.specs.Lists.{All}
 use Rattle.session_state.specs.Records.{blank}
 use Rattle.session_state.specs.declared.checkpoints.Checkpoint.{Checkpoint}
 use Rattle.path.specs.Measure.{counted}
-use Rattle.spec_session.specs.File.{File, Got, got, refused, Step, add, restore, file, version-1}
+use Rattle.spec_session.specs.File.{File, Got, got, refused, Step, add, restore, forget, file, version-1}
 use Rattle.spec_session.specs.Places.{StepsAt, StepNamed}
 use Rattle.spec_session.specs.Items.{size-of, output}
-use Rattle.spec_session.specs.Writer.{Todo, Session, start}
+use Rattle.spec_session.specs.Cache.{Cache}
+use Rattle.spec_session.specs.Writer.{Todo, Session}
 use Rattle.spec_session.specs.Trees.{nth}
-use Rattle.spec_session.specs.Steps.{UndoState, undo-state, Run, run-steps}
+use Rattle.spec_session.specs.Steps.{restored, State, at-start, Run, run-steps}
+use Rattle.spec_session.specs.Extends.{Extends}
+use Rattle.file_parts.specs.Loaded.{forgets}
 use Rattle.work_layout.specs.Layout.{PAIR-COUNT, OPEN, STACK, WRITTEN, SENTINEL-ENTRY, USED, ENTRIES}
 use Rattle.work_layout.specs.Rows.{all-counts}
 use Rattle.cache_undo.specs.undo_state.Contracts.{copied-open, copied-stack, copied-marks}
+use Rattle.cache_undo.specs.cache_copy.Contracts.{CacheCopied}
 use Rattle.cache_entries.specs.Meaning.{Tables, unmapped}
 use Rattle.write_place.specs.State.{AtomPlaces, AtomsThere, todo-of, Running, Writes}
 use Rattle.session_state.specs.declared.progress.Progress.{Progress}
@@ -37,13 +41,21 @@ the-file input = contents-of (file version-1 input)
 
 -- The run of its steps, with so many bytes of output.
 unfoldable pub whole-run : File → (space : ℕ) → Run
-whole-run f space = run-steps counted space f (f .steps) [] start
+whole-run f space = run-steps counted space f (f .steps) at-start
+
+abbrev pub standing : (past : List Session) → Session → State
+standing past s = record { now = s; past = past }
 
 -- A run after the words of steps that are finished.
 abbrev pub after-words : List ℕ → Run → Run
 after-words ws r = record { words = ws ++ r .words; number = r .number; last = r .last }
 
 -- ---- one state
+
+-- Room for what the steps that are left can add to the cache.
+pub record Roomy (w : List ℕ) (steps : ℕ) : Type 0 where
+  pub entries : at w USED + 2 * unmapped w (at w PAIR-COUNT) ≤ 2048 + steps
+  pub counts : all-counts w ENTRIES + 2 * unmapped w (at w PAIR-COUNT) ≤ 2048
 
 abbrev pub waits : Bool → List Todo → Option (List Todo)
 waits true k = none
@@ -57,30 +69,32 @@ pub record At (f : File) (w out : List ℕ) (opens depth size : ℕ) (finished :
 
 -- ---- the state before an add
 
--- Record r and copy k hold the state u before add k. A record has the open pairs, the depth of the stack, the size, and one more than the sentinel's entry.
-pub record Before (f : File) (w out : List ℕ) (k : ℕ) (r : Checkpoint) (u : UndoState) : Type 0 where
-  -- The words and the session at that time.
+-- Record r and copy k hold the session u before add k. A record has the open pairs, the depth of the stack, the size, and one more than the sentinel's entry. A
+-- copy has the cache too where the file has a `03`.
+pub record Before (f : File) (w out : List ℕ) (forgetting : Bool) (steps k : ℕ) (r : Checkpoint) (u : Session) : Type 0 where
+  -- The words at that time.
   pub words-then : List ℕ
-  pub session-then : Session
-  pub stood : At f words-then out (r .opens) (r .depth) (r .size) false session-then
-  pub is : u ≡ undo-state session-then
+  pub stood : At f words-then out (r .opens) (r .depth) (r .size) false u
   pub entry-is : r .sentinel ≡ at words-then SENTINEL-ENTRY
   pub tables-same : (j : ℕ) → j < OPEN → at w j ≡ at words-then j
-  pub used-more : at words-then USED ≤ at w USED
   pub open-pairs : (i : ℕ) → i < r .opens → at w (copied-open k + i) ≡ at words-then (OPEN + i)
   pub places : (i : ℕ) → i < r .depth → at w (copied-stack k + i) ≡ at words-then (STACK + i)
   pub marks : (i : ℕ) → i < 96 → at w (copied-marks k + i) ≡ at words-then (WRITTEN + i)
+  pub room-then : Roomy words-then steps
+  pub cache-then : forgetting ≡ true → CacheCopied words-then w k
 
 -- The bytes written at record k.
 abbrev pub size-at : List Checkpoint → ℕ → ℕ
 size-at rows k = getD rows k blank .size
 
--- The states before the first n adds.
-pub record History (f : File) (w out : List ℕ) (rows : List Checkpoint) (size n : ℕ) (past : List UndoState) : Type 0 where
+-- The sessions before the first n adds, of a session with the cache c. Each cache has all entries of those before it.
+pub record History (f : File) (w out : List ℕ) (rows : List Checkpoint) (forgetting : Bool) (steps size n : ℕ) (past : List Session) (c : Cache) : Type 0 where
   pub long : length past ≡ n
-  pub befores : (k : ℕ) (u : UndoState) → nth past k ≡ some u → Before f w out k (getD rows k blank) u
+  pub befores : (k : ℕ) (u : Session) → nth past k ≡ some u → Before f w out forgetting steps k (getD rows k blank) u
   pub sizes : (k : ℕ) → k < n → size-at rows k ≤ size
   pub ordered : (j k : ℕ) → j < k → k < n → size-at rows j ≤ size-at rows k
+  pub extended : (k : ℕ) (u : Session) → nth past k ≡ some u → Extends (u .cache) c
+  pub older : (j k : ℕ) (u v : Session) → j < k → nth past j ≡ some u → nth past k ≡ some v → Extends (u .cache) (v .cache)
 
 -- ---- a run under way
 
@@ -89,23 +103,24 @@ pub record Stocked (input : List ℕ) (f : File) (w : List ℕ) (steps : ℕ) : 
   pub tables : Tables f w
   pub places : AtomPlaces input w
   pub atoms-there : AtomsThere input f w
-  pub room : at w USED + 2 * unmapped w (at w PAIR-COUNT) ≤ 2048 + steps
-  pub counts : all-counts w ENTRIES + 2 * unmapped w (at w PAIR-COUNT) ≤ 2048
+  pub room : Roomy w steps
 
 pub record Underway (input : List ℕ) (f : File) (w words : List ℕ) (rows : List Checkpoint) (out : List ℕ) (p : Progress) : Type 0 where
   pub left : List Step
-  pub past : List UndoState
+  pub past : List Session
   pub session : Session
   pub present : At f w out (p .opens) (p .depth) (p .size) (p .finished) session
   pub stocked : Stocked input f w (p .steps)
-  pub history : History f w out rows (p .size) (p .adds) past
+  pub history : History f w out rows (p .forgets) (p .steps) (p .size) (p .adds) past (session .cache)
+  -- The flag is set before the first step.
+  pub known : p .forgets ≡ false → forgets left ≡ false
   pub few-adds : p .adds ≤ 16
   pub steps-there : StepsAt input (p .at) left
   pub steps-named : All (StepNamed (length (f .atoms)) (length (f .pairs))) left
   pub few-steps : p .steps + length left ≤ 1024
   pub many-rows : 16 ≤ length rows
   pub many-words : 1024 ≤ length words
-  pub same : whole-run f (length out) ≡ after-words (take (p .steps) words) (run-steps counted (length out) f left past session)
+  pub same : whole-run f (length out) ≡ after-words (take (p .steps) words) (run-steps counted (length out) f left (standing past session))
 
 -- The run is over: no step is left, or one is refused.
 pub record Ended (f : File) (words out : List ℕ) (p : Progress) : Type 0 where
@@ -121,8 +136,20 @@ abbrev pub Stands : (input : List ℕ) (f : File) (w words : List ℕ) (rows : L
 Stands input f w words rows out p true = Ended f words out p
 Stands input f w words rows out p false = Underway input f w words rows out p
 
--- The record that a step takes, and stores: of an add its own; of a restore the one that it names.
+-- The record that a step takes, and stores: of an add its own; of an undo the one that it names.
 abbrev pub slot-for : List Step → (adds : ℕ) → ℕ
 slot-for [] adds = 0
 slot-for (add h ∷ steps) adds = cond (ltb adds 16) adds 0
 slot-for (restore n ∷ steps) adds = cond (ltb n 16) n 0
+slot-for (forget n ∷ steps) adds = cond (ltb n 16) n 0
+
+-- ---- an undo, which forgets or not
+
+abbrev pub undo-of : (forgets : Bool) → (n : ℕ) → Step
+undo-of false n = restore n
+undo-of true n = forget n
+
+-- The session that it leaves, from the one before the add and the present one.
+abbrev pub undone : (forgets : Bool) → (before now : Session) → Session
+undone false b s = restored b s
+undone true b s = b

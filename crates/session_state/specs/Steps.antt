@@ -1,6 +1,7 @@
 -- What a step takes and leaves, in the terms of the states.
 use Prim.Native.Nat.{ℕ, _+_, _≤_}
 use mathlib.Core.Path.{_≡_}
+use mathlib.Core.Bool.{Bool, true, false}
 use mathlib.Core.List.{List}
 use lib.ListN.{getD, set}
 use Rattle.session_state.specs.Records.{blank}
@@ -9,6 +10,7 @@ use Rattle.spec_session.specs.File.{File, Step}
 use Rattle.spec_session.specs.Places.{StepsAt}
 use Rattle.file_parts.specs.Loaded.{FirstStep}
 use Rattle.file_parts.specs.declared.session_file.NextStep.{NextStep}
+use Rattle.file_parts.specs.declared.session_file.NextStep.the-variants as next-step
 use Rattle.session_state.specs.declared.progress.Progress.{Progress}
 use Rattle.session_state.specs.declared.progress.StepAnswer.{StepAnswer}
 use Rattle.path.specs.Bytes.{bit}
@@ -17,6 +19,11 @@ use Rattle.session_state.specs.State.{Underway, Stands, slot-for}
 -- The step at a place of the file.
 abbrev pub Comes : (input : List ℕ) (place : ℕ) → NextStep → Type 0
 Comes input place r = (ss : List Step) → StepsAt input place ss → FirstStep input ss r
+
+-- An undo at a place of the file.
+abbrev pub told-undo : (forgets : Bool) → (number next : ℕ) → NextStep
+told-undo false n next = next-step.Restore n next
+told-undo true n next = next-step.Forget n next
 
 -- A run under way, and the record that its next step takes.
 pub record Ready (input : List ℕ) (f : File) (w words out : List ℕ) (p : Progress) (c : Checkpoint) : Type 0 where

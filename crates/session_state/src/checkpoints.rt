@@ -1,4 +1,4 @@
-// The checkpoint records of a session, in a lent slice of structs: one for each add that a restore can take back.
+// The checkpoint records of a session, in a lent slice of structs: one for each add that an undo can take back.
 ghost use mathlib.Core.Path.{_≡_};
 ghost use mathlib.Core.List.{_++_};
 ghost use Prim.Native.Nat.{_≤_};

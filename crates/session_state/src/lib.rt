@@ -20,6 +20,7 @@ pub fn slot_of(file: &[u8], at: usize, adds: usize) -> usize
     match file_parts::next_step(file, at) {
         NextStep::Add { node: _, next: _ } => step_records::within(adds),
         NextStep::Restore { number, next: _ } => step_records::within(number as usize),
+        NextStep::Forget { number, next: _ } => step_records::within(number as usize),
         NextStep::End => 0,
     }
 }

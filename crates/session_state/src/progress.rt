@@ -1,4 +1,4 @@
-// Where a session stands between two steps, and how an add, a restore and a refusal move it.
+// Where a session stands between two steps, and how an add, an undo and a refusal move it.
 use crate::checkpoints::Checkpoint;
 use words::wide;
 use write_place::Outcome;
@@ -8,7 +8,8 @@ ghost use Prim.Native.Nat.{_<_};
 ghost use Rattle.session_state.specs.Moves.{refused-at, moved-to, after-outcome, undone-at, stopped-at};
 
 // Where a session stands: the next step's place in the file, the finished steps, the adds on the present history, the open pairs, the depth of the stack,
-// the bytes written, and whether the session is finished. The run is done at the end of the file, with number 0, or where a question gets no.
+// the bytes written, and whether the session is finished. The run is done at the end of the file, with number 0, or where a question gets no. `forgets` says
+// whether a step of the file is a forget: then each add saves the tree cache too.
 pub struct Progress {
     pub at: usize,
     pub steps: usize,
@@ -19,6 +20,7 @@ pub struct Progress {
     pub finished: bool,
     pub number: u32,
     pub done: bool,
+    pub forgets: bool,
 }
 
 // After a step: where the session stands, and the checkpoint record to store.
@@ -51,6 +53,7 @@ fn moved(p: Progress, q: Place, adds: usize, finished: bool) -> Progress
         finished,
         number: 0,
         done: false,
+        forgets: p.forgets,
     }
 }
 
@@ -66,7 +69,7 @@ pub fn after_outcome(p: Progress, o: Outcome) -> Progress
     }
 }
 
-// Where the session stands after a restore.
+// Where the session stands after an undo.
 pub fn undone(p: Progress, number: usize, c: Checkpoint) -> Progress
     ensures { λ r. ⌜ r ≡ undone-at p c number ⌝ }
 {

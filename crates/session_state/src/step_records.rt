@@ -66,7 +66,7 @@ pub fn note(words: &mut [u32], p: Progress, next: usize) -> Progress
     noted
 }
 
-// The sentinel's entry of a checkpoint record. One that was not there stays as it is.
+// A restore: the sentinel's entry of a checkpoint record. One that was not there stays as it is.
 pub fn bring_entry(work: &mut [u32], c: Checkpoint)
     requires { ⌜ WORK ≤ length (now work) ⌝ }
     ensures { λ _. ⌜ now (work .exit) ≡ with-entry (now (work .entry)) (c .sentinel) ⌝ }

@@ -22,11 +22,13 @@ use Rattle.spec_session.specs.Unfold.{unfolded}
 use Rattle.spec_session.specs.Cache.{Cache, update}
 use Rattle.spec_session.specs.Writer.{Todo, Written, Session, settle}
 use Rattle.spec_session.specs.Writer as writer
-use Rattle.spec_session.specs.Steps.{UndoState, undo-state, room-in, Run, after-add, run-steps}
+use Rattle.spec_session.specs.Extends.{Extends, update-extends}
+use Rattle.spec_session.specs.Steps.{room-in, Run, after-add, after-step, run-steps}
+use Rattle.file_parts.specs.Loaded.{forgets}
 use Rattle.spec_session.specs.FindPath.{find-in}
 use Rattle.work_layout.specs.Layout.{ATOM-COUNT, PAIR-COUNT, OPEN, STACK, WRITTEN, MOVED, MAPS, SENTINEL-ENTRY, USED, SEEN, COPIES, ENTRIES}
 use Rattle.work_layout.specs.Rows.{all-counts}
-use Rattle.cache_undo.specs.undo_state.Contracts.{copied-open, copied-stack, copied-marks, Saved}
+use Rattle.cache_undo.specs.undo_state.Contracts.{copied-open, copied-stack, copied-marks}
 use Rattle.cache_stack.proofs.Stacks.{stack-same, stacked-same}
 use Rattle.cache_stack.proofs.marks.Bits.{marked-same}
 use Rattle.cache_entries.proofs.Frames.{tables-kept}
@@ -41,11 +43,11 @@ use Rattle.session_state.specs.declared.progress.Progress.{Progress}
 use Rattle.path.specs.Bytes.{bit}
 use Rattle.session_state.specs.Stored.{record-of}
 use Rattle.session_state.specs.Moves.{noted-at, after-outcome}
-use Rattle.session_state.specs.State.{whole-run, after-words, waits, At, Before, History, Stocked, Underway, Ended, slot-for}
-use Rattle.session_steps.specs.Contracts.{Adding, Added}
+use Rattle.session_state.specs.State.{standing, whole-run, after-words, waits, Roomy, At, Before, History, Stocked, Underway, Ended, slot-for}
+use Rattle.session_steps.specs.Contracts.{StateSaved, Adding, Added}
 use Rattle.write_place.proofs.Frames.{places-kept, atoms-kept, whole-kept, holds-kept, unmapped-kept, all-counts-kept}
 use Rattle.session_state.proofs.Runs.{run-add, words-ended}
-use Rattle.session_state.proofs.States.{at-kept, history-more, go-on}
+use Rattle.session_state.proofs.States.{roomy-later, copied-kept, at-kept, history-more, go-on}
 
 -- ---- what an add takes
 
@@ -57,8 +59,8 @@ adding {input} {f} {w} {words} {rows} {out} {p} {h} {rest} u e fin few =
       places = u .stocked .places;
       running = subst (λ (b : Bool). Running w out (p .opens) (p .depth) (p .size) (bit b)) fin (u .present .running);
       names = rw (u .stocked .tables .atom-count, u .stocked .tables .pair-count) (first (u .left) e (u .steps-named));
-      room = omega (arith, u .stocked .room, u .few-steps);
-      counts = u .stocked .counts;
+      room = omega (arith, u .stocked .room .entries, u .few-steps);
+      counts = u .stocked .room .counts;
       few = few;
     }
   where
@@ -67,11 +69,11 @@ adding {input} {f} {w} {words} {rows} {out} {p} {h} {rest} u e fin few =
     first ss q a = subst (λ (x : List Step). All (StepNamed (length (f .atoms)) (length (f .pairs))) x) q a .0
 
 module _ {input w out : List ℕ} {p : Progress} {h : ℕ} (ad : Adding input w out p h) {w₁ : List ℕ} (len₁ : length w₁ ≡ length w)
-    (sv : Saved w w₁ (p .adds) (p .opens) (p .depth)) where
+    (sv : StateSaved w w₁ p) where
   -- ---- the state is saved
 
   same₁ : (k : ℕ) → k < COPIES → at w₁ k ≡ at w k
-  same₁ k l = sv .low k (omega arith)
+  same₁ k l = sv .saved .low k (omega arith)
 
   low₁ : (k : ℕ) → k < OPEN → at w₁ k ≡ at w k
   low₁ k l = same₁ k (omega arith)
@@ -186,6 +188,12 @@ module _ {input : List ℕ} {f : File} {w words : List ℕ} {rows : List Checkpo
   abbrev w₁ : List ℕ
   w₁ = a .saved-words
 
+  abbrev rows′ : List Checkpoint
+  rows′ = set rows (p .adds) (record-of w p)
+
+  abbrev past′ : List Session
+  past′ = u .past ++ s ∷ []
+
   abbrev w₂ : List ℕ
   w₂ = a .updated-words
 
@@ -216,9 +224,6 @@ module _ {input : List ℕ} {f : File} {w words : List ℕ} {rows : List Checkpo
   cached : (k : ℕ) → MOVED ≤ k → k < SEEN → at w′ k ≡ at w₂ k
   cached k l m = a .resumed .only .cache k l m
 
-  used : at w USED ≤ at w′ USED
-  used = omega (arith, cached USED (omega arith) (omega arith), a .updated .more, a .saved .low USED (omega arith))
-
   copied : (k : ℕ) → COPIES ≤ k → at w′ k ≡ at w₁ k
   copied k l = a .resumed .only .high k l ∙ a .updated .above k (omega arith)
 
@@ -228,41 +233,44 @@ module _ {input : List ℕ} {f : File} {w words : List ℕ} {rows : List Checkpo
       (subst (λ (b : Bool). At f w out (p .opens) (p .depth) (p .size) b s) fin (u .present))
 
   -- The state before this add.
-  before : Before f w′ out′ (p .adds) (record-of w p) (undo-state s)
+  before : Before f w′ out′ (p .forgets) (p .steps + 1) (p .adds) (record-of w p) s
   before =
       record {
         words-then = w;
-        session-then = s;
         stood = stood;
-        is = refl;
         entry-is = refl;
         tables-same = low;
-        used-more = used;
-        open-pairs = λ i l. copied (copied-open (p .adds) + i) (omega arith) ∙ a .saved .open-pairs i l;
-        places = λ i l. copied (copied-stack (p .adds) + i) (omega arith) ∙ a .saved .places i l;
-        marks = λ i l. copied (copied-marks (p .adds) + i) (omega arith) ∙ a .saved .marks i l;
+        open-pairs = λ i l. copied (copied-open (p .adds) + i) (omega arith) ∙ a .saved .saved .open-pairs i l;
+        places = λ i l. copied (copied-stack (p .adds) + i) (omega arith) ∙ a .saved .saved .places i l;
+        marks = λ i l. copied (copied-marks (p .adds) + i) (omega arith) ∙ a .saved .saved .marks i l;
+        room-then = roomy-later w (p .steps) (p .steps + 1) (omega arith) (u .stocked .room);
+        cache-then = λ y.
+            copied-kept w w₁ w′ (p .adds) (ad .running .stands .whole .sound .used) (ad .running .stands .counts) (λ j l m. copied j (omega arith)) (a .saved .cache y);
       }
 
-  history : (size′ : ℕ) → p .size ≤ size′ → History f w′ out′ (set rows (p .adds) (record-of w p)) size′ (p .adds + 1) (u .past ++ undo-state s ∷ [])
+  history : (size′ : ℕ) → p .size ≤ size′ → History f w′ out′ rows′ (p .forgets) (p .steps + 1) size′ (p .adds + 1) past′ c₂
   history size′ l =
-      history-more out out′ (a .out-long) f w w′ low used rows (p .size) (p .adds) (u .past)
-      (λ j x y. copied j x ∙ a .saved .low j (omega arith)) (a .resumed .before) (u .history)
-      (record-of w p) (undo-state s) size′ (omega (arith, u .many-rows)) l (omega arith) before
+      history-more out out′ (a .out-long) f w w′ low (p .forgets) (p .steps) (p .steps + 1) (omega arith) rows (p .size) (p .adds) (u .past) (s .cache)
+      (λ j x y. copied j x ∙ a .saved .saved .low j (omega arith)) (a .resumed .before) (u .history)
+      (record-of w p) s size′ c₂ (omega (arith, u .many-rows)) l (omega arith) refl (update-extends (unfolded f h) (s .cache)) before
+
+  known : p .forgets ≡ false → forgets rest ≡ false
+  known y = ap forgets (sym e) ∙ u .known y
 
   slot : slot-for (u .left) (p .adds) ≡ p .adds
   slot = ap (λ (x : List Step). slot-for x (p .adds)) e ∙ cond-true (ltb (p .adds) 16) (p .adds) 0 (lt-ltb (p .adds) 16 few)
 
   -- The run up to this add, and the add.
   run : whole-run f (length out′)
-      ≡ after-words (take (p .steps) words) (after-add (settle s c₂ (comes-to f c₂ (length out) w′ (ended (a .outcome)) (meant .last)))
-      (λ t. run-steps counted (length out′) f rest (u .past ++ undo-state s ∷ []) t))
+      ≡ after-words (take (p .steps) words) (after-step (after-add (settle s c₂ (comes-to f c₂ (length out) w′ (ended (a .outcome)) (meant .last))) (standing (u .past) s))
+      (λ t. run-steps counted (length out′) f rest t))
   run =
       subst (λ (n : ℕ). whole-run f n
-      ≡ after-words (take (p .steps) words) (after-add (settle s c₂ (comes-to f c₂ (length out) w′ (ended (a .outcome)) (meant .last)))
-      (λ t. run-steps counted n f rest (u .past ++ undo-state s ∷ []) t)))
+      ≡ after-words (take (p .steps) words) (after-step (after-add (settle s c₂ (comes-to f c₂ (length out) w′ (ended (a .outcome)) (meant .last))) (standing (u .past) s))
+      (λ t. run-steps counted n f rest t)))
       (sym (a .out-long))
       (u .same
-      ∙ ap (λ (ss : List Step). after-words (take (p .steps) words) (run-steps counted (length out) f ss (u .past) s)) e
+      ∙ ap (λ (ss : List Step). after-words (take (p .steps) words) (run-steps counted (length out) f ss (standing (u .past) s))) e
       ∙ ap (λ (r : Run). after-words (take (p .steps) words) r)
       (run-add (length out) f (u .past) s h rest (todo-of f w (p .opens)) (comes-to f c₂ (length out) w′ (ended (a .outcome)) (meant .last)) waiting (omega (arith, u .history .long)) resumes))
     where
@@ -293,8 +301,7 @@ module _ {input : List ℕ} {f : File} {w words : List ℕ} {rows : List Checkpo
         places = places-kept w w′ low few-atoms input (u .stocked .places);
         tables = tables-kept w w′ low f (ad .running .stands .whole .handles) (u .stocked .tables);
         atoms-there = atoms-kept w w′ low few-atoms input f (u .stocked .tables) (u .stocked .atoms-there);
-        room = omega (arith, u .stocked .room);
-        counts = omega (arith, u .stocked .counts);
+        room = record { entries = omega (arith, u .stocked .room .entries); counts = omega (arith, u .stocked .room .counts) };
       }
 
   -- The session after the add.
@@ -303,16 +310,11 @@ module _ {input : List ℕ} {f : File} {w words : List ℕ} {rows : List Checkpo
   session-after (outcome.Stopped pl) = record { cache = c₂; waiting = some (todo-of f w′ (pl .opens)); written = meant .last }
   session-after (outcome.Refused n pl) = record { cache = c₂; waiting = s .waiting; written = meant .last }
 
-  abbrev rows′ : List Checkpoint
-  rows′ = set rows (p .adds) (record-of w p)
-
-  abbrev past′ : List UndoState
-  past′ = u .past ++ undo-state s ∷ []
-
   abbrev RunTo : Outcome → Type 0
   RunTo o =
       whole-run f (length out′)
-      ≡ after-words (take (p .steps) words) (after-add (settle s c₂ (comes-to f c₂ (length out) w′ (ended o) (meant .last))) (λ t. run-steps counted (length out′) f rest past′ t))
+      ≡ after-words (take (p .steps) words) (after-step (after-add (settle s c₂ (comes-to f c₂ (length out) w′ (ended o) (meant .last))) (standing (u .past) s))
+      (λ t. run-steps counted (length out′) f rest t))
 
   abbrev WritesTo : Outcome → Type 0
   WritesTo o = Writes f w′ out′ (place-of (ended o) .depth) (place-of (ended o) .size) c₂ (meant .last)
@@ -331,10 +333,10 @@ module _ {input : List ℕ} {f : File} {w words : List ℕ} {rows : List Checkpo
       → Underway input f w′ words′ rows′ out′ (noted-at (after-outcome p o) next)
   on (outcome.Done pl) ends writes longer to d words′ ws =
       go-on input f w′ words words′ rows′ out′ (after-outcome p (outcome.Done pl)) next rest past′ (session-after (outcome.Done pl))
-      (record { running = ends .0; writes = writes; waiting = refl }) stocked (history (pl .size) longer) (omega arith) there named-rest few-rest many (u .many-words) to ws
+      (record { running = ends .0; writes = writes; waiting = refl }) stocked (history (pl .size) longer) known (omega arith) there named-rest few-rest many (u .many-words) to ws
   on (outcome.Stopped pl) ends writes longer to d words′ ws =
       go-on input f w′ words words′ rows′ out′ (after-outcome p (outcome.Stopped pl)) next rest past′ (session-after (outcome.Stopped pl))
-      (record { running = ends; writes = writes; waiting = refl }) stocked (history (pl .size) longer) (omega arith) there named-rest few-rest many (u .many-words) to ws
+      (record { running = ends; writes = writes; waiting = refl }) stocked (history (pl .size) longer) known (omega arith) there named-rest few-rest many (u .many-words) to ws
   on (outcome.Refused n pl) ends writes longer to d words′ ws = clash cc
 
   off : (o : Outcome) → WritesTo o → RunTo o → after-outcome p o .done ≡ true → Ended f words out′ (after-outcome p o)

@@ -25,7 +25,7 @@ use Rattle.path.specs.Bytes.{bit}
 use Rattle.session_state.specs.Stored.{record-of}
 use Rattle.session_state.specs.Moves.{noted-at, after-outcome, stopped-at}
 use Rattle.session_state.specs.Questions.{question-of}
-use Rattle.session_state.specs.State.{waits, Underway, slot-for}
+use Rattle.session_state.specs.State.{standing, waits, Underway, slot-for}
 use Rattle.session_state.specs.Steps.{Comes, Ready, Onward}
 use Rattle.session_steps.specs.Contracts.{Adding, Added}
 use Rattle.session_state.proofs.Runs.{run-ends, run-finished, run-full}
@@ -46,7 +46,7 @@ module _ {input : List ℕ} {f : File} {w words out : List ℕ} {p : Progress} {
   stops-at-end {a} is comes =
       stops input f w words out p c 0 a is (λ rows u.
       let e = comes (u .left) (u .steps-there) in
-      ap (λ (ss : List Step). run-steps counted (length out) f ss (u .past) (u .session)) e ∙ run-ends (length out) f (u .past) (u .session))
+      ap (λ (ss : List Step). run-steps counted (length out) f ss (standing (u .past) (u .session))) e ∙ run-ends (length out) f (u .past) (u .session))
 
   module _ (node : NodePtr) (next : ℕ) (comes : Comes input (p .at) (next-step.Add node next)) where
     -- Question 9.
@@ -54,7 +54,7 @@ module _ {input : List ℕ} {f : File} {w words out : List ℕ} {p : Progress} {
     stops-9 a is fin =
         stops input f w words out p c 9 a is (λ rows u.
         let e = comes (u .left) (u .steps-there) in
-        ap (λ (ss : List Step). run-steps counted (length out) f ss (u .past) (u .session)) (e .1)
+        ap (λ (ss : List Step). run-steps counted (length out) f ss (standing (u .past) (u .session))) (e .1)
         ∙ run-finished (length out) f (u .past) (u .session) (node .0) (e .0)
         (u .present .waiting ∙ ap (λ (b : Bool). waits b (todo-of f w (p .opens))) fin))
 
@@ -63,7 +63,7 @@ module _ {input : List ℕ} {f : File} {w words out : List ℕ} {p : Progress} {
     stops-10 a is fin full =
         stops input f w words out p c 10 a is (λ rows u.
         let e = comes (u .left) (u .steps-there) in
-        ap (λ (ss : List Step). run-steps counted (length out) f ss (u .past) (u .session)) (e .1)
+        ap (λ (ss : List Step). run-steps counted (length out) f ss (standing (u .past) (u .session))) (e .1)
         ∙ run-full (length out) f (u .past) (u .session) (node .0) (e .0) (todo-of f w (p .opens))
         (u .present .waiting ∙ ap (λ (b : Bool). waits b (todo-of f w (p .opens))) fin) (omega (arith, u .history .long)))
 

@@ -1,3 +1,4 @@
+pub mod Saving
 pub mod Adding
 pub mod Answers
 pub mod Bounds

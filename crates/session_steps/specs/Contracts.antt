@@ -1,6 +1,7 @@
 -- An add: what it takes, and what it leaves.
 use Prim.Native.Nat.{ℕ, _+_, _*_, _≤_, _<_}
 use mathlib.Core.Path.{_≡_}
+use mathlib.Core.Bool.{true}
 use mathlib.Core.List.{List}
 use lib.ListN.{length}
 use Rattle.words.specs.Words.{at}
@@ -8,6 +9,7 @@ use Rattle.allocator.specs.declared.NodePtr.{NodePtr}
 use Rattle.work_layout.specs.Layout.{PAIR-COUNT, USED, ENTRIES}
 use Rattle.work_layout.specs.Rows.{all-counts}
 use Rattle.cache_undo.specs.undo_state.Contracts.{Saved}
+use Rattle.cache_undo.specs.cache_copy.Contracts.{CacheCopied}
 use Rattle.cache_entries.specs.Meaning.{Names, unmapped}
 use Rattle.cache_entries.specs.Contracts.{Updated}
 use Rattle.write_place.specs.State.{AtomPlaces, Running}
@@ -17,6 +19,11 @@ use Rattle.write_place.specs.declared.Place.{Place}
 use Rattle.write_place.specs.declared.Outcome.{Outcome}
 use Rattle.session_state.specs.declared.progress.Progress.{Progress}
 use Rattle.session_state.specs.Moves.{after-outcome}
+
+-- The state p of the words is saved.
+pub record StateSaved (w w′ : List ℕ) (p : Progress) : Type 0 where
+  pub saved : Saved w w′ (p .adds) (p .opens) (p .depth)
+  pub cache : p .forgets ≡ true → CacheCopied w w′ (p .adds)
 
 -- What an add takes.
 pub record Adding (input w out : List ℕ) (p : Progress) (h : ℕ) : Type 0 where
@@ -35,7 +42,7 @@ pub record Added (input w out w′ out′ : List ℕ) (p : Progress) (node : Nod
   pub saved-words : List ℕ
   pub updated-words : List ℕ
   pub outcome : Outcome
-  pub saved : Saved w saved-words (p .adds) (p .opens) (p .depth)
+  pub saved : StateSaved w saved-words p
   pub saved-long : length saved-words ≡ length w
   pub updated : Updated saved-words updated-words (node .0)
   pub updated-long : length updated-words ≡ length w

@@ -1,3 +1,3 @@
 pub mod Contracts
-pub mod restore_step
+pub mod undo_step
 pub mod Driven

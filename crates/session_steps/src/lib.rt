@@ -1,8 +1,9 @@
 // incremental.rs and the session file: the steps of a session.
-mod restore_step;
 pub mod run_steps;
+mod undo_step;
 
 use allocator::NodePtr;
+use cache_undo::cache_copy;
 use cache_undo::undo_state;
 use file_parts::NextStep;
 use session_state::Checkpoint;
@@ -11,18 +12,31 @@ use session_state::progress;
 use session_state::progress::Progress;
 use session_state::step_records;
 use write_place::Place;
+ghost use Prim.Native.Nat.{_<_};
 ghost use lib.ListN.{take};
 ghost use Rattle.file_parts.specs.declared.session_file.NextStep.the-variants as next-step;
 ghost use Rattle.session_state.specs.State.{the-file};
 ghost use Rattle.session_state.specs.Steps.{Comes, Ready, Onward};
-ghost use Rattle.session_steps.specs.Contracts.{Adding, Added};
+ghost use Rattle.write_place.specs.State.{Standing};
+ghost use Rattle.session_steps.specs.Contracts.{StateSaved, Adding, Added};
+
+// The state before an add is saved: open pairs, stack and marks, and the tree cache where a step of the file forgets.
+fn save_state(work: &mut [u32], p: Progress)
+    requires { ⌜ (Standing (now work) (p .opens) (p .depth) 0) × (p .adds < 16) ⌝ }
+    ensures { λ _. ⌜ StateSaved (now (work .entry)) (now (work .exit)) p ⌝ }
+{
+    undo_state::save(work, p.adds, p.opens, p.depth);
+    if p.forgets {
+        cache_copy::save(work, p.adds);
+    }
+}
 
 // The tree of a handle is added: the state is saved, the tree entered in the cache, and written up to the next open place.
 fn add(file: &[u8], work: &mut [u32], output: &mut [u8], p: Progress, node: NodePtr) -> Progress
     requires { ⌜ Adding (now file) (now work) (now output) p (node .0) ⌝ }
     ensures { λ q. ⌜ Added (now (file .entry)) (now (work .entry)) (now (output .entry)) (now (work .exit)) (now (output .exit)) p node q ⌝ }
 {
-    undo_state::save(work, p.adds, p.opens, p.depth);
+    save_state(work, p);
     cache_update::update(work, node);
     let place = Place {
         opens: p.opens,
@@ -66,7 +80,7 @@ fn add_step(
     }
 }
 
-// One step of the file: an add, a restore, or the end. It takes the session's state and one checkpoint record, and gives the state and the record to store.
+// One step of the file: an add, an undo, or the end. It takes the session's state and one checkpoint record, and gives the state and the record to store.
 pub fn core_step(
     file: &[u8],
     work: &mut [u32],
@@ -84,7 +98,10 @@ pub fn core_step(
     match file_parts::next_step(file, at) {
         NextStep::Add { node, next } => { add_step(file, work, words, output, p, node, next, c) }
         NextStep::Restore { number, next } => {
-            restore_step::restore_step(file, work, words, output, p, number, next, c)
+            undo_step::undo_step(file, work, words, output, p, number, false, next, c)
+        }
+        NextStep::Forget { number, next } => {
+            undo_step::undo_step(file, work, words, output, p, number, true, next, c)
         }
         NextStep::End => progress::stop(p, 0, c),
     }

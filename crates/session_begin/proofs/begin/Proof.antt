@@ -55,6 +55,9 @@ open-requires c κs =
     let k = checked .check in
     open-asks (a .file .now) (a .work .now) (a .words) (a .records) (long (checked .before)) (k .result) (k .ensures) (c .before .if2 .left)
 
+has-forget-requires : tie.Need-has-forget-requires
+has-forget-requires c κs = search needs
+
 started-requires : tie.Need-started-requires
 started-requires c κs = search needs
 
@@ -63,15 +66,15 @@ same-length c = search needs
 
 returns-3 : tie.Need-returns-3
 returns-3 c =
-    let o = c .before .before .before .«open» in
-    let passed = c .before .before .before .before .before in
+    let o = c .before .before .before .before .«open» in
+    let passed = c .before .before .before .before .before .before in
     let checked = passed .before .before in
     let known = checked .before .before .before .before in
     let a = known .before .args in
     let k = checked .check in (
       bytes known,
       begin-run (a .file .now) (a .work .now) (a .words) (a .records) (long (checked .before)) (k .result) (k .ensures) (passed .if2 .left)
-          (o .last .1 .0) (o .kept .1 .0) (o .ensures) (c .started .ensures),
+          (o .last .1 .0) (o .kept .1 .0) (o .ensures) (c .before .has-forget .ensures) (c .started .ensures),
     )
 
 pub begin-spec : {M : Type 1} → statement M
@@ -85,6 +88,7 @@ begin-spec =
     refused-requires-2
     returns-2
     open-requires
+    has-forget-requires
     started-requires
     same-length
     returns-3)

@@ -6,20 +6,20 @@ use Rattle.session_steps.proofs.Adding.{update-asks, resume-asks}
 use Rattle.session_steps.proofs.add.Statement.{statement}
 use Rattle.session_steps.proofs.add.Tie as tie
 
-save-requires : tie.Need-save-requires
-save-requires c κs = search needs
+save-state-requires : tie.Need-save-state-requires
+save-state-requires c κs = search needs
 
 update-requires : tie.Need-update-requires
 update-requires c κs =
     let saved = c .before .before .before in
-    let sv = saved .save in
+    let sv = saved .save-state in
     update-asks (saved .before .before .before .before .before .pre) (sv .kept .0) (sv .ensures)
 
 resume-requires : tie.Need-resume-requires
 resume-requires c κs =
     let updated = c .before .before .before .before in
     let saved = updated .before .before .before .before in
-    let sv = saved .save in
+    let sv = saved .save-state in
     resume-asks (saved .before .before .before .before .before .pre) (sv .kept .0) (sv .ensures) (updated .update .ensures)
 
 after-outcome-requires : tie.Need-after-outcome-requires
@@ -29,7 +29,7 @@ same-length : tie.Need-same-length
 same-length c =
     let updated = c .before .before .before .before .before .before .before .before .before .before in
     let saved = updated .before .before .before .before in
-    c .before .before .before .before .before .resume .kept .0 ∙ updated .update .kept .0 ∙ saved .save .kept .0
+    c .before .before .before .before .before .resume .kept .0 ∙ updated .update .kept .0 ∙ saved .save-state .kept .0
 
 same-length-2 : tie.Need-same-length-2
 same-length-2 c = search needs
@@ -39,7 +39,7 @@ returns c =
     let updated = c .before .before .before .before .before .before .before .before .before .before in
     let re = c .before .before .before .before .before .resume in
     let up = updated .update in
-    let sv = updated .before .before .before .before .save in
+    let sv = updated .before .before .before .before .save-state in
     record {
       saved-words = sv .last .0;
       updated-words = up .last .0;
@@ -58,7 +58,7 @@ pub add-spec : {M : Type 1} → statement M
 add-spec =
     tie.close
     (tie.spec
-    save-requires
+    save-state-requires
     update-requires
     resume-requires
     after-outcome-requires

@@ -1,11 +1,11 @@
--- `session_steps::restore_step::restore_step` meets its contract: question 11, and a restore whose word is noted.
+-- `session_steps::undo_step::undo_step` meets its contract: question 11, and an undo whose word is noted.
 -- Assumes nothing.
 use Prim.Native.Nat.{_<_}
 use native.Mathlib.Omega.{arith}
 use borrow.Author.Needs.{needs}
-use Rattle.session_steps.proofs.restore_step.Answers as answers
-use Rattle.session_steps.proofs.restore_step.restore_step.Statement.{statement}
-use Rattle.session_steps.proofs.restore_step.restore_step.Tie as tie
+use Rattle.session_steps.proofs.undo_step.Answers as answers
+use Rattle.session_steps.proofs.undo_step.undo_step.Statement.{statement}
+use Rattle.session_steps.proofs.undo_step.undo_step.Tie as tie
 
 abbrev to-start : tie.Else1 → tie.Start
 to-start x = x .before .before .before .before .before .before
@@ -20,12 +20,12 @@ stop-requires c κs = search needs
 returns : tie.Need-returns
 returns c =
     let s = c .before .before .before .before .before .before .before in
-    answers.stops-11 (s .pre .0) (s .args .number) (s .args .next) (s .pre .1) (c .stop .ensures) (omega (arith, c .before .if1))
+    answers.stops-11 (s .pre .0) (s .args .forgets) (s .args .number) (s .args .next) (s .pre .1) (c .stop .ensures) (omega (arith, c .before .if1))
 
 undo-requires : tie.Need-undo-requires
 undo-requires c κs =
     let s = to-start (c .before) in
-    answers.undo-asks (s .pre .0) (s .args .number) (s .args .next) (s .pre .1) (few (c .before))
+    answers.undo-asks (s .pre .0) (s .args .forgets) (s .args .number) (s .args .next) (s .pre .1) (few (c .before))
 
 undone-requires : tie.Need-undone-requires
 undone-requires c κs = search needs
@@ -34,7 +34,7 @@ note-requires : tie.Need-note-requires
 note-requires c κs =
     let test = c .before .before .before .before .before .before in
     let s = to-start test in
-    answers.restore-note-asks (s .pre .0) (s .args .number) (s .args .next) (s .pre .1) (few test) (c .before .undone .ensures)
+    answers.undo-note-asks (s .pre .0) (s .args .forgets) (s .args .number) (s .args .next) (s .pre .1) (few test) (c .before .undone .ensures)
 
 same-length : tie.Need-same-length
 same-length c = search needs
@@ -49,10 +49,10 @@ returns-2 c =
     let un = undone .before .before .before .undo in
     let test = undone .before .before .before .before .before in
     let s = to-start test in
-    answers.restores-on (s .pre .0) (s .args .number) (s .args .next) (s .pre .1) (few test) (un .kept .0) (un .ensures) (undone .undone .ensures) (no .ensures .0) (no .ensures .1)
+    answers.undoes-on (s .pre .0) (s .args .forgets) (s .args .number) (s .args .next) (s .pre .1) (few test) (un .kept .0) (un .ensures) (undone .undone .ensures) (no .ensures .0) (no .ensures .1)
 
-pub restore-step-spec : {M : Type 1} → statement M
-restore-step-spec =
+pub undo-step-spec : {M : Type 1} → statement M
+undo-step-spec =
     tie.close
     (tie.spec
     stop-requires

@@ -1,47 +1,57 @@
--- What the answer of a restore means: the run goes on, or question 11 ends it. What each call of it asks.
+-- What the answer of an undo means: the run goes on, or question 11 ends it. What each call of it asks.
 -- Assumes nothing.
 use Prim.Native.Nat.{ℕ, suc, _+_, _*_, _≤_, _<_}
 use mathlib.Core.Path.{_≡_, sym, ap, _∙_}
+use mathlib.Core.Bool.{Bool, true, false}
 use mathlib.Core.List.{List, _∷_}
 use native.Mathlib.Omega.{arith}
 use lib.ListN.{length, getD, set}
 use Rattle.session_state.specs.Records.{blank}
 use Rattle.session_state.specs.declared.checkpoints.Checkpoint.{Checkpoint}
 use Rattle.path.specs.Measure.{counted}
-use Rattle.spec_session.specs.File.{File, Step, restore}
-use Rattle.file_parts.specs.declared.session_file.NextStep.the-variants as next-step
+use Rattle.spec_session.specs.File.{File, Step}
+use Rattle.file_parts.specs.Loaded.{FirstStep}
+use Rattle.spec_session.specs.Places.{StepsAt}
 use Rattle.spec_session.specs.Steps.{run-steps}
 use Rattle.session_state.specs.declared.progress.Progress.{Progress}
 use Rattle.session_state.specs.declared.progress.StepAnswer.{StepAnswer}
 use Rattle.path.specs.Bytes.{bit}
 use Rattle.session_state.specs.Moves.{noted-at, undone-at, stopped-at}
-use Rattle.session_state.specs.State.{size-at, Underway, slot-for}
-use Rattle.session_state.specs.Steps.{Comes, Ready, Onward}
-use Rattle.session_steps.specs.restore_step.Contracts.{Undoing, Undone}
+use Rattle.session_state.specs.State.{standing, size-at, Underway, slot-for, undo-of}
+use Rattle.session_state.specs.Steps.{Comes, told-undo, Ready, Onward}
+use Rattle.session_steps.specs.undo_step.Contracts.{Undoing, Undone}
 use Rattle.session_state.proofs.Slots.{nth-none}
 use Rattle.session_state.proofs.Runs.{run-beyond}
-use Rattle.session_steps.proofs.restore_step.Restoring.{slot, undoing, restored-on}
+use Rattle.session_steps.proofs.undo_step.Undoing.{slot, undoing, undone-on}
 use Rattle.session_state.proofs.Answers.{stands-on, stops}
 
 module _ {input : List ℕ} {f : File} {w words out : List ℕ} {p : Progress} {c : Checkpoint} (ready : Ready input f w words out p c)
-    (n next : ℕ) (comes : Comes input (p .at) (next-step.Restore n next)) where
+    (b : Bool) (n next : ℕ) (told : Comes input (p .at) (told-undo b n next)) where
+  -- The steps that are left begin with it.
+  comes : (ss : List Step) → StepsAt input (p .at) ss → (rest : List Step) × (ss ≡ undo-of b n ∷ rest) × StepsAt input next rest
+  comes ss there = go b (told ss there)
+    where
+      go : (c : Bool) → FirstStep input ss (told-undo c n next) → (rest : List Step) × (ss ≡ undo-of c n ∷ rest) × StepsAt input next rest
+      go false q = q
+      go true q = q
+
   -- Question 11.
   pub stops-11 : {a : StepAnswer} → a ≡ stopped-at p 11 c → p .adds ≤ n → Onward input f w words out p c w words out a
   stops-11 {a} is beyond =
       stops input f w words out p c 11 a is (λ rows u.
       let e = comes (u .left) (u .steps-there) in
-      ap (λ (ss : List Step). run-steps counted (length out) f ss (u .past) (u .session)) (e .1)
-      ∙ run-beyond (length out) f (u .past) (u .session) n (e .0) (nth-none (u .past) n (omega (arith, u .history .long))))
+      ap (λ (ss : List Step). run-steps counted (length out) f ss (standing (u .past) (u .session))) (e .1)
+      ∙ run-beyond (length out) f (u .past) (u .session) b n (e .0) (nth-none (u .past) n (omega (arith, u .history .long))))
 
   module _ (few : n < p .adds) where
-    pub undo-asks : Undoing w (p .depth) n c
+    pub undo-asks : Undoing b w (p .depth) n c
     undo-asks =
         let u = ready .underway in
         let e = comes (u .left) (u .steps-there) in
-        undoing u (e .1) few (ready .record-is)
+        undoing b u (e .1) few (ready .record-is)
 
-    pub restore-note-asks : {q : Progress} → q ≡ undone-at p c n → (q .steps < length words) × (q .size ≤ 65535) × (q .steps < 1024)
-    restore-note-asks {q} is =
+    pub undo-note-asks : {q : Progress} → q ≡ undone-at p c n → (q .steps < length words) × (q .size ≤ 65535) × (q .steps < 1024)
+    undo-note-asks {q} is =
         let u = ready .underway in
         let e = comes (u .left) (u .steps-there) in
         let l : length (u .left) ≡ suc (length (e .0)) = ap length (e .1) in
@@ -51,18 +61,18 @@ module _ {input : List ℕ} {f : File} {w words out : List ℕ} {p : Progress} {
         (omega (arith, u .few-steps, u .many-words), omega arith, omega (arith, u .few-steps))
       where
         size-low : (rows : List Checkpoint) (u : Underway input f w words rows out p) → getD rows (slot-for (u .left) (p .adds)) blank ≡ c
-            → (rest : List Step) → u .left ≡ restore n ∷ rest → c .size ≤ 65535
+            → (rest : List Step) → u .left ≡ undo-of b n ∷ rest → c .size ≤ 65535
         size-low rows u r-is rest e =
-            let z : size-at rows n ≡ c .size = ap (λ (k : ℕ). size-at rows k) (sym (slot u e few r-is)) ∙ ap (λ (x : Checkpoint). x .size) r-is in
+            let z : size-at rows n ≡ c .size = ap (λ (k : ℕ). size-at rows k) (sym (slot b u e few r-is)) ∙ ap (λ (x : Checkpoint). x .size) r-is in
             omega (arith, u .history .sizes n few, u .present .running .fits, u .present .running .short)
 
-    pub restores-on : {w′ : List ℕ} → length w′ ≡ length w → Undone w w′ n c → {words′ : List ℕ} {q t : Progress} → q ≡ undone-at p c n
+    pub undoes-on : {w′ : List ℕ} → length w′ ≡ length w → Undone b w w′ n c → {words′ : List ℕ} {q t : Progress} → q ≡ undone-at p c n
         → words′ ≡ set words (q .steps) (q .size * 2 + bit (q .finished)) → t ≡ noted-at q next
         → Onward input f w words out p c w′ words′ out (record { state = t; saved = c })
-    restores-on {w′} long un {words′} {q} {t} qi ws is rows u r-is =
+    undoes-on {w′} long un {words′} {q} {t} qi ws is rows u r-is =
         let e = comes (u .left) (u .steps-there) in
         let s : t .steps ≡ p .steps + 1 = ap (λ (x : Progress). x .steps) is ∙ ap (λ (x : Progress). x .steps + 1) qi in (
           stands-on input f w′ words′ (set rows (slot-for (u .left) (p .adds)) c) out t (ap (λ (x : Progress). x .done) is ∙ ap (λ (x : Progress). x .done) qi)
-              (restored-on u (e .1) few r-is long un next (e .2) qi ws is),
+              (undone-on b u (e .1) few r-is long un next (e .2) qi ws is),
           omega arith,
         )
