@@ -1,22 +1,21 @@
 -- A session, and its finished bytes read: what each of the two calls gives, and the tree that comes back.
-use Prim.Native.Nat.{ℕ, suc, _<_}
+use Prim.Native.Nat.{ℕ}
 use mathlib.Core.Path.{_≡_}
 use mathlib.Core.Bool.{true}
-use mathlib.Core.List.{List, map}
+use mathlib.Core.List.{List}
+use mathlib.Core.Option.{Option}
 use lib.ListN.{take}
 use Rattle.path.specs.Measure.{counted}
 use Rattle.spec_reading.specs.Call as read
 use Rattle.spec_reading.specs.Promise.{ReadAs}
-use Rattle.spec_session.specs.File.{File, add, version-1, got, file}
-use Rattle.spec_session.specs.Unfold.{unfolded}
-use Rattle.spec_session.specs.Premises.{Apart}
-use Rattle.spec_session.specs.Demand3.{Finished, ReadBack}
+use Rattle.spec_session.specs.File.{File, Step, version-1, got, file}
+use Rattle.spec_session.specs.Demand3.{ReadBack}
 use Rattle.spec_session.specs.Call.{Result, session}
 use Rattle.session_state.specs.declared.checkpoints.Checkpoint.{Checkpoint}
 use Rattle.session_state.specs.Records.{blank}
 use Rattle.read_answer.specs.Answer.{slices as store-slices}
 use Rattle.read_call.specs.Outcome.{read-result-of}
-use Rattle.session_call.specs.Outcome.{slices, result-of}
+use Rattle.session_call.specs.Outcome.{slices, result-of, Claimed}
 use Rattle.round_trip.specs.declared.RoundTrip.{RoundTrip}
 
 -- All lists that are lent: the session's, and three more for the reading, which gets the session's work too.
@@ -45,16 +44,15 @@ abbrev pub read-of : RoundTrip → Lists → read.Result
 read-of r l = read-result-of (r .read) (l .work) (l .pairs) (l .atoms) (l .bytes)
 
 -- What demand 3 says of the session's result s, and that what was read is its tree: the number is 0, and the root names it in the slices.
-pub record ReadWhole (f : File) (handles : List ℕ) (k : ℕ) (s : Result Checkpoint) (r : read.Result) : Type 0 where
-  pub back : ReadBack counted version-1 f handles k s
+pub record ReadWhole (f : File) (handles : List ℕ) (k : ℕ) (next : Option Step) (s : Result Checkpoint) (r : read.Result) : Type 0 where
+  pub back : ReadBack counted version-1 f handles k next s
   pub reads : ReadAs r (back .tree)
 
--- THE PROMISE, of a session's result s and of what was read. The reading's slices pass question 1. The file has add steps only, its adds keep 01's premises up
--- to add k, and the word of add k says finished. Then the plain filling's whole tree was read, and references stand exactly where the search rules put them.
+-- THE PROMISE, of a session's result s and of what was read. The reading's slices pass question 1. Wherever demand 3 makes its claim, the plain filling's whole
+-- tree was read, and references stand exactly where the search rules put them.
 abbrev pub RoundTrips : (input : List ℕ) (lent : read.Slices) → Result Checkpoint → read.Result → Type 0
 RoundTrips input lent s r =
-    read.long-enough lent ≡ true → (f : File) (rest : List ℕ) → file version-1 input ≡ got f rest → (handles : List ℕ) → f .steps ≡ map add handles → (k : ℕ)
-    → k < s .answer .steps → Finished (s .slices .words) k → Apart (map (unfolded f) (take (suc k) handles)) → ReadWhole f handles k s r
+    read.long-enough lent ≡ true → (f : File) (rest : List ℕ) → file version-1 input ≡ got f rest → Claimed f s (λ handles k next. ReadWhole f handles k next s r)
 
 -- The session's answer and slices. Its work is the definition's: the reading used it since.
 abbrev pub session-of : (input : List ℕ) (before after : Lists) → RoundTrip → Result Checkpoint

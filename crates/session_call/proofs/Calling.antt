@@ -15,7 +15,7 @@ use Rattle.spec_session.specs.File.{Got, got, refused, File, version-1, file}
 use Rattle.spec_session.specs.Items.{Item, output}
 use Rattle.spec_session.specs.Output.{output-size}
 use Rattle.spec_session.specs.Steps.{Run}
-use Rattle.spec_session.specs.Demand3.{demand-3}
+use Rattle.spec_session.specs.Demand3.{demand-3, demand-3-adds}
 use Rattle.spec_session.specs.Call.{Slices, Result, untouched, after-run, after-file, session}
 use Rattle.session_state.specs.declared.checkpoints.Checkpoint.{Checkpoint}
 use Rattle.session_state.specs.Records.{blank}
@@ -181,4 +181,5 @@ module _ (input w ws : List ℕ) (cs : List Checkpoint) (o : List ℕ) where
 
 -- What is the definition's result reads back.
 pub reads-back : (input : List ℕ) → Bytes input → (l : Slices Checkpoint) (t : Result Checkpoint) → t ≡ session blank version-1 counted input l → ReadsBack input t
-reads-back input bytes l t e = subst (λ (x : Result Checkpoint). ReadsBack input x) (sym e) (λ f rest is hs steps k. demand-3 blank input bytes f rest is hs steps l k)
+reads-back input bytes l t e = subst (λ (x : Result Checkpoint). ReadsBack input x) (sym e) (λ f rest is.
+    (λ k. demand-3 blank input bytes f rest is l k, λ hs steps k. demand-3-adds blank input bytes f rest is hs steps l k))
