@@ -1,5 +1,5 @@
 //! Cases of 01's "Corners, file by file" and of its questions, each run on the
-//! unchanged Rust and compared with what 01 says.
+//! unchanged Rust and compared with what 01 says; and cases of the step `03`.
 
 use crate::hex;
 use crate::leaves::{parse_blob, path_of_bits};
@@ -20,7 +20,7 @@ impl Cases {
         let result = if got == expected {
             Ok(())
         } else {
-            Err(format!("got {got:?}, 01 says {expected:?}"))
+            Err(format!("got {got:?}, expected {expected:?}"))
         };
         self.0.push((name.to_string(), result));
     }
@@ -270,7 +270,7 @@ fn tree_cache(c: &mut Cases) {
     let r = f.pair(p, q);
     let s = f.adds(&[r]);
     let back = reading::read(&run(&s).output);
-    let filling = plain::fill(&s).expect("no undo");
+    let filling = plain::fill(&s).expect("no restore");
     let mut i = Interner::default();
     c.equal(
         "sums stop at 2^64 - 1, read back",
@@ -628,7 +628,7 @@ fn session_file(c: &mut Cases) {
     }
     let s = session::parse(&whole).expect("the whole case");
     c.equal("the whole case, premises", plain::premises(&s), Ok(()));
-    let filling = plain::fill(&s).expect("no undo");
+    let filling = plain::fill(&s).expect("no restore");
     c.equal(
         "the whole case, filled",
         filling
@@ -655,10 +655,11 @@ fn session_file(c: &mut Cases) {
     }
 
     // questions in one file
+    for code in [0, 7, 0xff] {
+        let f = [&whole[..], &[code]].concat();
+        c.equal(&format!("the code {code:02x} gets 8"), number(&f), 8);
+    }
     let mut f = whole.clone();
-    f.extend([3]);
-    c.equal("an unknown code gets 8", number(&f), 8);
-    f.pop();
     f.extend([1, 0x04, 0, 0, 1]);
     c.equal("a step's atom that isn't listed gets 7", number(&f), 7);
     let mut f = whole.clone();
@@ -773,6 +774,194 @@ fn steps(c: &mut Cases) {
     );
 }
 
+/// The step `03`, beside the cases of `02` in `incremental`.
+fn forgets(c: &mut Cases) {
+    use Step::{Add, Forget, Restore};
+
+    // B = foobar, A = ((S . nil) . B), C = (B . nil)
+    let file = |steps: &dyn Fn(u32, u32) -> Vec<Step>| {
+        let mut f = File::new();
+        let sn = f.pair(S, NIL);
+        let a = f.pair(sn, FOOBAR);
+        let cc = f.pair(FOOBAR, NIL);
+        f.steps(steps(a, cc))
+    };
+    let right = "ffffff86666f6f6261728080fe08";
+    let kept = "ffffff86666f6f6261728080fe04";
+    let s = file(&|a, cc| vec![Add(a), Add(FOOBAR), Forget(1), Add(cc)]);
+    c.session(
+        "03 brings moved parents back",
+        &s,
+        0,
+        &[4, 25, 4, 29],
+        right,
+    );
+    c.equal("03, premises", plain::premises(&s), Ok(()));
+    // ((C . nil) . B)
+    let in_full = "ffffff86666f6f626172808086666f6f626172";
+    c.read("03's bytes read back", right, 0, in_full);
+    let filling = plain::fill(&s).expect("no restore");
+    c.equal(
+        "03, filled",
+        filling.forest.in_full(filling.root, 100),
+        Some(hex::bytes(in_full)),
+    );
+    // the state before the third add is one after a 02
+    let s = file(&|a, cc| {
+        let first = [Add(a), Add(FOOBAR), Restore(1)];
+        [&first[..], &[Add(small(1)), Forget(1), Add(cc)]].concat()
+    });
+    let words = [4, 25, 4, 23, 4, 29];
+    c.session("03 brings back what a 02 kept", &s, 0, &words, kept);
+    // the state before the first add is one before the 02
+    let s = file(&|a, cc| {
+        let first = [Add(a), Add(FOOBAR), Restore(1)];
+        [&first[..], &[Forget(0), Add(a), Add(cc)]].concat()
+    });
+    let words = [4, 25, 4, 0, 4, 29];
+    c.session("03 goes back before a 02", &s, 0, &words, right);
+    let s = file(&|a, cc| {
+        let first = [Add(a), Add(FOOBAR), Forget(1), Add(FOOBAR)];
+        [&first[..], &[Restore(1), Add(cc)]].concat()
+    });
+    c.session("02 after a 03", &s, 0, &[4, 25, 4, 25, 4, 29], kept);
+
+    // as in `incremental`, where a 02 has the sentinel known
+    let mut f = File::new();
+    let a = f.pair(S, NIL);
+    let t = f.pair(a, S);
+    let t = f.pair(small(9), t);
+    let r = f.pair(FOOBAR, t);
+    let adds = [Add(r), Add(small(1)), Add(FOOBAR)];
+    let s = f.steps([&[Add(a), Forget(0), Add(FOOBAR), Forget(0)], &adds[..]].concat());
+    c.session(
+        "03 before the first add: the sentinel is unknown",
+        &s,
+        0,
+        &[2, 0, 15, 0, 24, 28, 33],
+        "ff86666f6f626172ff09ffff0180fe0b",
+    );
+
+    // P0 = (foobar . nil) is foobar's first parent; then B has foobar n times more
+    let overwritten_case = |n: u32| {
+        let mut f = File::new();
+        let p0 = f.pair(FOOBAR, NIL);
+        let a = f.pair(p0, S);
+        let chain = (0..n).fold(small(1), |t, _| f.pair(FOOBAR, t));
+        let d = f.pair(FOOBAR, small(2));
+        let b = f.pair(d, chain);
+        let r = run(&f.steps(vec![Add(a), Add(b), Forget(1), Add(d)]));
+        // after ff ff 86 foobar 80 and D's ff
+        hex::encode(&r.output[11..])
+    };
+    for n in [98, 192, 193, 300] {
+        let name = format!("03 brings overwritten parents back, of {n}");
+        c.equal(&name, overwritten_case(n), "fe0402".to_string());
+    }
+    // foobar at S loses P0 if it had 100 parents
+    let dropped_case = |n: u32, undo: Step| {
+        let mut f = File::new();
+        let p0 = f.pair(FOOBAR, NIL);
+        let chain = (0..n).fold(small(1), |t, _| f.pair(FOOBAR, t));
+        let rest = f.pair(S, chain);
+        let a = f.pair(p0, rest);
+        let d = f.pair(FOOBAR, small(2));
+        let r = run(&f.steps(vec![Add(a), Add(FOOBAR), undo, Add(d)]));
+        // after ff ff 86 foobar 80 ff and D's ff
+        hex::encode(&r.output[12..14])
+    };
+    c.equal(
+        "02 leaves a dropped parent",
+        dropped_case(99, Restore(1)),
+        "8666".into(),
+    );
+    c.equal(
+        "03 brings it back",
+        dropped_case(99, Forget(1)),
+        "fe04".into(),
+    );
+    c.equal(
+        "03, none dropped",
+        dropped_case(98, Forget(1)),
+        "fe04".into(),
+    );
+
+    let pair = || {
+        let mut f = File::new();
+        f.pair(FOOBAR, S);
+        f
+    };
+    let p = handle(PAIR, 0);
+    // the steps, and the number and words they get
+    let cases: [(&str, &[Step], u32, &[u32]); 10] = [
+        ("03 with no add", &[Forget(0)], 11, &[]),
+        ("03 of the count", &[Add(p), Forget(1)], 11, &[16]),
+        (
+            "03 of one below the count",
+            &[Add(p), Forget(0)],
+            0,
+            &[16, 0],
+        ),
+        (
+            "03 of 256 is not 03 of 0",
+            &[Add(p), Forget(256)],
+            11,
+            &[16],
+        ),
+        ("03 of 65,535", &[Add(p), Forget(65_535)], 11, &[16]),
+        (
+            "03 of 0 twice",
+            &[Add(p), Forget(0), Forget(0)],
+            11,
+            &[16, 0],
+        ),
+        (
+            "03 after a finish",
+            &[Add(p), Add(FOOBAR), Forget(1)],
+            0,
+            &[16, 21, 16],
+        ),
+        (
+            "03, and an add once more",
+            &[Add(p), Forget(0), Add(FOOBAR)],
+            0,
+            &[16, 0, 15],
+        ),
+        (
+            "03 to the add that a 02 took",
+            &[Add(p), Add(p), Restore(1), Forget(1)],
+            11,
+            &[16, 22, 16],
+        ),
+        (
+            "03 to the one before",
+            &[Add(p), Add(p), Restore(1), Forget(0)],
+            0,
+            &[16, 22, 16, 0],
+        ),
+    ];
+    for (name, steps, number, words) in cases {
+        let r = run(&pair().steps(steps.to_vec()));
+        c.equal(name, (r.number, &r.words[..]), (number, words));
+    }
+    let mut steps = vec![Add(S); 16];
+    steps.extend([Forget(15), Add(S), Add(S)]);
+    let s = pair().steps(steps);
+    c.session("03 makes room for add 16 again", &s, 10, &[0; 18], "");
+
+    let file = pair().steps(vec![Add(p)]).to_bytes();
+    for (rest, number) in [
+        (&[3][..], 4),
+        (&[3, 0], 4),
+        (&[3, 0, 0], 0),
+        (&[3, 1, 0], 11),
+    ] {
+        let file = [&file[..], rest].concat();
+        let name = format!("03 as {}", hex::encode(rest));
+        c.equal(&name, session::run(&file, MAX_OUTPUT, true).number, number);
+    }
+}
+
 /// Without demand 3's premises read-back fails: two cases.
 fn premises(c: &mut Cases) {
     // P = (S . nil); P, (foobar . (1 . (2 . (P . foobar)))), 3
@@ -809,7 +998,7 @@ fn premises(c: &mut Cases) {
     let s = f.adds(&[a, b, d]);
     let r = run(&s);
     let back = reading::read(&r.output);
-    let filling = plain::fill(&s).expect("no undo");
+    let filling = plain::fill(&s).expect("no restore");
     let mut i = Interner::default();
     c.equal(
         "two places: finished",
@@ -836,6 +1025,7 @@ pub fn run_all() -> Vec<Case> {
     incremental(&mut c);
     session_file(&mut c);
     steps(&mut c);
+    forgets(&mut c);
     premises(&mut c);
     c.0
 }

@@ -14,6 +14,7 @@ usage: oracle COMMAND ..
   corners                        01's corner cases, each compared with 01
   selfcheck N SEED               N generated sessions and trees, checked
   exhaustive PART                every small session and tree, or each PARTth
+  wrong                          wrong ways of a 03, each noticed by the kinds made for it
   gen-session SEED KIND          writes a session file
   gen-tree SEED KIND             writes an encoded tree
   gen-leaves SEED                writes a file of leaf cases
@@ -58,8 +59,8 @@ fn command(args: &[String]) -> Result<Vec<u8>, String> {
         "read" => reading::print(&reading::read(&file(args, 1)?)).into_bytes(),
         "leaves" => leaves::print(&file(args, 1)?)?.into_bytes(),
         "fill" => match plain::fill(&parsed(args)?) {
-            None => "undo\n".to_string(),
-            Some(f) if !f.whole => format!("open after {} adds\n", f.adds),
+            None => "restore\n".to_string(),
+            Some(f) if !f.whole => format!("open after {} adds\n", f.adds.len()),
             Some(f) => match f.forest.in_full(f.root, MAX_IN_FULL) {
                 None => "whole\ntoo large\n".to_string(),
                 Some(bytes) => format!("whole\n{}\n", hex::encode(&bytes)),
@@ -85,6 +86,7 @@ fn command(args: &[String]) -> Result<Vec<u8>, String> {
         "exhaustive" => {
             selfcheck::print(&selfcheck::run_exhaustive(number(args, 1)?)?).into_bytes()
         }
+        "wrong" => selfcheck::run_wrong()?.into_bytes(),
         "gen-session" => of_kind(args, generate::session)?,
         "gen-tree" => of_kind(args, generate::tree)?,
         "gen-leaves" => generate::leaf_cases(number(args, 1)?),

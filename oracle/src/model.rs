@@ -1,7 +1,8 @@
 //! The session as 01's text says it, written from the text and not from the
 //! Rust: entries, parents, the search's steps, undo. Only questions 2 to 8 are
 //! shared with `session`. `selfcheck` compares it with the unchanged Rust, so a
-//! difference is one between 01 and the Rust.
+//! difference is one between 01 and the Rust. A `03` takes a copy of all that
+//! there was, where `session` does the steps before it again.
 
 use crate::node::{ATOM, NIL, PAIR, index, kind};
 use crate::plain::{atom_in_full, small_bytes};
@@ -46,6 +47,7 @@ impl Met {
     }
 }
 
+#[derive(Clone)]
 struct Entry {
     length: u64,
     /// parent and position, left 0, right 1
@@ -64,8 +66,8 @@ struct Path {
     place: Place,
 }
 
-/// What undo takes back.
-#[derive(Clone)]
+/// What `02` and `03` take back.
+#[derive(Clone, Default)]
 struct State {
     /// pairs begun: the handle, and whether its right side is under way
     open: Vec<(u32, bool)>,
@@ -75,14 +77,85 @@ struct State {
     finished: bool,
 }
 
-struct Model<'a> {
-    s: &'a SessionFile,
+/// What a `03` takes back too, and a `02` leaves, but for the sentinel's entry.
+#[derive(Clone, Default)]
+struct Cache {
     entries: Vec<Entry>,
     by_handle: HashMap<u32, usize>,
     by_atom: HashMap<Vec<u8>, usize>,
     by_pair: HashMap<(usize, usize), usize>,
     sentinel_entry: Option<usize>,
+}
+
+/// A right `03`, and wrong ones, to see which inputs notice them.
+#[derive(Debug, Clone, Copy, PartialEq, Eq)]
+pub enum Forget {
+    Right,
+    /// leaves all that a `02` leaves
+    LeavesCache,
+    /// only cuts each list of parents to the length that it had
+    LeavesParents,
+    /// leaves parents that were moved from the sentinel's entry
+    LeavesMoved,
+    /// leaves a list without the parents that it lost in front
+    LeavesFront,
+    /// leaves new handles of entries that were there before
+    LeavesHandles,
+    /// leaves which entry is the sentinel's
+    LeavesSentinel,
+    /// takes back what an earlier `02` left
+    TakesMore,
+}
+
+impl Cache {
+    /// The cache after a `03`, from that of the state it goes back to.
+    fn put_back(&mut self, mut before: Cache, way: Forget) {
+        let count = before.entries.len();
+        let lists = self.entries.iter().map(|e| &e.parents);
+        let lists = lists.zip(before.entries.iter_mut().map(|e| &mut e.parents));
+        match way {
+            Forget::Right | Forget::TakesMore => (),
+            Forget::LeavesCache => {
+                self.sentinel_entry = before.sentinel_entry.or(self.sentinel_entry);
+                return;
+            }
+            Forget::LeavesParents => {
+                for (now, then) in lists {
+                    let cut = now.iter().take(then.len());
+                    *then = cut.filter(|p| p.0 < count).copied().collect();
+                }
+            }
+            Forget::LeavesMoved => {
+                if let Some(e) = before.sentinel_entry
+                    && self.entries[e].parents.is_empty()
+                {
+                    before.entries[e].parents.clear();
+                }
+            }
+            Forget::LeavesFront => {
+                for (now, then) in lists {
+                    let lost = (0..then.len()).find(|n| now.starts_with(&then[*n..]));
+                    then.drain(..lost.unwrap_or(0));
+                }
+            }
+            Forget::LeavesHandles => {
+                let known = self.by_handle.drain().filter(|(_, e)| *e < count);
+                before.by_handle.extend(known);
+            }
+            Forget::LeavesSentinel => {
+                before.sentinel_entry = self.sentinel_entry.filter(|e| *e < count);
+            }
+        }
+        *self = before;
+    }
+}
+
+struct Model<'a> {
+    s: &'a SessionFile,
+    cache: Cache,
     now: State,
+    /// each add on the present history, and what there was before it
+    records: Vec<(u32, State, Cache)>,
     output: Vec<u8>,
     output_length: usize,
     met: Met,
@@ -121,15 +194,15 @@ impl Model<'_> {
     }
 
     fn entry(&mut self, length: u64) -> usize {
-        self.entries.push(Entry {
+        self.cache.entries.push(Entry {
             length,
             parents: vec![],
         });
-        self.entries.len() - 1
+        self.cache.entries.len() - 1
     }
 
     fn add_parent(&mut self, child: usize, parent: usize, position: usize) {
-        let parents = &mut self.entries[child].parents;
+        let parents = &mut self.cache.entries[child].parents;
         if parents.len() < 100 {
             parents.push((parent, position));
         } else {
@@ -141,30 +214,30 @@ impl Model<'_> {
     fn enter(&mut self, h: u32) -> usize {
         if Some(h) == self.s.sentinel {
             let e = self.entry(0);
-            self.sentinel_entry = Some(e);
+            self.cache.sentinel_entry = Some(e);
             return e;
         }
-        if let Some(e) = self.by_handle.get(&h) {
+        if let Some(e) = self.cache.by_handle.get(&h) {
             return *e;
         }
         let e = if kind(h) == PAIR {
             let (left, right) = self.s.pairs[index(h)];
             let l = self.enter(left);
             let r = self.enter(right);
-            let e = match self.by_pair.get(&(l, r)) {
+            let e = match self.cache.by_pair.get(&(l, r)) {
                 Some(e) => {
                     self.met.second_handles += 1;
                     *e
                 }
                 None => {
-                    let (a, b) = (self.entries[l].length, self.entries[r].length);
+                    let (a, b) = (self.cache.entries[l].length, self.cache.entries[r].length);
                     let length = if a == 0 || b == 0 {
                         0
                     } else {
                         a.saturating_add(b).saturating_add(1)
                     };
                     let e = self.entry(length);
-                    self.by_pair.insert((l, r), e);
+                    self.cache.by_pair.insert((l, r), e);
                     e
                 }
             };
@@ -173,42 +246,42 @@ impl Model<'_> {
             e
         } else {
             let bytes = self.bytes(h);
-            match self.by_atom.get(&bytes) {
+            match self.cache.by_atom.get(&bytes) {
                 Some(e) => *e,
                 None => {
                     let e = self.entry(atom_in_full(&bytes).len() as u64);
-                    self.by_atom.insert(bytes, e);
+                    self.cache.by_atom.insert(bytes, e);
                     e
                 }
             }
         };
-        self.by_handle.insert(h, e);
+        self.cache.by_handle.insert(h, e);
         e
     }
 
     fn update(&mut self, root: u32) {
-        let moved = match self.sentinel_entry {
-            Some(e) => std::mem::take(&mut self.entries[e].parents),
+        let moved = match self.cache.sentinel_entry {
+            Some(e) => std::mem::take(&mut self.cache.entries[e].parents),
             None => vec![],
         };
         let root = self.enter(root);
-        let parents = &mut self.entries[root].parents;
+        let parents = &mut self.cache.entries[root].parents;
         self.met.moved += moved.len();
         parents.extend(moved);
         let beyond = parents.len().saturating_sub(100);
         self.met.front_dropped += beyond;
         parents.drain(..beyond);
-        self.met.most_entries = self.met.most_entries.max(self.entries.len());
-        self.now.written.resize(self.entries.len(), false);
+        self.met.most_entries = self.met.most_entries.max(self.cache.entries.len());
+        self.now.written.resize(self.cache.entries.len(), false);
     }
 
     fn entry_of(&self, h: u32) -> usize {
-        self.by_handle[&h]
+        self.cache.by_handle[&h]
     }
 
     fn push(&mut self, h: u32) {
         let e = self.entry_of(h);
-        if self.entries[e].length >= 4 {
+        if self.cache.entries[e].length >= 4 {
             self.now.written[e] = true;
         }
         self.now.stack.push(e);
@@ -216,9 +289,9 @@ impl Model<'_> {
 
     /// The search's steps.
     fn search(&mut self, start: usize) -> Option<Vec<bool>> {
-        let length = self.entries[start].length;
+        let length = self.cache.entries[start].length;
         let limit = (length - 1).saturating_mul(8);
-        let mut seen = vec![false; self.entries.len()];
+        let mut seen = vec![false; self.cache.entries.len()];
         let mut visits = 0;
         let mut list = vec![Path {
             bits: vec![],
@@ -260,7 +333,7 @@ impl Model<'_> {
                         list[slot].bits.push(position == 1);
                         let bits = list[slot].bits.clone();
                         let mut first = true;
-                        for (parent, position) in &self.entries[e].parents {
+                        for (parent, position) in &self.cache.entries[e].parents {
                             if seen[*parent] {
                                 continue;
                             }
@@ -300,12 +373,12 @@ impl Model<'_> {
             return None;
         }
         let e = self.entry_of(h);
-        if !self.now.written[e] || self.entries[e].length < 4 {
+        if !self.now.written[e] || self.cache.entries[e].length < 4 {
             return None;
         }
         self.met.searches += 1;
         let bits = self.search(e)?;
-        if path_length(&bits) >= self.entries[e].length {
+        if path_length(&bits) >= self.cache.entries[e].length {
             self.met.not_used += 1;
             return None;
         }
@@ -322,7 +395,28 @@ impl Model<'_> {
         Ok(())
     }
 
+    /// What `02` and `03` have in common; the cache before add k.
+    fn go_back(&mut self, k: usize) -> Cache {
+        self.records.truncate(k + 1);
+        let (_, state, cache) = self.records.pop().expect("a record for k");
+        self.output.truncate(state.size);
+        self.now = state;
+        cache
+    }
+
+    /// The first k adds of the present history, as if there had been no others.
+    fn go_on_afresh(&mut self, k: usize) -> Result<(), u32> {
+        let adds: Vec<u32> = self.records.drain(..).map(|r| r.0).take(k).collect();
+        self.output.clear();
+        self.now = State::default();
+        self.cache = Cache::default();
+        adds.into_iter().try_for_each(|h| self.add(h))
+    }
+
     fn add(&mut self, root: u32) -> Result<(), u32> {
+        self.now.size = self.output.len();
+        self.records
+            .push((root, self.now.clone(), self.cache.clone()));
         self.update(root);
         let mut h = root;
         loop {
@@ -375,6 +469,11 @@ impl Model<'_> {
 }
 
 pub fn run(file: &[u8], output_length: usize) -> (SessionAnswer, Met) {
+    run_with(Forget::Right, file, output_length)
+}
+
+/// The same, with a `03` that may be wrong.
+pub fn run_with(way: Forget, file: &[u8], output_length: usize) -> (SessionAnswer, Met) {
     let s = match parse(file) {
         Ok(s) => s,
         Err(number) => {
@@ -387,43 +486,30 @@ pub fn run(file: &[u8], output_length: usize) -> (SessionAnswer, Met) {
     };
     let mut m = Model {
         s: &s,
-        entries: vec![],
-        by_handle: HashMap::new(),
-        by_atom: HashMap::new(),
-        by_pair: HashMap::new(),
-        sentinel_entry: None,
-        now: State {
-            open: vec![],
-            stack: vec![],
-            written: vec![],
-            size: 0,
-            finished: false,
-        },
+        cache: Cache::default(),
+        now: State::default(),
+        records: vec![],
         output: vec![],
         output_length: output_length.min(MAX_OUTPUT),
         met: Met::default(),
     };
-    let mut records: Vec<(State, Option<usize>)> = vec![];
     let mut words = vec![];
     let mut number = 0;
     for step in &s.steps {
         let result = match *step {
             Step::Add(_) if m.now.finished => Err(9),
-            Step::Add(_) if records.len() >= MAX_ADDS => Err(10),
-            Step::Add(h) => {
-                m.now.size = m.output.len();
-                records.push((m.now.clone(), m.sentinel_entry));
-                m.add(h)
-            }
-            Step::Restore(k) if usize::from(k) >= records.len() => Err(11),
+            Step::Add(_) if m.records.len() >= MAX_ADDS => Err(10),
+            Step::Add(h) => m.add(h),
+            Step::Restore(k) | Step::Forget(k) if usize::from(k) >= m.records.len() => Err(11),
             Step::Restore(k) => {
-                let (state, sentinel_entry) = records[usize::from(k)].clone();
-                records.truncate(usize::from(k));
-                m.output.truncate(state.size);
-                m.now = state;
-                if sentinel_entry.is_some() {
-                    m.sentinel_entry = sentinel_entry;
-                }
+                let cache = m.go_back(k.into());
+                m.cache.sentinel_entry = cache.sentinel_entry.or(m.cache.sentinel_entry);
+                Ok(())
+            }
+            Step::Forget(k) if way == Forget::TakesMore => m.go_on_afresh(k.into()),
+            Step::Forget(k) => {
+                let cache = m.go_back(k.into());
+                m.cache.put_back(cache, way);
                 Ok(())
             }
         };

@@ -122,8 +122,8 @@ impl Forest {
 pub struct Filling {
     pub forest: Forest,
     pub root: usize,
-    /// adds that were fed and put a tree
-    pub adds: usize,
+    /// the handles of the adds that survive: no `03` took them back
+    pub adds: Vec<u32>,
     pub whole: bool,
 }
 
@@ -167,37 +167,56 @@ impl<'a> Unfolded<'a> {
     }
 }
 
-/// The plain filling: none with an undo step. Adds that 9 or 10 refuses are
-/// not fed; 12 and 13 aren't asked here, since they depend on the output.
+/// The plain filling: none with a `02` that is taken. It ends at a step that 9 to
+/// 11 refuse; 12 and 13 aren't asked here, since they depend on the output.
 pub fn fill(s: &SessionFile) -> Option<Filling> {
     let mut f = Forest::default();
     let u = Unfolded::new(s, &mut f);
     let mut root = u.open;
-    let mut adds = 0;
+    // the handle of each add on the present history, and the tree before it
+    let mut past: Vec<(u32, usize)> = vec![];
     for step in &s.steps {
-        let Step::Add(h) = step else {
-            return None;
-        };
-        if !f.open[root] || adds == MAX_ADDS {
-            continue;
+        match *step {
+            Step::Add(_) if !f.open[root] || past.len() == MAX_ADDS => break,
+            Step::Add(h) => {
+                past.push((h, root));
+                let t = u.tree(&mut f, h);
+                root = f.put(root, t);
+            }
+            Step::Restore(k) | Step::Forget(k) if usize::from(k) >= past.len() => break,
+            Step::Restore(_) => return None,
+            Step::Forget(k) => {
+                root = past[usize::from(k)].1;
+                past.truncate(k.into());
+            }
         }
-        let t = u.tree(&mut f, *h);
-        root = f.put(root, t);
-        adds += 1;
     }
     Some(Filling {
         whole: !f.open[root],
         forest: f,
         root,
-        adds,
+        adds: past.into_iter().map(|(h, _)| h).collect(),
     })
 }
 
-/// The premises of demand 3 on the trees that the plain filling is fed; the
-/// reason when one fails.
+/// The adds that survive these steps, by their places; none with a `02`.
+pub fn survivors(steps: &[Step]) -> Option<Vec<usize>> {
+    let mut adds = vec![];
+    for (i, step) in steps.iter().enumerate() {
+        match *step {
+            Step::Add(_) => adds.push(i),
+            Step::Restore(_) => return None,
+            Step::Forget(k) => adds.truncate(k.into()),
+        }
+    }
+    Some(adds)
+}
+
+/// The premises of demand 3 on the trees of the adds that survive the plain
+/// filling; the reason when one fails.
 pub fn premises(s: &SessionFile) -> Result<(), &'static str> {
     let Some(filling) = fill(s) else {
-        return Err("an undo step");
+        return Err("a restore");
     };
     // open places below each pair, counted wherever they are seen
     let mut places: Vec<u64> = vec![];
@@ -216,10 +235,7 @@ pub fn premises(s: &SessionFile) -> Result<(), &'static str> {
     }
 
     let mut above_earlier = vec![false; s.pairs.len()];
-    for step in s.steps.iter().take(filling.adds) {
-        let Step::Add(root) = *step else {
-            unreachable!()
-        };
+    for root in filling.adds {
         if count(&places, root) > 1 {
             return Err("a tree with the sentinel at several places");
         }

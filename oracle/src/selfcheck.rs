@@ -3,11 +3,11 @@
 //! the plain reader and `node_from_bytes_backrefs_old`, and read-back.
 
 use crate::generate::exhaustive;
-use crate::model::Met;
+use crate::model::{Forget, Met};
 use crate::plain::{self, Interner};
 use crate::reading::{self, MAX_INPUT, ReadAnswer};
 use crate::rng::Rng;
-use crate::session::{self, MAX_OUTPUT};
+use crate::session::{self, MAX_OUTPUT, SessionAnswer, SessionFile};
 use crate::{generate, model, node};
 use clvm_rs::Allocator;
 use clvm_rs::serde::node_from_bytes_backrefs_old;
@@ -15,6 +15,8 @@ use clvm_rs::serde::node_from_bytes_backrefs_old;
 #[derive(Debug, Default)]
 pub struct Counts {
     pub sessions: usize,
+    /// sessions that `03` took adds of, compared with those that survive
+    pub survivors: usize,
     pub finished: usize,
     pub read_back: usize,
     pub trees: usize,
@@ -69,6 +71,40 @@ pub fn check_tree(input: &[u8], counts: &mut Counts) -> Result<(), String> {
     Ok(())
 }
 
+/// With `03` and no `02` the session is that of the adds that survive, and of the
+/// step that is refused. Whether the file is such a one.
+fn check_survivors(
+    s: &SessionFile,
+    output_length: usize,
+    r: &SessionAnswer,
+) -> Result<bool, String> {
+    let (taken, rest) = s.steps.split_at(r.words.len());
+    let Some(adds) = plain::survivors(taken) else {
+        return Ok(false);
+    };
+    if adds.len() == taken.len() {
+        return Ok(false);
+    }
+    let refused = rest.iter().take(usize::from(r.number != 0));
+    let alone = SessionFile {
+        steps: adds
+            .iter()
+            .map(|i| &taken[*i])
+            .chain(refused)
+            .copied()
+            .collect(),
+        ..s.clone()
+    };
+    let expected = SessionAnswer {
+        words: adds.iter().map(|i| r.words[*i]).collect(),
+        ..r.clone()
+    };
+    if session::run_parsed(&alone, output_length, true) != expected {
+        return Err("the survivors alone give something else".to_string());
+    }
+    Ok(true)
+}
+
 pub fn check_session(file: &[u8], output_length: usize, counts: &mut Counts) -> Result<(), String> {
     counts.sessions += 1;
     // panics where the driver and Serializer differ
@@ -93,14 +129,15 @@ pub fn check_session(file: &[u8], output_length: usize, counts: &mut Counts) -> 
     let Ok(s) = parsed else {
         return Ok(());
     };
-    if !r.words.iter().any(|w| w % 2 == 1) {
+    counts.survivors += usize::from(check_survivors(&s, output_length, &r)?);
+    if !r.is_finished() {
         return Ok(());
     }
     counts.finished += 1;
     if plain::premises(&s).is_err() {
         return Ok(());
     }
-    let filling = plain::fill(&s).expect("no undo step");
+    let filling = plain::fill(&s).expect("no restore");
     if !filling.whole {
         return Err("finished, and the plain filling is open".to_string());
     }
@@ -121,6 +158,42 @@ pub fn check_session(file: &[u8], output_length: usize, counts: &mut Counts) -> 
     counts.references += plain.references.len();
     counts.read_back += 1;
     Ok(())
+}
+
+/// Wrong ways of a `03`, and the kinds made for each.
+const WRONG: &[(Forget, &[&str])] = &[
+    (
+        Forget::LeavesCache,
+        &["forgets", "undo-mixed", "fit-tests", "forgets-finished"],
+    ),
+    (Forget::LeavesParents, &["forgets-parents"]),
+    (Forget::LeavesMoved, &["forgets-moved"]),
+    (Forget::LeavesFront, &["forgets-front"]),
+    (Forget::LeavesHandles, &["forgets-twins"]),
+    (Forget::LeavesSentinel, &["forgets-finished"]),
+    (Forget::TakesMore, &["undo-mixed", "forgets-moved"]),
+];
+/// Files of each kind.
+const FILES: u64 = 60;
+
+/// Each wrong way gives another answer on some files of its kinds: a line for each.
+pub fn run_wrong() -> Result<String, String> {
+    let differs = |way, kind: &str, seed| {
+        let file = generate::session(seed, kind).expect("a kind");
+        model::run_with(way, &file, MAX_OUTPUT).0 != model::run(&file, MAX_OUTPUT).0
+    };
+    let mut text = String::new();
+    for (way, kinds) in WRONG {
+        for kind in *kinds {
+            let count = (0..FILES).filter(|s| differs(*way, kind, *s)).count();
+            if count == 0 {
+                return Err(format!("{way:?} is not noticed by {kind}"));
+            }
+            text += &format!("{way:?}: {count} of {FILES} files of {kind} notice\n");
+        }
+    }
+    text += &format!("{} wrong ways of a 03, each noticed\n", WRONG.len());
+    Ok(text)
 }
 
 /// Every small session and tree (see `generate::exhaustive`); with `part` only
@@ -169,8 +242,8 @@ pub fn run(n: usize, seed: u64) -> Result<Counts, String> {
 
 pub fn print(c: &Counts) -> String {
     let mut s = format!(
-        "sessions {}, finished {}, read back {} with {} references\ntrees {}, accepted {}\nnumbers",
-        c.sessions, c.finished, c.read_back, c.references, c.trees, c.accepted
+        "sessions {}, as their survivors {}, finished {}, read back {} with {} references\ntrees {}, accepted {}\nnumbers",
+        c.sessions, c.survivors, c.finished, c.read_back, c.references, c.trees, c.accepted
     );
     for (n, count) in c.numbers.iter().enumerate() {
         if n != 1 {

@@ -21,7 +21,10 @@ pub const MAX_OUTPUT: usize = 65_535;
 #[derive(Debug, Clone, Copy, PartialEq, Eq)]
 pub enum Step {
     Add(u32),
+    /// `02`: entries and parents stay.
     Restore(u16),
+    /// `03`: nothing stays.
+    Forget(u16),
 }
 
 #[derive(Debug, Default, Clone, PartialEq, Eq)]
@@ -122,6 +125,7 @@ pub fn parse(file: &[u8]) -> Result<SessionFile, u32> {
         s.steps.push(match code {
             1 => Step::Add(f.handle(atom_count, pair_count, false)?),
             2 => Step::Restore(f.word16()? as u16),
+            3 => Step::Forget(f.word16()? as u16),
             _ => return Err(8),
         });
     }
@@ -153,6 +157,10 @@ impl SessionFile {
                     out.push(2);
                     out.extend_from_slice(&k.to_be_bytes());
                 }
+                Step::Forget(k) => {
+                    out.push(3);
+                    out.extend_from_slice(&k.to_be_bytes());
+                }
             }
         }
         out
@@ -182,6 +190,13 @@ pub struct SessionAnswer {
     pub number: u32,
     pub words: Vec<u32>,
     pub output: Vec<u8>,
+}
+
+impl SessionAnswer {
+    /// Whether the session is finished at the end of the run.
+    pub fn is_finished(&self) -> bool {
+        self.words.last().is_some_and(|w| w % 2 == 1)
+    }
 }
 
 /// An item of the output: what `find_path` answered before it, and what was written
@@ -329,6 +344,122 @@ impl<'a> Driver<'a> {
     }
 }
 
+/// A session on the unchanged Rust.
+struct Session<'a> {
+    a: &'a Allocator,
+    sentinel: Option<NodePtr>,
+    driver: Driver<'a>,
+    /// Does each step too, if the two are compared.
+    serializer: Option<Serializer>,
+    /// The steps that count: after them a fresh session is this one. None is a `03`.
+    steps: Vec<Step>,
+    /// The state before add k, for each k below the adds on the present history.
+    history: Vec<Before>,
+}
+
+struct Before {
+    driver: DriverState,
+    serializer: Option<UndoState>,
+    /// How many of the steps that count led to it.
+    steps: usize,
+}
+
+impl<'a> Session<'a> {
+    fn new(
+        a: &'a Allocator,
+        sentinel: Option<NodePtr>,
+        output_length: usize,
+        compare: bool,
+    ) -> Self {
+        Self {
+            a,
+            sentinel,
+            driver: Driver::new(a, sentinel, output_length),
+            serializer: compare.then(|| Serializer::new(sentinel)),
+            steps: vec![],
+            history: vec![],
+        }
+    }
+
+    /// Questions 9, 10, 12 and 13.
+    fn add(&mut self, h: u32) -> Result<(), u32> {
+        if self.driver.finished() {
+            return Err(9);
+        }
+        if self.history.len() >= MAX_ADDS {
+            return Err(10);
+        }
+        let before = self.driver.state();
+        let finished = self.driver.add(from_word(h))?;
+        let undo = self.serializer.as_mut().map(|ser| {
+            let (done, undo) = ser.add(self.a, from_word(h)).expect("Serializer::add");
+            assert_eq!(done, finished, "finished differs from Serializer");
+            undo
+        });
+        self.history.push(Before {
+            driver: before,
+            serializer: undo,
+            steps: self.steps.len(),
+        });
+        self.steps.push(Step::Add(h));
+        Ok(())
+    }
+
+    /// Question 11; then the state before add k as far as the Rust brings it back.
+    fn restore(&mut self, k: u16) -> Result<(), u32> {
+        let before = self.before(k)?;
+        self.driver.restore(before.driver);
+        if let Some(ser) = self.serializer.as_mut() {
+            ser.restore(before.serializer.expect("an UndoState for k"));
+        }
+        self.steps.push(Step::Restore(k));
+        Ok(())
+    }
+
+    /// Question 11; then the whole state before add k. The Rust has no such step and
+    /// can't copy a `Serializer`: a fresh one does the steps that led there.
+    fn forget(&mut self, k: u16) -> Result<(), u32> {
+        let before = self.before(k)?;
+        let length = self.driver.output_length;
+        let mut again = Self::new(self.a, self.sentinel, length, self.serializer.is_some());
+        for step in &self.steps[..before.steps] {
+            again.step(*step).expect("a step that went before");
+        }
+        assert_eq!(again.history.len(), usize::from(k), "another history");
+        let size = before.driver.size;
+        assert_eq!(again.driver.output, self.driver.output[..size]);
+        *self = again;
+        Ok(())
+    }
+
+    fn before(&mut self, k: u16) -> Result<Before, u32> {
+        let k = usize::from(k);
+        if k >= self.history.len() {
+            return Err(11);
+        }
+        self.history.truncate(k + 1);
+        Ok(self.history.pop().expect("a state for k"))
+    }
+
+    /// One step, or its number.
+    fn step(&mut self, step: Step) -> Result<(), u32> {
+        match step {
+            Step::Add(h) => self.add(h)?,
+            Step::Restore(k) => self.restore(k)?,
+            Step::Forget(k) => self.forget(k)?,
+        }
+        if let Some(ser) = self.serializer.as_ref() {
+            assert_eq!(ser.size(), self.driver.output.len() as u64, "size differs");
+            assert_eq!(ser.get_ref(), &self.driver.output, "bytes differ");
+        }
+        Ok(())
+    }
+
+    fn word(&self) -> u32 {
+        self.driver.output.len() as u32 * 2 + u32::from(self.driver.finished())
+    }
+}
+
 /// The whole session. With `compare` every step that 12 and 13 let through is
 /// also done by the unchanged `Serializer`; a difference panics.
 pub fn run(file: &[u8], output_length: usize, compare: bool) -> SessionAnswer {
@@ -349,68 +480,27 @@ pub fn run_parsed(s: &SessionFile, output_length: usize, compare: bool) -> Sessi
 fn run_items(s: &SessionFile, output_length: usize, compare: bool) -> (SessionAnswer, Vec<Item>) {
     let a = s.allocator();
     let sentinel = s.sentinel.map(from_word);
-    let mut driver = Driver::new(&a, sentinel, output_length);
-    let mut serializer = compare.then(|| Serializer::new(sentinel));
-    // the state before add k, for each k below the adds on the present history
-    let mut history: Vec<(DriverState, Option<UndoState>)> = vec![];
+    let mut session = Session::new(&a, sentinel, output_length, compare);
     let mut words = vec![];
     let mut number = 0;
-
     for step in &s.steps {
-        match *step {
-            Step::Add(h) => {
-                if driver.finished() {
-                    number = 9;
-                    break;
-                }
-                if history.len() >= MAX_ADDS {
-                    number = 10;
-                    break;
-                }
-                let before = driver.state();
-                match driver.add(from_word(h)) {
-                    Err(n) => {
-                        number = n;
-                        break;
-                    }
-                    Ok(finished) => {
-                        let undo = serializer.as_mut().map(|ser| {
-                            let (done, undo) = ser.add(&a, from_word(h)).expect("Serializer::add");
-                            assert_eq!(done, finished, "finished differs from Serializer");
-                            undo
-                        });
-                        history.push((before, undo));
-                        words.push(driver.output.len() as u32 * 2 + u32::from(finished));
-                    }
-                }
-            }
-            Step::Restore(k) => {
-                let k = usize::from(k);
-                if k >= history.len() {
-                    number = 11;
-                    break;
-                }
-                history.truncate(k + 1);
-                let (state, undo) = history.pop().expect("a state for k");
-                driver.restore(state);
-                if let Some(ser) = serializer.as_mut() {
-                    ser.restore(undo.expect("an UndoState for k"));
-                }
-                assert!(!driver.finished(), "a restore left a finished session");
-                words.push(driver.output.len() as u32 * 2);
-            }
+        if let Err(n) = session.step(*step) {
+            number = n;
+            break;
         }
-        if let Some(ser) = serializer.as_ref() {
-            assert_eq!(ser.size(), driver.output.len() as u64, "size differs");
-            assert_eq!(ser.get_ref(), &driver.output, "bytes differ");
-        }
+        let word = session.word();
+        assert!(
+            matches!(step, Step::Add(_)) || word.is_multiple_of(2),
+            "an undo left a finished session"
+        );
+        words.push(word);
     }
     let answer = SessionAnswer {
         number,
         words,
-        output: driver.output,
+        output: session.driver.output,
     };
-    (answer, driver.items)
+    (answer, session.driver.items)
 }
 
 fn text(r: &SessionAnswer, output: &str) -> String {

@@ -21,3 +21,4 @@ pub mod share;
 mod stand_in;
 pub mod times;
 pub mod trial;
+pub mod undo_benchmark;

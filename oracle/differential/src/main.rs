@@ -10,8 +10,8 @@ usage: differential read COUNT SEED [MOST]     COUNT generated inputs, and at mo
        differential read-three FIRST LAST      all inputs of 3 bytes whose first byte lies there
        differential session COUNT SEED [MOST]  COUNT generated session files, and at most MOST of each other set
        differential benchmark                  the reading call, a table in Markdown
-       differential session-benchmark          the session call, a table in Markdown
-       differential session-files FOLDER       the session files of that table, as 1.session and so on";
+       differential session-benchmark          the session call, tables in Markdown
+       differential session-files FOLDER       the session files of the first two, as 1.session and so on";
 
 fn number(text: &str) -> Result<u64, String> {
     text.parse().map_err(|_| format!("not a number: {text}"))

@@ -1,8 +1,8 @@
 //! How long the port's session call takes, and the unchanged `Serializer`, on the
 //! same sessions.
 
-use crate::cache_benchmark;
 use crate::times::measure;
+use crate::{cache_benchmark, undo_benchmark};
 use clvm_rs::Allocator;
 use clvm_rs::serde::{Serializer, UndoState};
 use nikvoldra::call::{
@@ -26,7 +26,7 @@ pub type Port<'a> = dyn FnMut(&[u8], usize) -> SessionAnswer + 'a;
 pub const EMPTY: &[u8] = b"BRS\x00\x01\x00\x00\x00\x00\xff\xff\xff\xff";
 
 /// A builder with a listed atom of its own as the sentinel.
-fn begin() -> (Builder, u32) {
+pub fn begin() -> (Builder, u32) {
     let mut b = Builder::default();
     let s = b.list_atom(b"\xff sentinel");
     b.sentinel(s);
@@ -34,7 +34,7 @@ fn begin() -> (Builder, u32) {
 }
 
 /// A listed atom of `n` bytes.
-fn atom(b: &mut Builder, rng: &mut Rng, n: usize) -> u32 {
+pub fn atom(b: &mut Builder, rng: &mut Rng, n: usize) -> u32 {
     b.list_atom(&[vec![0x81], rng.bytes(n - 1)].concat())
 }
 
@@ -102,7 +102,7 @@ fn big_atoms(rng: &mut Rng) -> Vec<u8> {
 }
 
 /// 512 times an add that is taken back right after it.
-fn undo(rng: &mut Rng) -> Vec<u8> {
+pub fn undo(rng: &mut Rng) -> Vec<u8> {
     let (mut b, s) = begin();
     let pool = b.pool(rng, 8, 40);
     let items: Vec<u32> = (0..100).map(|_| *rng.pick(&pool)).collect();
@@ -217,17 +217,19 @@ fn one_add_cases() -> Vec<Case> {
     all
 }
 
-/// The files of `cases`, numbered from 1, in a folder.
+/// The files of `cases`, and then those that take back by `02` and by `03`, numbered from 1, in a folder.
 pub fn write(folder: &str) -> std::io::Result<()> {
     std::fs::create_dir_all(folder)?;
-    for (i, c) in cases().iter().enumerate() {
-        std::fs::write(format!("{folder}/{}.session", i + 1), &c.file)?;
+    let mut files: Vec<Vec<u8>> = cases().into_iter().map(|c| c.file).collect();
+    files.extend(undo_benchmark::cases().into_iter().flat_map(|c| c.files));
+    for (i, file) in files.iter().enumerate() {
+        std::fs::write(format!("{folder}/{}.session", i + 1), file)?;
     }
     Ok(())
 }
 
 /// The steps by the unchanged `Serializer`; the size at the end.
-fn steps(s: &SessionFile, a: &Allocator) -> u64 {
+pub fn steps(s: &SessionFile, a: &Allocator) -> u64 {
     let mut serializer = Serializer::new(s.sentinel.map(from_word));
     let mut undo: Vec<UndoState> = vec![];
     for step in &s.steps {
@@ -237,33 +239,32 @@ fn steps(s: &SessionFile, a: &Allocator) -> u64 {
                 undo.truncate(usize::from(k) + 1);
                 serializer.restore(undo.pop().expect("a state"));
             }
+            Step::Forget(_) => panic!("the Rust has no 03"),
         }
     }
     serializer.size()
 }
 
 /// The call's answer, which is the Rust's.
-fn checked(c: &Case, port: &mut Port) -> SessionAnswer {
-    let expected = session::run(&c.file, MAX_OUTPUT, true);
-    let now = port(&c.file, MAX_OUTPUT);
+pub fn checked(name: &str, file: &[u8], port: &mut Port) -> SessionAnswer {
+    let expected = session::run(file, MAX_OUTPUT, true);
+    let now = port(file, MAX_OUTPUT);
     assert_eq!(
         (now.number, now.steps as usize, now.size as usize),
         (0, expected.words.len(), expected.output.len()),
-        "{}",
-        c.name
+        "{name}"
     );
     assert_eq!(
         (expected.number, port(EMPTY, MAX_OUTPUT).number),
         (0, 0),
-        "{}",
-        c.name
+        "{name}"
     );
     now
 }
 
 /// The call and the Rust on a case: a line of the table.
 fn row(c: &Case, port: &mut Port) -> String {
-    let now = checked(c, port);
+    let now = checked(c.name, &c.file, port);
     let parsed = session::parse(&c.file).expect("a good file");
     let store = parsed.allocator();
     let mut once = |file: &[u8]| {
@@ -313,6 +314,10 @@ pub fn run() {
     heading();
     for c in cases() {
         println!("{}", row(&c, &mut port));
+    }
+    undo_benchmark::heading();
+    for c in undo_benchmark::cases() {
+        println!("{}", undo_benchmark::row(&c, &mut port));
     }
     cache_benchmark::heading();
     for c in one_add_cases() {

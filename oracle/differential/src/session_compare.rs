@@ -172,7 +172,7 @@ impl Comparison {
     /// A finished session within demand 3's premises: the bytes that the port has
     /// written, read by the Rust, are the plain filling.
     fn read_back(&mut self, file: &[u8], answer: &SessionAnswer) -> Result<(), String> {
-        if !answer.words.iter().any(|w| w % 2 == 1) {
+        if !answer.is_finished() {
             return Ok(());
         }
         self.tally.finished += 1;
@@ -180,7 +180,7 @@ impl Comparison {
         if plain::premises(&s).is_err() {
             return Ok(());
         }
-        let filling = plain::fill(&s).expect("no undo step");
+        let filling = plain::fill(&s).expect("no restore");
         if !filling.whole {
             return Err("finished, and the plain filling is open".to_string());
         }
@@ -277,7 +277,7 @@ mod tests {
 
     #[test]
     fn each_fault_is_noticed() {
-        let faulty: [SessionCall; 14] = [
+        let faulty: [SessionCall; 16] = [
             with_fault::<{ Fault::Number as u8 }>,
             with_fault::<{ Fault::Steps as u8 }>,
             with_fault::<{ Fault::Size as u8 }>,
@@ -292,6 +292,8 @@ mod tests {
             with_fault::<{ Fault::TouchedBy8 as u8 }>,
             with_fault::<{ Fault::TouchedBy1 as u8 }>,
             with_fault::<{ Fault::LongOutput as u8 }>,
+            with_fault::<{ Fault::UnknownForget as u8 }>,
+            with_fault::<{ Fault::ForgetRestores as u8 }>,
         ];
         for (i, call) in faulty.into_iter().enumerate() {
             assert!(verdict(call).is_err(), "fault {} is not noticed", i + 1);

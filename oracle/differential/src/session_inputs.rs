@@ -1,7 +1,9 @@
 //! The session files that are compared, in sets.
 
 use crate::sets::Set;
-use oracle::generate::exhaustive::{SESSIONS, UNDO_SESSIONS, session, undo_session};
+use oracle::generate::exhaustive::{
+    SESSIONS, UNDO_SESSIONS, forget_session, forget_sessions, session, undo_session,
+};
 use oracle::generate::sessions::KINDS;
 use oracle::generate::{self, any_session};
 use oracle::rng::Rng;
@@ -13,6 +15,7 @@ const OF_EACH: usize = 40;
 pub type Input = (&'static str, Vec<u8>);
 
 pub fn sets(generated: usize, seed: u64) -> Vec<Set<Input>> {
+    let taken = forget_sessions();
     vec![
         Set::new("of each kind", KINDS.len() * OF_EACH, move |i| {
             let kind = KINDS[i % KINDS.len()].0;
@@ -28,6 +31,11 @@ pub fn sets(generated: usize, seed: u64) -> Vec<Set<Input>> {
         Set::new("of two pairs, up to four steps", UNDO_SESSIONS, |i| {
             ("two pairs", undo_session(i))
         }),
+        Set::new(
+            "of two pairs, up to five steps, all taken",
+            taken.len(),
+            move |i| ("two pairs forgets", forget_session(taken[i])),
+        ),
         Set::new("of three pairs, up to three adds", SESSIONS, |i| {
             ("three pairs", session(i))
         }),

@@ -2,8 +2,8 @@
 //! fault, to try the comparison itself.
 
 use nikvoldra::call::{CHECKPOINTS_LENGTH, Checkpoint, SessionAnswer, WORDS_LENGTH, WORK_LENGTH};
-use oracle::model;
-use oracle::session::{self, MAX_OUTPUT};
+use oracle::model::{self, Forget};
+use oracle::session::{self, MAX_OUTPUT, Step};
 
 #[derive(Clone, Copy, PartialEq)]
 #[repr(u8)]
@@ -37,6 +37,10 @@ pub enum Fault {
     TouchedBy1,
     /// more than 65,535 bytes of the output are used
     LongOutput,
+    /// 8 for a `03`
+    UnknownForget,
+    /// a `03` does what a `02` does; `oracle wrong` has other wrong ones
+    ForgetRestores,
 }
 
 struct Slices<'a> {
@@ -77,13 +81,24 @@ fn answer(fault: u8, file: &[u8], s: &mut Slices) -> SessionAnswer {
         }
         return refusal(1);
     }
-    if let Err(number) = session::parse(file) {
-        if fault(Fault::TouchedBy8) {
-            s.output.fill(0);
+    let steps = match session::parse(file) {
+        Ok(file) => file.steps,
+        Err(number) => {
+            if fault(Fault::TouchedBy8) {
+                s.output.fill(0);
+            }
+            return refusal(number);
         }
-        return refusal(number);
+    };
+    if fault(Fault::UnknownForget) && steps.iter().any(|s| matches!(s, Step::Forget(_))) {
+        return refusal(8);
     }
-    let (mut r, _) = model::run(file, s.output.len());
+    let way = if fault(Fault::ForgetRestores) {
+        Forget::LeavesCache
+    } else {
+        Forget::Right
+    };
+    let (mut r, _) = model::run_with(way, file, s.output.len());
     if fault(Fault::LongOutput) && r.number == 13 && s.output.len() > MAX_OUTPUT {
         r.number = 0;
     }

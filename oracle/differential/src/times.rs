@@ -32,13 +32,24 @@ pub struct Row {
     pub rust: Vec<f64>,
 }
 
-/// A round is calls on the input and the empty one in turns, then calls of each of the Rust's ways.
 pub fn measure(
     port: &mut dyn FnMut(&[u8]),
     input: &[u8],
     empty: &[u8],
     rust: &mut [&mut dyn FnMut()],
 ) -> Row {
+    let [row] = measure_beside(port, [input], empty, rust);
+    row
+}
+
+/// A row for each input, all with the times of the Rust's ways. A round is calls on an input and the empty one in turns, for each
+/// input, then calls of each of the Rust's ways.
+pub fn measure_beside<const N: usize>(
+    port: &mut dyn FnMut(&[u8]),
+    inputs: [&[u8]; N],
+    empty: &[u8],
+    rust: &mut [&mut dyn FnMut()],
+) -> [Row; N] {
     let began = Instant::now();
     rust.iter_mut().for_each(|way| way());
     let calls = if began.elapsed().as_millis() > 50 {
@@ -46,17 +57,19 @@ pub fn measure(
     } else {
         CALLS
     };
-    let [mut whole, mut zeroing, mut difference] = <[Vec<f64>; 3]>::default();
+    let mut ours = [(); N].map(|()| <[Vec<f64>; 3]>::default());
     let mut theirs = vec![vec![]; rust.len()];
     for round in 0..ROUNDS {
         if round >= 3 && began.elapsed() > AT_MOST {
             break;
         }
-        port(empty);
-        for _ in 0..calls {
-            whole.push(micros(|| port(input)));
-            zeroing.push(micros(|| port(empty)));
-            difference.push(whole[whole.len() - 1] - zeroing[zeroing.len() - 1]);
+        for (input, [whole, zeroing, difference]) in inputs.into_iter().zip(&mut ours) {
+            port(empty);
+            for _ in 0..calls {
+                whole.push(micros(|| port(input)));
+                zeroing.push(micros(|| port(empty)));
+                difference.push(whole[whole.len() - 1] - zeroing[zeroing.len() - 1]);
+            }
         }
         for (way, times) in rust.iter_mut().zip(&mut theirs) {
             // the first only warms up
@@ -64,10 +77,11 @@ pub fn measure(
             times.extend((0..calls).map(|_| micros(&mut **way)));
         }
     }
-    Row {
+    let theirs: Vec<f64> = theirs.iter_mut().map(|times| median(times)).collect();
+    ours.map(|[mut whole, mut zeroing, mut difference]| Row {
         whole: median(&mut whole),
         zeroing: median(&mut zeroing),
         difference: median(&mut difference),
-        rust: theirs.iter_mut().map(|times| median(times)).collect(),
-    }
+        rust: theirs.clone(),
+    })
 }

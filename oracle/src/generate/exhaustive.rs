@@ -79,9 +79,69 @@ pub fn undo_session(i: usize) -> Vec<u8> {
     s.to_bytes()
 }
 
-/// Every file of `session` that has an add: 928,800 files.
+/// Adds of a `choice`, restores 0 to 3 and forgets 0 to 3.
+const STEPS: usize = 5 + 4 + 4;
+
+fn step(i: usize) -> Step {
+    match i {
+        0..5 => Step::Add(choice(i)),
+        5..9 => Step::Restore(i as u16 - 5),
+        _ => Step::Forget(i as u16 - 9),
+    }
+}
+
+/// A file of two such pairs with up to five steps, of those above, by number.
+pub fn forget_session(i: usize) -> Vec<u8> {
+    let mut s = file();
+    let steps = pairs(&mut s, 2, i);
+    s.steps = up_to(5, STEPS, steps).into_iter().map(step).collect();
+    s.to_bytes()
+}
+
+/// The numbers of the files of `forget_session` of which no step is refused: 850,244.
+pub fn forget_sessions() -> Vec<usize> {
+    let mut all = vec![];
+    for code in 0..9 * 16 {
+        let mut s = file();
+        pairs(&mut s, 2, code);
+        // the open places of each choice
+        let mut places = vec![0, 0, 1];
+        for (left, right) in s.pairs {
+            let of = |h| places[(0..).find(|c| choice(*c) == h).expect("a choice")];
+            places.push(of(left) + of(right));
+        }
+        let mut taken = vec![];
+        go_on(&places, &[], &[], 1, &mut taken);
+        all.extend(taken.iter().map(|steps| code + 9 * 16 * steps));
+    }
+    all
+}
+
+/// These steps and all that go on from them, where none is refused, as `up_to`
+/// has them. `past`: the open places before each add on the present history.
+fn go_on(places: &[usize], steps: &[usize], past: &[usize], open: usize, taken: &mut Vec<usize>) {
+    let fewer: usize = (0..steps.len() as u32).map(|n| STEPS.pow(n)).sum();
+    taken.push(fewer + steps.iter().rev().fold(0, |n, i| n * STEPS + i));
+    if steps.len() == 5 {
+        return;
+    }
+    for i in 0..STEPS {
+        let (past, open) = match step(i) {
+            Step::Add(_) if open > 0 => ([past, &[open]].concat(), open - 1 + places[i]),
+            Step::Restore(k) | Step::Forget(k) if usize::from(k) < past.len() => {
+                (past[..k.into()].to_vec(), past[usize::from(k)])
+            }
+            _ => continue,
+        };
+        go_on(places, &[steps, &[i]].concat(), &past, open, taken);
+    }
+}
+
+/// Every file of `session` that has an add, 928,800 files, and of `forget_sessions`.
 pub fn sessions(mut each: impl FnMut(&[u8])) {
     (9 * 16 * 25..SESSIONS).for_each(|i| each(&session(i)));
+    let more = forget_sessions();
+    more.into_iter().for_each(|i| each(&forget_session(i)));
 }
 
 pub const LETTERS: [u8; 12] = [

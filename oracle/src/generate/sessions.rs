@@ -1,5 +1,7 @@
 //! Session files.
 
+mod forgets;
+
 use super::{Kind, damage};
 use crate::node::{ATOM, NIL, NONE, PAIR, SMALL, handle};
 use crate::rng::Rng;
@@ -24,10 +26,21 @@ pub const KINDS: &[Kind] = &[
     ("sentinel-twin", 40, sentinel_twin),
     ("sentinel-added", 40, sentinel_added),
     ("premise-broken", 80, premise_broken),
-    ("restores", 200, restores),
-    ("deep-restores", 6, deep_restores),
-    ("many-steps", 4, many_steps),
+    ("restores", 200, |rng| undo(rng, 0)),
+    ("forgets", 200, |rng| undo(rng, 100)),
+    ("undo-mixed", 200, |rng| undo(rng, 50)),
+    ("fit-tests", 4, forgets::fit_tests),
+    ("forgets-finished", 80, forgets::finished),
+    ("forgets-twins", 60, forgets::twins),
+    ("forgets-moved", 80, forgets::moved),
+    ("forgets-front", 20, forgets::front),
+    ("forgets-parents", 20, forgets::parents),
+    ("deep-restores", 6, |rng| deep_undo(rng, 0)),
+    ("deep-forgets", 6, |rng| deep_undo(rng, 70)),
+    ("many-steps", 4, |rng| many_steps(rng, 0)),
+    ("many-forgets", 4, |rng| many_steps(rng, 70)),
     ("many-entries", 1, many_entries),
+    ("many-entries-undo", 1, forgets::many_entries),
     ("twins", 80, twins),
     ("parents", 20, parents),
     ("parents-moved", 10, parents_moved),
@@ -37,17 +50,22 @@ pub const KINDS: &[Kind] = &[
     ("far-stack", 2, far_stack),
     ("far-deep", 2, far_deep),
     ("atom-sizes", 8, atom_sizes),
-    ("open-pairs", 2, open_pairs),
+    ("open-pairs", 2, |rng| open_pairs(rng, 0)),
+    ("forgets-open", 2, |rng| open_pairs(rng, 100)),
     ("sixteen-adds", 30, sixteen_adds),
     ("full-output", 1, full_output),
     ("over-output", 1, over_output),
     ("keys", 20, keys),
     ("limits", 6, limits),
     ("random", 20, random_bytes),
-    ("mutated", 200, mutated),
-    ("damaged", 100, damaged),
-    ("truncated", 100, truncated),
-    ("faults", 60, faults),
+    ("mutated", 200, |rng| mutated(rng, 0)),
+    ("damaged", 100, |rng| damaged(rng, 0)),
+    ("truncated", 100, |rng| truncated(rng, 0)),
+    ("faults", 60, |rng| faults(rng, 0)),
+    ("forgets-mutated", 200, |rng| mutated(rng, 60)),
+    ("forgets-damaged", 60, |rng| damaged(rng, 60)),
+    ("forgets-truncated", 60, |rng| truncated(rng, 60)),
+    ("forgets-faults", 40, |rng| faults(rng, 60)),
     ("refused-2", 1, refused_2),
     ("refused-3", 10, refused_3),
     ("refused-4", 20, refused_4),
@@ -58,9 +76,12 @@ pub const KINDS: &[Kind] = &[
     ("refused-9", 20, refused_9),
     ("refused-10", 10, refused_10),
     ("refused-11", 20, refused_11),
+    ("forgets-11", 40, forgets::refused_11),
+    ("forgets-4", 10, forgets::refused_4),
     ("refused-12", 1, refused_12),
     ("refused-13", 1, refused_13),
-    ("short-10", 10, short_10),
+    ("short-10", 10, |rng| short_10(rng, 0)),
+    ("forgets-10", 10, |rng| short_10(rng, 70)),
     ("short-12", 4, short_12),
 ];
 
@@ -120,6 +141,19 @@ impl Builder {
 
     pub fn restore(&mut self, k: usize) {
         self.0.steps.push(Step::Restore(k as u16));
+    }
+
+    pub fn forget(&mut self, k: usize) {
+        self.0.steps.push(Step::Forget(k as u16));
+    }
+
+    /// An undo step: a `03` in `forgets` of 100, else a `02`. With 0 nothing is drawn.
+    fn undo(&mut self, rng: &mut Rng, forgets: usize, k: usize) {
+        if forgets > 0 && rng.percent(forgets) {
+            self.forget(k);
+        } else {
+            self.restore(k);
+        }
     }
 
     pub fn done(self) -> Vec<u8> {
@@ -498,7 +532,8 @@ fn premise_broken(rng: &mut Rng) -> Vec<u8> {
     b.done()
 }
 
-fn restores(rng: &mut Rng) -> Vec<u8> {
+/// Adds, and steps back to any of them, of which so many of 100 are `03`.
+fn undo(rng: &mut Rng, forgets: usize) -> Vec<u8> {
     let mut b = Builder::default();
     let s = *rng.pick(&[b.small(7), NIL]);
     b.sentinel(s);
@@ -517,7 +552,7 @@ fn restores(rng: &mut Rng) -> Vec<u8> {
     for _ in 0..rng.range(2, 24) {
         if adds > 0 && rng.percent(if finished { 90 } else { 30 }) {
             adds = rng.below(adds);
-            b.restore(adds);
+            b.undo(rng, forgets, adds);
             finished = false;
         } else {
             finished = rng.percent(30);
@@ -529,11 +564,16 @@ fn restores(rng: &mut Rng) -> Vec<u8> {
             adds += 1;
         }
     }
+    if forgets > 0 && !finished {
+        b.add(*rng.pick(&trees));
+        b.add(*rng.pick(&trees));
+        b.add(recent(rng, &pool));
+    }
     b.done()
 }
 
-/// Restores between states with many open pairs and values.
-fn deep_restores(rng: &mut Rng) -> Vec<u8> {
+/// Steps back between states with many open pairs and values.
+fn deep_undo(rng: &mut Rng, forgets: usize) -> Vec<u8> {
     let mut b = Builder::default();
     let s = b.small(7);
     b.sentinel(s);
@@ -557,7 +597,7 @@ fn deep_restores(rng: &mut Rng) -> Vec<u8> {
     for _ in 0..rng.range(5, 40) {
         if adds == 16 || finished || (adds > 0 && rng.percent(30)) {
             adds = rng.below(adds);
-            b.restore(adds);
+            b.undo(rng, forgets, adds);
             finished = false;
         } else {
             let roll = rng.below(12);
@@ -574,7 +614,7 @@ fn deep_restores(rng: &mut Rng) -> Vec<u8> {
 }
 
 /// Near 1,024 steps, most of them adds that are taken back.
-fn many_steps(rng: &mut Rng) -> Vec<u8> {
+fn many_steps(rng: &mut Rng, forgets: usize) -> Vec<u8> {
     let mut b = Builder::default();
     let s = b.small(7);
     b.sentinel(s);
@@ -585,7 +625,7 @@ fn many_steps(rng: &mut Rng) -> Vec<u8> {
     while b.0.steps.len() < total {
         if adds == 16 || (adds > 0 && rng.percent(45)) {
             adds = rng.below(adds);
-            b.restore(adds);
+            b.undo(rng, forgets, adds);
         } else {
             b.add(*rng.pick(&trees));
             adds += 1;
@@ -879,7 +919,7 @@ fn open_chain(b: &mut Builder, rng: &mut Rng, n: usize, left: bool) {
 }
 
 /// About 4,096 open pairs, then an atom or one more pair.
-fn open_pairs(rng: &mut Rng) -> Vec<u8> {
+fn open_pairs(rng: &mut Rng, forgets: usize) -> Vec<u8> {
     let mut b = Builder::default();
     let n = *rng.pick(&[4095, 4096, 4097]);
     let left = rng.percent(50);
@@ -891,7 +931,7 @@ fn open_pairs(rng: &mut Rng) -> Vec<u8> {
             b.add(t);
         }
         _ => {
-            b.restore(1);
+            b.undo(rng, forgets, 1);
             b.add(b.small(2));
         }
     }
@@ -1083,11 +1123,15 @@ fn random_bytes(rng: &mut Rng) -> Vec<u8> {
     out
 }
 
-fn small_session(rng: &mut Rng) -> Vec<u8> {
+/// Of the steps back so many of 100 are `03`.
+fn small_session(rng: &mut Rng, forgets: usize) -> Vec<u8> {
+    if forgets > 0 && rng.percent(80) {
+        return undo(rng, forgets);
+    }
     match rng.below(5) {
         0 => tiny(rng),
         1 => sentinel_many(rng),
-        2 => restores(rng),
+        2 => undo(rng, forgets),
         3 => twins(rng),
         _ => {
             let mut b = Builder::default();
@@ -1101,8 +1145,8 @@ fn small_session(rng: &mut Rng) -> Vec<u8> {
 }
 
 /// Handles and steps changed for others that are named too.
-fn mutated(rng: &mut Rng) -> Vec<u8> {
-    let mut s = session::parse(&small_session(rng)).expect("a good file");
+fn mutated(rng: &mut Rng, forgets: usize) -> Vec<u8> {
+    let mut s = session::parse(&small_session(rng, forgets)).expect("a good file");
     let any_handle = |rng: &mut Rng, s: &SessionFile, pairs: usize| match rng.below(4) {
         0 if !s.atoms.is_empty() => handle(ATOM, rng.below(s.atoms.len()) as u32),
         1 => *rng.pick(&[
@@ -1133,7 +1177,14 @@ fn mutated(rng: &mut Rng) -> Vec<u8> {
             }
             4 => {
                 let at = rng.below(s.steps.len() + 1);
-                s.steps.insert(at, Step::Restore(rng.below(4) as u16));
+                let k = rng.below(4) as u16;
+                let forget = forgets > 0 && rng.percent(forgets);
+                let step = if forget {
+                    Step::Forget(k)
+                } else {
+                    Step::Restore(k)
+                };
+                s.steps.insert(at, step);
             }
             _ => {
                 let at = rng.below(s.steps.len() + 1);
@@ -1145,22 +1196,22 @@ fn mutated(rng: &mut Rng) -> Vec<u8> {
     s.to_bytes()
 }
 
-fn damaged(rng: &mut Rng) -> Vec<u8> {
-    let mut file = small_session(rng);
+fn damaged(rng: &mut Rng, forgets: usize) -> Vec<u8> {
+    let mut file = small_session(rng, forgets);
     damage(rng, &mut file);
     file
 }
 
-fn truncated(rng: &mut Rng) -> Vec<u8> {
-    let mut file = small_session(rng);
+fn truncated(rng: &mut Rng, forgets: usize) -> Vec<u8> {
+    let mut file = small_session(rng, forgets);
     let keep = rng.below(file.len());
     file.truncate(keep);
     file
 }
 
 /// One to three faults in different fields: the first from the left counts.
-fn faults(rng: &mut Rng) -> Vec<u8> {
-    let mut s = session::parse(&small_session(rng)).expect("a good file");
+fn faults(rng: &mut Rng, forgets: usize) -> Vec<u8> {
+    let mut s = session::parse(&small_session(rng, forgets)).expect("a good file");
     let bad =
         |rng: &mut Rng| *rng.pick(&[handle(PAIR, 900), handle(ATOM, 900), handle(5, 1), NONE]);
     let mut code = None;
@@ -1185,7 +1236,7 @@ fn faults(rng: &mut Rng) -> Vec<u8> {
                 let at = rng.below(s.steps.len() + 1);
                 s.steps.insert(at, Step::Add(bad(rng)));
             }
-            5 => code = Some(*rng.pick(&[0, 3, 0xff])),
+            5 => code = Some(*rng.pick(&[0, 7, 0xff])),
             _ => cut = rng.range(1, 5),
         }
     }
@@ -1196,14 +1247,14 @@ fn faults(rng: &mut Rng) -> Vec<u8> {
 }
 
 fn refused_2(rng: &mut Rng) -> Vec<u8> {
-    let mut file = small_session(rng);
+    let mut file = small_session(rng, 0);
     let longer = *rng.pick(&[1, 1, 2, 200]);
     file.resize(MAX_FILE + longer, rng.byte());
     file
 }
 
 fn refused_3(rng: &mut Rng) -> Vec<u8> {
-    let mut file = small_session(rng);
+    let mut file = small_session(rng, 0);
     match rng.below(3) {
         0 => file.truncate(rng.below(5)),
         1 => file[rng.below(5)] ^= 1 << rng.below(8),
@@ -1214,7 +1265,7 @@ fn refused_3(rng: &mut Rng) -> Vec<u8> {
 
 /// Cut inside the last field: what is left of a step after its code.
 fn refused_4(rng: &mut Rng) -> Vec<u8> {
-    let mut file = small_session(rng);
+    let mut file = small_session(rng, 0);
     if rng.percent(50) {
         file.extend([1, 0x08, 0, 0]);
     } else {
@@ -1283,8 +1334,8 @@ fn refused_7(rng: &mut Rng) -> Vec<u8> {
 }
 
 fn refused_8(rng: &mut Rng) -> Vec<u8> {
-    let mut file = small_session(rng);
-    file.push(*rng.pick(&[0, 3, 4, 0x81, 0xff]));
+    let mut file = small_session(rng, 0);
+    file.push(*rng.pick(&[0, 7, 8, 0x81, 0xff]));
     if rng.percent(50) {
         file.extend(rng.bytes(4));
     }
@@ -1372,7 +1423,7 @@ fn refused_13(rng: &mut Rng) -> Vec<u8> {
 }
 
 /// More than 16 adds in a file of few pairs, some taken back on the way.
-fn short_10(rng: &mut Rng) -> Vec<u8> {
+fn short_10(rng: &mut Rng, forgets: usize) -> Vec<u8> {
     let mut b = Builder::default();
     let s = *rng.pick(&[b.small(7), NIL]);
     b.sentinel(s);
@@ -1383,7 +1434,7 @@ fn short_10(rng: &mut Rng) -> Vec<u8> {
     while adds <= 16 {
         if adds > 0 && rng.percent(5) {
             adds -= 1;
-            b.restore(adds);
+            b.undo(rng, forgets, adds);
         } else {
             b.add(*rng.pick(&[s, p, q]));
             adds += 1;
