@@ -116,7 +116,10 @@ struct nikvoldra_read_answer {
 };
 
 /*
- * Runs a session file: numbers 0 to 13.
+ * Runs a session file, which docs/FORMAT.md has field by field: numbers 0 to 13.
+ *
+ * A step is 01 and a handle, which adds a tree; or 02 or 03 and a number k, which goes back to the state before add k. With 02
+ * the writer keeps what it knows of the trees taken back, as in the Rust; with 03 it forgets them. Question 11 is asked at both.
  *
  * words[i] of a finished step i is its size * 2, plus 1 if the session is finished; output[0 .. size] is what was written.
  * With 1 to 8 no slice is touched, and steps and size are 0. With 0 and 9 to 13 the words past the finished steps, the

@@ -61,7 +61,7 @@ class Refused(Exception):
 
 
 class Session:
-    """atoms: bytes; pairs: two handles; sentinel: a handle or NONE; steps: ("add", handle) and ("restore", number)."""
+    """atoms: bytes; pairs: two handles; sentinel: a handle or NONE; steps: ("add", handle), ("restore", number), ("forget", number)."""
 
     def __init__(self):
         self.atoms, self.pairs, self.sentinel, self.steps = [], [], NONE, []
@@ -76,7 +76,8 @@ class Session:
             out += left.to_bytes(4, "big") + right.to_bytes(4, "big")
         out += self.sentinel.to_bytes(4, "big")
         for name, operand in self.steps:
-            out += b"\x01" + operand.to_bytes(4, "big") if name == "add" else b"\x02" + operand.to_bytes(2, "big")
+            code, width = {"add": (1, 4), "restore": (2, 2), "forget": (3, 2)}[name]
+            out += code.to_bytes(1, "big") + operand.to_bytes(width, "big")
         return bytes(out)
 
 
@@ -134,8 +135,8 @@ def read_step(fields, session):
         raise Refused(5, at)
     if code == 1:
         return "add", fields.handle(len(session.atoms), len(session.pairs))
-    if code == 2:
-        return "restore", fields.number(2)
+    if code in (2, 3):
+        return "restore" if code == 2 else "forget", fields.number(2)
     raise Refused(8, at)
 
 

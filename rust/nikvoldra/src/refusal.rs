@@ -37,7 +37,7 @@ pub enum Refusal {
     AlreadyFinished = 9,
     /// 10: There are sixteen adds already.
     TooManyAdds = 10,
-    /// 11: A restore names an add that isn't there.
+    /// 11: A restore or a forget names an add that isn't there.
     UnknownRestore = 11,
     /// 12: More than 4,096 pairs would be open.
     TooDeep = 12,

@@ -45,6 +45,7 @@ impl Error for BuildError {}
 enum Operation {
     Add(NodePtr),
     Restore(u16),
+    Forget(u16),
 }
 
 /// A session: its atoms and pairs, the handle that marks the open place, and the steps.
@@ -186,6 +187,40 @@ impl Session {
         self.step(Operation::Restore(number))
     }
 
+    /// A step that goes back to the state before add `number`, counted from 0 on the present history, and forgets the trees
+    /// that it takes back.
+    ///
+    /// A session that forgets and never restores writes the bytes of the adds that remain, and read-back is promised for them.
+    ///
+    /// Bundles are tried: one that brings the block above 40 bytes is taken back, and the next one comes in its place.
+    ///
+    /// ```
+    /// use nikvoldra::{NodePtr, Session, Writer};
+    ///
+    /// let (mut session, mut writer) = (Session::new(), Writer::new());
+    /// let open = session.sentinel()?;
+    /// let mut adds = 0;
+    /// for bundle in [&b"one of some length"[..], b"one that is too long for what is left", b"a short one"] {
+    ///     let atom = session.atom(bundle)?;
+    ///     let tree = session.pair(atom, open)?;
+    ///     session.add(tree)?;
+    ///     if writer.run(&session)?.bytes().len() > 40 {
+    ///         session.forget(adds)?;
+    ///     } else {
+    ///         adds += 1;
+    ///     }
+    /// }
+    /// session.add(NodePtr::NIL)?;
+    /// let run = writer.run(&session)?;
+    /// let sizes: Vec<usize> = run.steps().iter().map(|step| step.size).collect();
+    /// assert_eq!(sizes, [20, 59, 20, 33, 34]);
+    /// assert_eq!(run.bytes(), b"\xff\x92one of some length\xff\x8ba short one\x80");
+    /// # Ok::<(), Box<dyn std::error::Error>>(())
+    /// ```
+    pub fn forget(&mut self, number: u16) -> Result<(), BuildError> {
+        self.step(Operation::Forget(number))
+    }
+
     fn step(&mut self, step: Operation) -> Result<(), BuildError> {
         if self.steps.len() == Session::MOST_STEPS {
             return Err(BuildError::TooManySteps);
@@ -240,6 +275,10 @@ impl Session {
                 }
                 Operation::Restore(number) => {
                     file.push(2);
+                    file.extend(number.to_be_bytes());
+                }
+                Operation::Forget(number) => {
+                    file.push(3);
                     file.extend(number.to_be_bytes());
                 }
             }

@@ -1,6 +1,6 @@
 //! The worked cases of the scope (01), through this crate.
 
-use nikvoldra::{read, NodePtr, Reader, Refusal, Run, Session};
+use nikvoldra::{read, BuildError, NodePtr, Reader, Refusal, Run, Session};
 
 fn hex(text: &str) -> Vec<u8> {
     let digits: String = text.split_whitespace().collect();
@@ -39,6 +39,16 @@ fn whole_case() {
 }
 
 #[test]
+fn steps_in_the_file() {
+    let mut session = Session::new();
+    session.add(NodePtr::NIL).unwrap();
+    session.restore(2).unwrap();
+    session.forget(0x102).unwrap();
+    let file = "42 52 53 00 01 00 00 00 00 ff ff ff ff 01 08 00 00 00 02 00 02 03 01 02";
+    assert_eq!(session.to_file(), hex(file));
+}
+
+#[test]
 fn references_from_four_bytes_on() {
     for (atom, output) in [
         (&b"abc"[..], "ff 83 61 62 63 fe 02"),
@@ -52,8 +62,8 @@ fn references_from_four_bytes_on() {
     }
 }
 
-#[test]
-fn undo_keeps_entries_and_parents() {
+/// B = foobar, A = ((open . nil) . B), C = (B . nil): adds A and B, takes B back, and adds C.
+fn taken_back(step: fn(&mut Session, u16) -> Result<(), BuildError>) -> Run {
     let mut session = Session::new();
     let open = session.sentinel().unwrap();
     let b = session.atom(b"foobar").unwrap();
@@ -62,9 +72,14 @@ fn undo_keeps_entries_and_parents() {
     let c = session.pair(b, NodePtr::NIL).unwrap();
     session.add(a).unwrap();
     session.add(b).unwrap();
-    session.restore(1).unwrap();
+    step(&mut session, 1).unwrap();
     session.add(c).unwrap();
-    let run = session.run().unwrap();
+    session.run().unwrap()
+}
+
+#[test]
+fn undo_keeps_entries_and_parents() {
+    let run = taken_back(Session::restore);
     assert_eq!(words(&run), [4, 25, 4, 29]);
     assert_eq!(
         run.bytes(),
@@ -72,6 +87,19 @@ fn undo_keeps_entries_and_parents() {
     );
     // ((C . nil) . C) with C = (foobar . nil)
     let full = b"\xff\xff\xff\x86foobar\x80\x80\xff\x86foobar\x80";
+    assert!(same(run.bytes(), full));
+}
+
+#[test]
+fn forget_keeps_nothing() {
+    let run = taken_back(Session::forget);
+    assert_eq!(words(&run), [4, 25, 4, 29]);
+    assert_eq!(
+        run.bytes(),
+        hex("ff ff ff 86 66 6f 6f 62 61 72 80 80 fe 08")
+    );
+    // ((C . nil) . B)
+    let full = b"\xff\xff\xff\x86foobar\x80\x80\x86foobar";
     assert!(same(run.bytes(), full));
 }
 

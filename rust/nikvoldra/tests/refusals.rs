@@ -18,12 +18,14 @@ fn file_of(rest: &[u8]) -> Vec<u8> {
 #[test]
 fn of_a_file() {
     let none = [0xff; 4];
-    let cases: [(Refusal, Vec<u8>); 12] = [
+    let cases: [(Refusal, Vec<u8>); 14] = [
         (Refusal::LongInput, vec![0; call::INPUT_MOST + 1]),
         (Refusal::NoMark, b"BRS\x00\x02".to_vec()),
         (Refusal::NoMark, b"BRS\x00".to_vec()),
         (Refusal::CutField, b"BRS\x00\x01".to_vec()),
         (Refusal::CutField, file_with(&[1, 0])),
+        (Refusal::CutField, file_with(&[3])),
+        (Refusal::CutField, file_with(&[3, 0])),
         (Refusal::TooMany, file_of(&[4, 1])),
         (Refusal::TooMany, file_of(&[0, 0, 4, 1])),
         (Refusal::TooMany, file_with(&[2, 0, 0].repeat(1_025))),
@@ -33,7 +35,7 @@ fn of_a_file() {
             Refusal::UnknownHandle,
             file_of(&[&[0, 0, 0, 1][..], &none].concat()),
         ),
-        (Refusal::UnknownStep, file_with(&[3])),
+        (Refusal::UnknownStep, file_with(&[7])),
     ];
     let mut writer = Writer::new();
     for (refusal, file) in cases {
@@ -57,12 +59,21 @@ fn of_a_step() {
     assert_eq!(error.run().steps().len(), 16);
     assert!(error.to_string().starts_with("at step 17, question 10"));
 
-    let mut session = Session::new();
-    session.restore(0).unwrap();
-    assert_eq!(
-        session.run().unwrap_err().refusal(),
-        Refusal::UnknownRestore
-    );
+    for step in [Session::restore, Session::forget] {
+        let mut session = Session::new();
+        step(&mut session, 0).unwrap();
+        let error = session.run().unwrap_err();
+        assert_eq!(error.refusal(), Refusal::UnknownRestore);
+
+        let mut session = Session::new();
+        session.add(NodePtr::NIL).unwrap();
+        step(&mut session, 0).unwrap();
+        step(&mut session, 0).unwrap();
+        let error = session.run().unwrap_err();
+        assert_eq!(error.refusal(), Refusal::UnknownRestore);
+        assert_eq!(error.run().steps().len(), 2);
+        assert!(error.run().bytes().is_empty());
+    }
 
     let mut session = Session::new();
     session.add(NodePtr::NIL).unwrap();
@@ -127,10 +138,10 @@ fn of_the_builder() {
     for i in 0..1_024 {
         let atom = session.atom(&bytes(i)).unwrap();
         node = session.pair(atom, node).unwrap();
-        if i % 2 == 0 {
-            session.add(node).unwrap();
-        } else {
-            session.restore(0).unwrap();
+        match i % 4 {
+            0 | 2 => session.add(node).unwrap(),
+            1 => session.restore(0).unwrap(),
+            _ => session.forget(0).unwrap(),
         }
     }
     assert_eq!(session.atom(&[0xff]), Err(BuildError::TooManyAtoms));
@@ -139,6 +150,7 @@ fn of_the_builder() {
     assert_eq!(pair, Err(BuildError::TooManyPairs));
     assert_eq!(session.add(node), Err(BuildError::TooManySteps));
     assert_eq!(session.restore(0), Err(BuildError::TooManySteps));
+    assert_eq!(session.forget(0), Err(BuildError::TooManySteps));
     assert_eq!(session.atom(&[5]).unwrap().index(), 5);
     assert_eq!(session.atom(&bytes(7)).unwrap().index(), 7);
     assert_eq!(session.to_file().len(), 47_117);

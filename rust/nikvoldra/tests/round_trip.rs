@@ -1,5 +1,5 @@
-//! Sessions that keep to the premises of read-back, made by chance: what is read is the tree that was handed in, also when
-//! the same writer and reader are used for all of them, refused ones between.
+//! Sessions that keep to the premises of read-back, made by chance, with adds that are forgotten: what is read is the tree that
+//! was handed in, also when the same writer and reader are used for all of them, refused ones between.
 
 use nikvoldra::{Node, NodePtr, Reader, Refusal, Session, Tree, Writer};
 use std::rc::Rc;
@@ -72,6 +72,9 @@ struct Made {
     chance: Chance,
     /// Subtrees without the open place, which later ones share.
     pool: Vec<Both>,
+    /// The adds that remain, and the bytes of all steps.
+    adds: Vec<NodePtr>,
+    steps: usize,
 }
 
 impl Made {
@@ -110,6 +113,39 @@ impl Made {
         tree
     }
 
+    fn add(&mut self, node: NodePtr) {
+        self.session.add(node).unwrap();
+        self.adds.push(node);
+        self.steps += 5;
+    }
+
+    /// Adds that are taken back, also such that leave no open place.
+    fn tried(&mut self) {
+        let remain = self.adds.len();
+        for _ in 0..self.chance.below(3) {
+            let tree = self.around_open();
+            self.add(tree.0);
+            if self.chance.below(2) == 0 {
+                let tree = self.shared();
+                self.add(tree.0);
+            }
+            self.session.forget(remain as u16).unwrap();
+            self.adds.truncate(remain);
+            self.steps += 3;
+        }
+    }
+
+    /// The file with the adds that remain alone.
+    fn without_tries(&self) -> Vec<u8> {
+        let mut file = self.session.to_file();
+        file.truncate(file.len() - self.steps);
+        for add in &self.adds {
+            file.push(1);
+            file.extend(add.handle().to_be_bytes());
+        }
+        file
+    }
+
     fn grow_pool(&mut self) {
         for _ in 0..self.chance.below(10) {
             let (left, right) = (self.shared(), self.shared());
@@ -119,23 +155,27 @@ impl Made {
     }
 }
 
-/// A session of some adds, the last of which finishes it, and the whole tree.
-fn make(seed: u64) -> (Session, Rc<Plain>) {
+/// A session of some adds, the last of which finishes it, with what is taken back between them; and the whole tree.
+fn make(seed: u64) -> (Made, Rc<Plain>) {
     let mut made = Made {
         session: Session::new(),
         chance: Chance(seed.wrapping_mul(0x9e37_79b9_7f4a_7c15) | 1),
         pool: vec![],
+        adds: vec![],
+        steps: 0,
     };
     let mut state = Rc::new(Plain::Open);
     for _ in 0..made.chance.below(6) {
         made.grow_pool();
+        made.tried();
         let (node, plain) = made.around_open();
-        made.session.add(node).unwrap();
+        made.add(node);
         state = filled(&state, &plain);
     }
+    made.tried();
     let (node, plain) = made.shared();
-    made.session.add(node).unwrap();
-    (made.session, filled(&state, &plain))
+    made.add(node);
+    (made, filled(&state, &plain))
 }
 
 #[test]
@@ -143,12 +183,16 @@ fn reads_back_as_the_tree_handed_in() {
     let (mut writer, mut reader) = (Writer::new(), Reader::new());
     let mut shorter = 0;
     for seed in 1..=500 {
-        let (session, whole) = make(seed);
+        let (made, whole) = make(seed);
         let full = whole.full();
         if full.len() > 60_000 {
             continue;
         }
-        let run = writer.run(&session).unwrap();
+        let session = &made.session;
+        let run = writer.run(session).unwrap();
+        let alone = writer.run_file(&made.without_tries()).unwrap();
+        assert_eq!(alone.bytes(), run.bytes(), "seed {seed}");
+        assert_eq!(alone.steps().len(), made.adds.len(), "seed {seed}");
         assert!(run.is_finished(), "seed {seed}");
         assert!(run.bytes().len() <= full.len(), "seed {seed}");
         shorter += usize::from(run.bytes().len() < full.len());
