@@ -591,12 +591,6 @@ in-bounds-start n = record {
 stood-later : (n k m : ℕ) (past : List Session) (s : Session) → k ≤ m → Stood n k past s → Stood n m past s
 stood-later n k m past s l h = record { held = held-later n k m (s .cache) l (h .held); past-below = h .past-below }
 
-pub in-bounds-later : (n k m : ℕ) (past : List Session) (s : Session) → k ≤ m → InBounds n k past s → InBounds n m past s
-in-bounds-later n k m past s l h = record {
-  stood = stood-later n k m past s l (h .stood);
-  past-stood = λ i u q. stood-later n k m (take i past) u l (h .past-stood i u q);
-}
-
 abbrev pub session-of : Added → Session
 session-of (added s) = s
 session-of (turned-down m s) = s
