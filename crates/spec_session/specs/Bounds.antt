@@ -16,7 +16,7 @@ use Rattle.words.specs.Choice.{by-cond, by-lt}
 use Rattle.words.specs.Lists.{All, all-append, all-drop, all-take, all-map, all-or}
 use Rattle.path.specs.Bytes.{bit}
 use Rattle.allocator.specs.Handle.{Node, pair, listed-atom, small-atom, unknown, node-of, handle-of}
-use Rattle.spec_session.specs.File.{File, Pair, Step, add, restore, forget}
+use Rattle.spec_session.specs.File.{File, Pair, Step, add, restore, forget, quote, take-quote}
 use Rattle.spec_session.specs.Unfold.{Unfolded, hole, leaf, node, is-sentinel, named-by, unfold-with, unfold-pairs, unfolded}
 use Rattle.spec_session.specs.Cache.{Key, Parent, Entry, Cache, same-key, later, find-key, lookup, adjust, parents-at, add-parent, move-parents}
 use Rattle.spec_session.specs.Cache.{no-parents, new-entry, with-entries, keep-or-add, find-or-add, link-pair, join-pair, known-or, fresh}
@@ -25,8 +25,9 @@ use Rattle.spec_session.specs.Items.{Item}
 use Rattle.spec_session.specs.Writer.{Todo, parse, Outcome, done, stopped, refused, resume, Session, start, Added, added, turned-down, settle, add-at, add-tree}
 use Rattle.spec_session.specs.Trees.{nth, both-more, both-fewer}
 use Rattle.spec_session.specs.FindPath.{find-in}
-use Rattle.spec_session.specs.Steps.{or-known, restored, room-in, State, at-start, Stepped, went, halted, Run, unless-full, after-add, after-restore}
-use Rattle.spec_session.specs.Steps.{after-forget, add-handle, add-step, run-step, after-step, run-steps}
+use Rattle.spec_session.specs.Steps.{or-known, restored, room-in, State, at-start, Stepped, went, halted, Run, after-add, after-restore}
+use Rattle.spec_session.specs.Steps.{after-forget, add-handle, add-step, take-step, run-step, after-step, run-steps}
+use Rattle.spec_session.specs.StepLaws.{by-full, as-quote, quote-by-add}
 
 -- ---- all parents
 
@@ -673,18 +674,22 @@ in-bounds-forget n k i past u s q h = record { stood = h .past-stood i u q; past
 
 -- ---- a run
 
--- The steps that add a tree.
+-- The steps that may add a tree. What a quote enters is dropped again.
 abbrev pub adds : List Step → ℕ
 adds [] = 0
 adds (add h ∷ steps) = suc (adds steps)
 adds (restore i ∷ steps) = adds steps
 adds (forget i ∷ steps) = adds steps
+adds (quote h ∷ steps) = adds steps
+adds (take-quote ∷ steps) = suc (adds steps)
 
 pub adds-few : (steps : List Step) → adds steps ≤ length steps
 adds-few [] = omega arith
 adds-few (add h ∷ steps) = omega (arith, adds-few steps)
 adds-few (restore i ∷ steps) = omega (arith, adds-few steps)
 adds-few (forget i ∷ steps) = omega (arith, adds-few steps)
+adds-few (quote h ∷ steps) = omega (arith, adds-few steps)
+adds-few (take-quote ∷ steps) = omega (arith, adds-few steps)
 
 -- To show R of the session where a run ends: I, of how many adds are left, the sessions before the adds and the session, is kept by each step, and gives R.
 module _ (measure : List Bool → ℕ) (space : ℕ) (f : File) (I : ℕ → List Session → Session → Type 0) (R : Session → Type 0) where
@@ -704,21 +709,24 @@ module _ (measure : List Bool → ℕ) (space : ℕ) (f : File) (I : ℕ → Lis
   StepKept left (went w st) = I left (st .past) (st .now)
   StepKept left (halted n s) = R s
 
-  kept-full : (left : ℕ) (o : Option (List Todo)) (full : Bool) (s : Session) (x : Stepped) → R s → ((k : List Todo) → o ≡ some k → full ≡ false → StepKept left x)
-      → StepKept left (unless-full o full s x)
-  kept-full left none full s x h g = h
-  kept-full left (some k) true s x h g = h
-  kept-full left (some k) false s x h g = g k refl refl
-
   kept-add : (left : ℕ) (a : Added) (st : State) → AddKept left (st .past ++ st .now ∷ []) a → StepKept left (after-add a st)
   kept-add left (added s) st h = h
   kept-add left (turned-down m s) st h = h
 
+  kept-quote : (left h : ℕ) (x : Stepped) (st : State) → I left (st .past) (st .now) → R (st .now) → StepKept left (as-quote measure space f h st x)
+  kept-quote left h (went w t) st i r = i
+  kept-quote left h (halted n s) st i r = r
+
   module _ (K : StepsKept) where
     add-step-kept : (h left : ℕ) (st : State) → I (suc left) (st .past) (st .now) → StepKept left (add-step measure space f h st)
     add-step-kept h left st i =
-        kept-full left (st .now .waiting) (ltb 15 (length (st .past))) (st .now) _ (K .stop-kept (suc left) (st .past) (st .now) i) (λ k w e.
+        let r = K .stop-kept (suc left) (st .past) (st .now) i in
+        by-full (StepKept left) (st .now .waiting) (ltb 15 (length (st .past))) (st .now) _ r r (λ k w e.
         kept-add left (add-handle measure space f h (st .now)) st (K .add-kept h left (st .past) (st .now) k w (ltb-false 15 (length (st .past)) e) i))
+
+    take-step-kept : (o : Option ℕ) (left : ℕ) (st : State) → I (suc left) (st .past) (st .now) → StepKept left (take-step measure space f o st)
+    take-step-kept none left st i = K .stop-kept (suc left) (st .past) (st .now) i
+    take-step-kept (some h) left st i = add-step-kept h left st i
 
     restore-step-kept : (o : Option Session) (n left : ℕ) (st : State) → nth (st .past) n ≡ o → I left (st .past) (st .now) → StepKept left (after-restore o n st)
     restore-step-kept none n left st q i = K .stop-kept left (st .past) (st .now) i
@@ -732,6 +740,10 @@ module _ (measure : List Bool → ℕ) (space : ℕ) (f : File) (I : ℕ → Lis
     step-kept (add h) steps st i = add-step-kept h (adds steps) st i
     step-kept (restore n) steps st i = restore-step-kept (nth (st .past) n) n (adds steps) st refl i
     step-kept (forget n) steps st i = forget-step-kept (nth (st .past) n) n (adds steps) st refl i
+    step-kept (quote h) steps st i =
+        subst (StepKept (adds steps)) (sym (quote-by-add measure space f h st))
+        (kept-quote (adds steps) h (run-step measure space f (add h) st) st i (K .stop-kept (adds steps) (st .past) (st .now) i))
+    step-kept take-quote steps st i = take-step-kept (st .quoted) (adds steps) st i
 
     kept-run : (left : ℕ) (x : Stepped) (next : State → Run) → StepKept left x → ((st : State) → I left (st .past) (st .now) → R (next st .last)) → R (after-step x next .last)
     kept-run left (went w st) next i g = g st i

@@ -1,4 +1,4 @@
--- 01's whole case and undo example, computed; that the whole case meets the premises; and why each premise is needed.
+-- 01's whole case and undo example, and quotes, computed; that the whole case meets the premises; and why each premise is needed.
 use Prim.Native.Nat.{ℕ}
 use mathlib.Core.Path.{_≡_, refl}
 use mathlib.Core.Logic.{_⊎_, inl, inr}
@@ -14,16 +14,16 @@ use Rattle.spec_reading.specs.Tree.{Tree, place, atom, cons}
 use Rattle.path.specs.Bytes.{path-bytes, octets}
 use Rattle.path.specs.Measure.{counted}
 use Rattle.spec_search.specs.Search.{walk, passes, search}
-use Rattle.spec_session.specs.File.{File, Step, got, add, restore, forget, version-1, file, atoms, pairs, steps}
+use Rattle.spec_session.specs.File.{File, Step, got, add, restore, forget, quote, take-quote, version-1, file, atoms, pairs, steps}
 use Rattle.spec_session.specs.Unfold.{unfolded}
 use Rattle.spec_session.specs.Filling.{plain-filling}
 use Rattle.spec_session.specs.Survivors.{survivors}
 use Rattle.spec_session.specs.Premises.{In, Above, Apart}
 use Rattle.spec_session.specs.Cache.{enter, update}
-use Rattle.spec_session.specs.Items.{read-items, output}
-use Rattle.spec_session.specs.Writer.{write, resume}
+use Rattle.spec_session.specs.Items.{cons-item, read-items, output}
+use Rattle.spec_session.specs.Writer.{start, write, resume}
 use Rattle.spec_session.specs.FindPath.{find-in}
-use Rattle.spec_session.specs.Steps.{Run, at-start, run-steps}
+use Rattle.spec_session.specs.Steps.{Run, stop-at, with-word, at-start, run-steps}
 use Rattle.spec_session.specs.Call.{after-file}
 
 abbrev pub foobar : List ℕ
@@ -85,11 +85,10 @@ unfolding file atoms pairs steps number-after fits-in-small-atom is-small-atom f
     serialized-length encode prefix-width first-width path-bytes octets big-endian
 whole-call = refl
 
--- ---- undo: A = ((S . nil) . B) is pair 1, C = (B . nil) is pair 2, B = foobar is atom 0; the sentinel S is the small atom 1. A is added, then a handle that an
--- undo step takes back, then C
+-- ---- undo: A = ((S . nil) . B) is pair 1, C = (B . nil) is pair 2, B = foobar is atom 0; the sentinel S is the small atom 1
 
-abbrev taken-back : (handle : ℕ) → (undo : Step) → File
-taken-back h undo =
+abbrev undo-file : List Step → File
+undo-file steps =
     record {
       atoms = foobar ∷ [];
       pairs =
@@ -98,8 +97,12 @@ taken-back h undo =
           ∷ record { left = 0x4000000; right = 0x8000000 }
           ∷ [];
       sentinel = some 0x8000001;
-      steps = add 1 ∷ add h ∷ undo ∷ add 2 ∷ [];
+      steps = steps;
     }
+
+-- A is added, then a handle that an undo step takes back, then C.
+abbrev taken-back : (handle : ℕ) → (undo : Step) → File
+taken-back h undo = undo-file (add 1 ∷ add h ∷ undo ∷ add 2 ∷ [])
 
 -- B is taken back by `02`.
 undone : File
@@ -163,6 +166,45 @@ forget-refused : run (taken-back 0x8000000 (forget 2)) .number ≡ 11
 unfolding run-steps unfolded enter update write resume find-in walk passes search node-of handle-of
     serialized-length encode prefix-width first-width path-bytes octets big-endian small-bytes len-for-value further-bytes
 forget-refused = refl
+
+-- ---- quotes
+
+-- Nil quoted in the place of nil added and taken back: nothing that the quote entered stays, as after `03`.
+nil-quoted : run (undo-file (add 1 ∷ quote 0x8000000 ∷ add 2 ∷ [])) .words ≡ 4 ∷ 23 ∷ 29 ∷ []
+unfolding run-steps unfolded enter update write resume find-in walk passes search node-of handle-of
+    serialized-length encode prefix-width first-width path-bytes octets big-endian small-bytes len-for-value further-bytes
+nil-quoted = refl
+
+abbrev whole-run : (space : ℕ) → List Step → Run
+whole-run space steps = run-steps counted space whole-file steps at-start
+
+-- The two adds of the whole case, each quoted and then taken: it ends where their run ends. Taken twice, 17.
+whole-quoted : whole-run 65535 (quote 1 ∷ take-quote ∷ quote 0x4000000 ∷ take-quote ∷ take-quote ∷ [])
+    ≡ with-word 16 (with-word 16 (with-word 21 (with-word 21 (stop-at 17 (whole-run 65535 (whole-file .steps) .last)))))
+unfolding run-steps unfolded enter update write resume find-in walk passes search node-of handle-of
+    serialized-length encode prefix-width first-width path-bytes octets big-endian
+whole-quoted = refl
+
+-- A taken quote survives, and one that another step drops does not.
+quoted-survive : survivors (quote 1 ∷ take-quote ∷ quote 2 ∷ add 3 ∷ quote 4 ∷ quote 5 ∷ take-quote ∷ quote 6 ∷ forget 2 ∷ []) ≡ 1 ∷ 3 ∷ []
+quoted-survive = refl
+
+-- A quote that 13 refuses leaves no item, an add the whole ones.
+quote-13 : whole-run 7 (quote 1 ∷ []) ≡ stop-at 13 start
+unfolding run-steps unfolded enter update write resume find-in walk passes search node-of handle-of
+    serialized-length encode prefix-width first-width path-bytes octets big-endian
+quote-13 = refl
+
+add-13 : whole-run 7 (add 1 ∷ []) .last .written .items ≡ cons-item ∷ []
+unfolding run-steps unfolded enter update write resume find-in walk passes search node-of handle-of
+    serialized-length encode prefix-width first-width path-bytes octets big-endian
+add-13 = refl
+
+-- Why the last step taken may be no quote: its word says finished, and nothing is written.
+only-quoted : whole-run 65535 (quote 0x4000000 ∷ []) ≡ with-word 15 (stop-at 0 start)
+unfolding run-steps unfolded enter update write resume find-in walk passes search node-of handle-of
+    serialized-length encode prefix-width first-width path-bytes octets big-endian
+only-quoted = refl
 
 -- ---- why no pair above the sentinel may occur in a later tree: P = (S . nil) is added, then (foobar . (1 . (2 . (P . foobar)))), then 3
 

@@ -1,9 +1,9 @@
 -- DEMAND 3 of the session call: one claim about a whole file, a refused last step included.
--- No step that was taken is a `02`, and the word of the last one taken says finished. The adds that survive keep 01's premises. Then the reading call accepts
--- the finished bytes, which are the first `size` bytes of the output at the end of the run, and gives a root whose tree is the plain filling's whole tree; the
--- bytes are those of the items that the writer makes of the surviving adds, so references stand exactly where 01's search rules put them (`write` puts a
--- reference at a subtree exactly where `find-in` gives a path), and each takes at most as many bytes as its subtree in full; and the next step, where there is
--- one, is refused, and bytes and tree stay.
+-- No step that was taken is a `02`; the last one taken is no `04`, and its word says finished. The adds that survive keep 01's premises. Then the reading call
+-- accepts the finished bytes, which are the first `size` bytes of the output at the end of the run, and gives a root whose tree is the plain filling's whole
+-- tree; the bytes are those of the items that the writer makes of the surviving adds, so references stand exactly where 01's search rules put them (`write`
+-- puts a reference at a subtree exactly where `find-in` gives a path), and each takes at most as many bytes as its subtree in full; and the next step, where
+-- there is one, is refused, and bytes and tree stay.
 -- Finished is asked of the final state: a finish that a later `03` takes back is no claim about the final output. `read-back-run` is of any steps over the
 -- file, so it holds at every prefix of its own steps.
 -- Assumes nothing.
@@ -25,7 +25,7 @@ use Rattle.spec_session.specs.File.{File, Step, add, Limits, version-1, 
 use Rattle.spec_session.specs.Unfold.{unfolded}
 use Rattle.spec_session.specs.Filling.{plain-filling}
 use Rattle.spec_session.specs.Survivors.{survive, survivors}
-use Rattle.spec_session.specs.Premises.{opens, Apart, NoRestore, NoUndo, IfAny, number-after-finish}
+use Rattle.spec_session.specs.Premises.{opens, Apart, NoRestore, NoQuote, NoUndo, IfAny, number-after-finish}
 use Rattle.spec_session.specs.Items.{size-of, output, read-items, NoLonger}
 use Rattle.spec_session.specs.Output.{output-size}
 use Rattle.spec_session.specs.Writer.{Session, start, added, add-all}
@@ -65,7 +65,8 @@ pub record ReadBack {C : Type 0} (measure : List Bool → ℕ) (l : Limits) (f :
   -- The items read as that tree too, and each reference takes at most as many bytes as its subtree in full.
   pub items-read : read-items (made .written .items) ≡ some tree
   pub no-longer : NoLonger (made .written .items)
-  -- The word has the size, this step was the last one taken, and the next one, where there is one, gets its number: 9 at an add, 11 at an undo.
+  -- The word has the size, this step was the last one taken, and the next one, where there is one, gets its number: 9 at an add or a quote, 11 at an undo, 17
+  -- at a `05`.
   pub word : at (r .slices .words) k ≡ r .answer .size * 2 + 1
   pub last : r .answer .steps ≡ suc k
   pub number-is : r .answer .number ≡ number-after-finish next
@@ -93,10 +94,11 @@ module _ {C : Type 0} (blank : C) (l : Limits) (carried : l .file-bytes < 2 ^ 34
 
   -- Any steps over a file that was read.
   pub read-back-run : (input : List ℕ) → Bytes input → (f : File) (rest : List ℕ) → file l input ≡ got f rest → (slices : Slices C) (steps : List Step) (k : ℕ)
-      → suc k ≡ length (run-in f steps slices .words) → All NoRestore (take (suc k) steps) → Finished (run-in f steps slices .words) k
+      → suc k ≡ length (run-in f steps slices .words) → All NoRestore (take (suc k) steps) → IfAny NoQuote (nth steps k) → Finished (run-in f steps slices .words) k
       → Apart (map (unfolded f) (survivors (take (suc k) steps)))
       → ReadBack measure l f (survivors (take (suc k) steps)) k (nth steps (suc k)) (after-run blank (run-in f steps slices) slices)
-  read-back-run input bytes f rest file-is s steps k last no-02 fin apart = go (run-in f steps s) last (run-finish measure (usable l s) f steps k last fin)
+  read-back-run input bytes f rest file-is s steps k last no-02 no-04 fin apart =
+      go (run-in f steps s) last (run-finish measure (usable l s) f steps k last no-04 fin)
     where
       go : (r : Run) → suc k ≡ length (r .words) → Finish measure (usable l s) f steps k r
           → ReadBack measure l f (survivors (take (suc k) steps)) k (nth steps (suc k)) (after-run blank r s)
@@ -149,30 +151,30 @@ module _ {C : Type 0} (blank : C) (l : Limits) (carried : l .file-bytes < 2 ^ 34
 
   pub read-back-session : (input : List ℕ) → Bytes input → (f : File) (rest : List ℕ) → file l input ≡ got f rest → (slices : Slices C) (k : ℕ)
       → suc k ≡ session blank l measure input slices .answer .steps
-      → All NoRestore (take (suc k) (f .steps)) → Finished (session blank l measure input slices .slices .words) k
+      → All NoRestore (take (suc k) (f .steps)) → IfAny NoQuote (nth (f .steps) k) → Finished (session blank l measure input slices .slices .words) k
       → Apart (map (unfolded f) (survivors (take (suc k) (f .steps))))
       → ReadBack measure l f (survivors (take (suc k) (f .steps))) k (nth (f .steps) (suc k)) (session blank l measure input slices)
-  read-back-session input bytes f rest file-is s k last no-02 fin apart =
+  read-back-session input bytes f rest file-is s k last no-02 no-04 fin apart =
       let is = call-is input f rest file-is s k (omega arith) in
       let last′ : suc k ≡ length (run-in f (f .steps) s .words) = last ∙ ap (λ (r : Result C). r .answer .steps) is in
       let fin′ = finished-in-run (run-in f (f .steps) s) s k (omega arith) (subst (λ (r : Result C). Finished (r .slices .words) k) is fin) in
       subst (λ (r : Result C). ReadBack measure l f (survivors (take (suc k) (f .steps))) k (nth (f .steps) (suc k)) r) (sym is)
-      (read-back-run input bytes f rest file-is s (f .steps) k last′ no-02 fin′ apart)
+      (read-back-run input bytes f rest file-is s (f .steps) k last′ no-02 no-04 fin′ apart)
 
-  -- A step whose word says finished is the last one taken, where no undo comes next.
+  -- A step that is no `04` and whose word says finished is the last one taken, where no undo comes next.
   pub finished-last : (input : List ℕ) (f : File) (rest : List ℕ) → file l input ≡ got f rest → (slices : Slices C) (k : ℕ)
-      → k < session blank l measure input slices .answer .steps → Finished (session blank l measure input slices .slices .words) k
+      → k < session blank l measure input slices .answer .steps → IfAny NoQuote (nth (f .steps) k) → Finished (session blank l measure input slices .slices .words) k
       → IfAny NoUndo (nth (f .steps) (suc k)) → suc k ≡ session blank l measure input slices .answer .steps
-  finished-last input f rest file-is s k h fin no-undo =
+  finished-last input f rest file-is s k h no-04 fin no-undo =
       let is = call-is input f rest file-is s k h in
       let h′ : k < length (run-in f (f .steps) s .words) = subst (λ (r : Result C). k < r .answer .steps) is h in
       let fin′ = finished-in-run (run-in f (f .steps) s) s k h′ (subst (λ (r : Result C). Finished (r .slices .words) k) is fin) in
-      finish-last measure (usable l s) f (f .steps) k h′ fin′ no-undo ∙ sym (ap (λ (r : Result C). r .answer .steps) is)
+      finish-last measure (usable l s) f (f .steps) k h′ no-04 fin′ no-undo ∙ sym (ap (λ (r : Result C). r .answer .steps) is)
 
 -- Demand 3, of 01's call.
 pub demand-3 : {C : Type 0} (blank : C) (input : List ℕ) → Bytes input → (f : File) (rest : List ℕ) → file version-1 input ≡ got f rest → (slices : Slices C) (k : ℕ)
     → suc k ≡ session blank version-1 counted input slices .answer .steps
-    → All NoRestore (take (suc k) (f .steps)) → Finished (session blank version-1 counted input slices .slices .words) k
+    → All NoRestore (take (suc k) (f .steps)) → IfAny NoQuote (nth (f .steps) k) → Finished (session blank version-1 counted input slices .slices .words) k
     → Apart (map (unfolded f) (survivors (take (suc k) (f .steps))))
     → ReadBack counted version-1 f (survivors (take (suc k) (f .steps))) k (nth (f .steps) (suc k)) (session blank version-1 counted input slices)
 demand-3 blank = read-back-session blank version-1 (omega arith) (omega arith) counted counted-covers
@@ -185,7 +187,7 @@ take-adds zero (h ∷ hs) = refl
 take-adds (suc n) [] = refl
 take-adds (suc n) (h ∷ hs) = ap (λ (xs : List Step). add h ∷ xs) (take-adds n hs)
 
-survive-adds : (hs before : List ℕ) → survive (map add hs) before ≡ before ++ hs
+survive-adds : (hs before : List ℕ) → survive (map add hs) before none ≡ before ++ hs
 survive-adds [] before = sym (append-nil before)
 survive-adds (h ∷ hs) before = survive-adds hs (before ++ h ∷ []) ∙ append-assoc before (h ∷ []) hs
 
@@ -207,11 +209,12 @@ pub demand-3-adds : {C : Type 0} (blank : C) (input : List ℕ) → Bytes input 
 demand-3-adds {C} blank input bytes f rest file-is handles steps-are s k h fin apart =
     let no-undo : IfAny NoUndo (nth (f .steps) (suc k)) =
     subst (λ (xs : List Step). IfAny NoUndo (nth xs (suc k))) (sym steps-are) (nth-adds NoUndo (λ g. tt) handles (suc k)) in
+    let no-04 : IfAny NoQuote (nth (f .steps) k) = subst (λ (xs : List Step). IfAny NoQuote (nth xs k)) (sym steps-are) (nth-adds NoQuote (λ g. tt) handles k) in
     let steps-so : take (suc k) (f .steps) ≡ map add (take (suc k) handles) = ap (take (suc k)) steps-are ∙ take-adds (suc k) handles in
     let no-02 : All NoRestore (take (suc k) (f .steps)) = subst (All NoRestore) (sym steps-so) (all-adds NoRestore (λ g. tt) (take (suc k) handles)) in
     let hs-are : survivors (take (suc k) (f .steps)) ≡ take (suc k) handles = ap survivors steps-so ∙ survive-adds (take (suc k) handles) [] in
     let last : suc k ≡ session blank version-1 counted input s .answer .steps =
-    finished-last blank version-1 (omega arith) (omega arith) counted counted-covers input f rest file-is s k h fin no-undo in
+    finished-last blank version-1 (omega arith) (omega arith) counted counted-covers input f rest file-is s k h no-04 fin no-undo in
     subst (λ (xs : List Step). ReadBack counted version-1 f (take (suc k) handles) k (nth xs (suc k)) (session blank version-1 counted input s)) steps-are
     (subst (λ (hs : List ℕ). ReadBack counted version-1 f hs k (nth (f .steps) (suc k)) (session blank version-1 counted input s)) hs-are
-    (demand-3 blank input bytes f rest file-is s k last no-02 fin (subst (λ (hs : List ℕ). Apart (map (unfolded f) hs)) (sym hs-are) apart)))
+    (demand-3 blank input bytes f rest file-is s k last no-02 no-04 fin (subst (λ (hs : List ℕ). Apart (map (unfolded f) hs)) (sym hs-are) apart)))

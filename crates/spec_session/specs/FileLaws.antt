@@ -17,7 +17,7 @@ use Rattle.words.specs.Lists.{same}
 use Rattle.allocator.specs.Handle.{node-of}
 use Rattle.allocator.specs.SmallAtom.{fits-in-small-atom}
 use Rattle.spec_session.specs.File.{Got, got, refused, and-then, asked, bytes-of, field, count, version-1, listed, atom, atoms, named, handle}
-use Rattle.spec_session.specs.File.{Pair, one-pair, pairs, sentinel, Step, add, restore, forget, operand, one-step, steps, File, Limits, mark, after-mark, file}
+use Rattle.spec_session.specs.File.{Pair, one-pair, pairs, sentinel, Step, add, restore, forget, quote, take-quote, operand, one-step, steps, File, Limits, mark, after-mark, file}
 use Rattle.spec_session.specs.Places.{SentinelNamed, StepIs, StepNamed, step-size}
 
 not-refused : {A : Type 0} (n : ℕ) (a : A) (r : List ℕ) → _≡_ {A = Got A} (refused n) (got a r) → ⊥
@@ -205,7 +205,7 @@ module _ (input : List ℕ) where
       let t = then-of (field 1 (drop at input)) _ s r e in
       let f = field-at at 1 (t .first) (t .rest) (t .first-is) in
       let q = asked-of 5 (ltb done most) (operand a p (t .first) (t .rest)) s r (t .then-is) in
-      go (t .first) (f .is) (ltb-true done most (q .0)) (ap (operand a p (t .first)) (sym (f .rest-is)) ∙ q .1)
+      go (t .first) (f .is) (omega (arith, f .there)) (ltb-true done most (q .0)) (ap (operand a p (t .first)) (sym (f .rest-is)) ∙ q .1)
     where
       -- A step whose operand is a handle.
       with-handle : (make : ℕ → Step) → ((h : ℕ) → at + 5 ≤ length input → number (part input (at + 1) 4) ≡ h → StepIs input at (make h))
@@ -241,12 +241,21 @@ module _ (input : List ℕ) where
                 ∙ moved (at + 1 + 2) (at + step-size (make (t .first))) (omega (arith, size (t .first)));
           })
 
-      go : (code : ℕ) → code ≡ number (part input at 1) → done < most → operand a p code (drop (at + 1) input) ≡ got s r → StepAt a p done most at s r
-      go code c l =
+      -- A step with no operand.
+      alone : number (part input at 1) ≡ 5 → at + 1 ≤ length input → done < most → got take-quote (drop (at + 1) input) ≡ got s r → StepAt a p done most at s r
+      alone c there l q =
+          subst (λ (x : Step). StepAt a p done most at x r) (got-value take-quote s (drop (at + 1) input) r q)
+          (record { is = (there, c); names = tt; few = l; rest-is = sym (got-rest take-quote s (drop (at + 1) input) r q) })
+
+      go : (code : ℕ) → code ≡ number (part input at 1) → at + 1 ≤ length input → done < most → operand a p code (drop (at + 1) input) ≡ got s r
+          → StepAt a p done most at s r
+      go code c there l =
           by-code (StepAt a p done most at s r) code 1 _ _ s r (λ e. with-handle add (λ h i v. (i, sym c ∙ e, v)) (λ h n. n) (λ h. refl) l)
           (by-code (StepAt a p done most at s r) code 2 _ _ s r (λ e. with-number restore (λ k i v. (i, sym c ∙ e, v)) (λ k. tt) (λ k. refl) l)
           (by-code (StepAt a p done most at s r) code 3 _ _ s r (λ e. with-number forget (λ k i v. (i, sym c ∙ e, v)) (λ k. tt) (λ k. refl) l)
-          (λ q. absurd (not-refused 8 s r q))))
+          (by-code (StepAt a p done most at s r) code 4 _ _ s r (λ e. with-handle quote (λ h i v. (i, sym c ∙ e, v)) (λ h n. n) (λ h. refl) l)
+          (by-code (StepAt a p done most at s r) code 5 _ _ s r (λ e. alone (sym c ∙ e) there l)
+          (λ q. absurd (not-refused 8 s r q))))))
 
 -- ---- how many there are
 

@@ -1,12 +1,12 @@
 -- The premises of demand 3. Of the added trees: each holds the sentinel at one place at most, a shared pair counting wherever it is seen; and no pair above the
--- sentinel in one of them occurs in a later one. Of the steps: no `02`.
+-- sentinel in one of them occurs in a later one. Of the steps: no `02`, and the last one taken is no `04`.
 use Prim.Native.Nat.{ℕ, _+_, _≤_}
 use mathlib.Core.Path.{_≡_}
 use mathlib.Core.Logic.{_⊎_, _≢_}
 use mathlib.Core.List.{List, [], _∷_}
 use mathlib.Core.Option.{Option, none, some}
 use Rattle.spec_reading.specs.Tree.{Tree, place, atom, cons}
-use Rattle.spec_session.specs.File.{Step, add, restore, forget}
+use Rattle.spec_session.specs.File.{Step, add, restore, forget, quote, take-quote}
 use Rattle.spec_session.specs.Unfold.{Unfolded, hole, leaf, node, tree-of}
 
 -- The open places of a tree.
@@ -44,12 +44,24 @@ abbrev pub NoRestore : Step → Type 0
 NoRestore (add h) = Unit {0}
 NoRestore (restore n) = ⊥
 NoRestore (forget n) = Unit {0}
+NoRestore (quote h) = Unit {0}
+NoRestore take-quote = Unit {0}
+
+-- Any step but a `04`, whose word is not the session's.
+abbrev pub NoQuote : Step → Type 0
+NoQuote (add h) = Unit {0}
+NoQuote (restore n) = Unit {0}
+NoQuote (forget n) = Unit {0}
+NoQuote (quote h) = ⊥
+NoQuote take-quote = Unit {0}
 
 -- Any step but a `02` or a `03`.
 abbrev pub NoUndo : Step → Type 0
 NoUndo (add h) = Unit {0}
 NoUndo (restore n) = ⊥
 NoUndo (forget n) = ⊥
+NoUndo (quote h) = Unit {0}
+NoUndo take-quote = Unit {0}
 
 -- The number of a run whose session is finished, from the step that comes next.
 abbrev pub number-after-finish : Option Step → ℕ
@@ -57,6 +69,8 @@ number-after-finish none = 0
 number-after-finish (some (add h)) = 9
 number-after-finish (some (restore n)) = 11
 number-after-finish (some (forget n)) = 11
+number-after-finish (some (quote h)) = 9
+number-after-finish (some take-quote) = 17
 
 -- Of a step, if there is one.
 abbrev pub IfAny : (Step → Type 0) → Option Step → Type 0

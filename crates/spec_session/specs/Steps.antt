@@ -1,11 +1,11 @@
--- The steps of a session: 9 to 13, undo, and the word of each finished step.
+-- The steps of a session: 9 to 13 and 17, undo, quotes, and the word of each finished step.
 use Prim.Native.Nat.{ℕ, suc, _+_, _*_}
 use mathlib.Core.Bool.{Bool, true, false, cond}
 use mathlib.Core.List.{List, [], _∷_, _++_}
 use mathlib.Core.Option.{Option, none, some}
 use lib.Dec.{ltb}
 use lib.ListN.{length, take}
-use Rattle.spec_session.specs.File.{File, Step, add, restore, forget}
+use Rattle.spec_session.specs.File.{File, Step, add, restore, forget, quote, take-quote}
 use Rattle.spec_session.specs.Unfold.{unfolded}
 use Rattle.spec_session.specs.Items.{Item, cons-item, atom-item, reference-item, item-size, size-of}
 use Rattle.spec_session.specs.Writer.{Todo, parse, close, Session, start, Added, added, turned-down, add-tree}
@@ -61,9 +61,11 @@ pub record State : Type 0 where
   pub now : Session
   -- The whole session before each add on the present history.
   pub past : List Session
+  -- The handle of the open quote.
+  pub quoted : Option ℕ
 
 abbrev pub at-start : State
-at-start = record { now = start; past = [] }
+at-start = record { now = start; past = []; quoted = none }
 
 pub data Stepped : Type 0 where
   -- The step is finished, with this word.
@@ -79,12 +81,18 @@ unless-full (some k) false s x = x
 
 -- An add that 12 or 13 refuses leaves the whole items written.
 abbrev pub after-add : Added → State → Stepped
-after-add (added t) st = went (word-of t) (record { now = t; past = st .past ++ st .now ∷ [] })
+after-add (added t) st = went (word-of t) (record { now = t; past = st .past ++ st .now ∷ []; quoted = none })
 after-add (turned-down n t) st = halted n t
+
+-- "Step `04` with a handle writes the word an add would write and leaves the session and output unchanged." "Numbers 9, 10, 12 and 13 are given at the quote,
+-- and output and size are then those before it."
+abbrev pub after-quote : (handle : ℕ) → Added → State → Stepped
+after-quote h (added t) st = went (word-of t) (record { now = st .now; past = st .past; quoted = some h })
+after-quote h (turned-down n t) st = halted n (st .now)
 
 -- The session b comes back, which stood before add n.
 abbrev pub back-to : Session → (n : ℕ) → State → Stepped
-back-to b n st = went (word-of b) (record { now = b; past = take n (st .past) })
+back-to b n st = went (word-of b) (record { now = b; past = take n (st .past); quoted = none })
 
 -- Question 11: is the restore number below the count of adds on the present history?
 abbrev pub after-restore : Option Session → (n : ℕ) → State → Stepped
@@ -106,10 +114,23 @@ module _ (measure : List Bool → ℕ) (space : ℕ) (f : File) where
       let x = after-add (add-handle h (st .now)) st in
       unless-full (st .now .waiting) (ltb 15 (length (st .past))) (st .now) x
 
+  abbrev pub quote-step : (handle : ℕ) → State → Stepped
+  quote-step h st =
+      let x = after-quote h (add-handle h (st .now)) st in
+      unless-full (st .now .waiting) (ltb 15 (length (st .past))) (st .now) x
+
+  -- "Step `05` then performs that add and closes the quote." "It refuses a `05` with no quote open, at that step, with 17."
+  abbrev pub take-step : (quoted : Option ℕ) → State → Stepped
+  take-step none st = halted 17 (st .now)
+  take-step (some h) st = add-step h st
+
+  -- "Any other step drops the quote."
   abbrev pub run-step : Step → State → Stepped
   run-step (add h) st = add-step h st
   run-step (restore n) st = after-restore (nth (st .past) n) n st
   run-step (forget n) st = after-forget (nth (st .past) n) n st
+  run-step (quote h) st = quote-step h st
+  run-step take-quote st = take-step (st .quoted) st
 
 -- ---- the steps
 
