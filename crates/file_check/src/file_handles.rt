@@ -101,11 +101,18 @@ fn operand(file: &[u8], at: usize, atoms: u32, pairs: u32, code: u32) -> Part
     requires { ⌜ at ≤ length (now file) ⌝ }
     ensures { λ r. ⌜ Answers (now (file .entry)) operand-word r (file-format.operand atoms pairs code (drop at (now (file .entry)))) ⌝ }
 {
-    if code == 1 {
+    if code == 1 || code == 4 {
         return handle(file, at, atoms, pairs);
     }
     if code == 2 || code == 3 {
         return file_atoms::field(file, at, 2);
+    }
+    if code == 5 {
+        return Part {
+            number: 0,
+            value: 0,
+            next: at,
+        };
     }
     file_atoms::refusal(8)
 }

@@ -1,18 +1,21 @@
--- Laws of the loaders: what a turn stores, that the steps are read one by one, and that a forget among them is found.
+-- Laws of the loaders: what a turn stores, that the steps are read one by one, and that a forget or a quote among them is found.
 -- Assumes nothing.
 use Prim.Native.Nat.{ℕ, suc, _+_, _-_, _*_, _≤_, _<_}
 use mathlib.Core.Path.{_≡_, refl, sym, ap, subst, _∙_}
-use mathlib.Core.Bool.{true, false}
+use mathlib.Core.Bool.{true, false, cond}
+use mathlib.Core.Logic.{_⊎_, inl, inr}
 use mathlib.Core.List.{List, [], _∷_}
 use native.Mathlib.Omega.{arith}
 use native.Mathlib.Numerals.{add-one}
 use native.Mathlib.Nat.{le-antisymm}
+use lib.Dec.{eqb}
 use lib.ListN.{length, getD, take, drop, set, length-set}
 use lib.Seq.{drop-cons, getD-set-same, getD-set-other, drop-at}
-use Rattle.words.specs.Choice.{by-lt}
+use borrow.Author.Tests.{ne-eqb}
+use Rattle.words.specs.Choice.{by-cond, cond-false, by-lt}
 use Rattle.words.specs.Words.{at, part}
 use Rattle.words.specs.BigEndian.{number}
-use Rattle.spec_session.specs.File.{Pair, Step, add, restore, forget}
+use Rattle.spec_session.specs.File.{Pair, Step, add, restore, forget, quote, take-quote}
 use Rattle.spec_session.specs.Places.{AtomsAt, PairsAt, StepIs, StepsAt, step-size}
 use Rattle.file_parts.specs.Loaded.{AtomsThere, AtomPlace, AtomsLoaded, PairsThere, pair-of, PairsLoaded, FirstStep, forgets}
 use Rattle.file_parts.specs.declared.session_file.NextStep.{NextStep}
@@ -200,42 +203,58 @@ module _ (input : List ℕ) (place : ℕ) where
   step-room (add n) h = h .0
   step-room (restore k) h = h .0
   step-room (forget k) h = h .0
+  step-room (quote n) h = h .0
+  step-room take-quote h = h .0
 
-  -- Where what is left is shorter than every step that can stand there, none does.
-  pub step-short : (size : ℕ) → ((s : Step) → StepIs input place s → size ≤ step-size s) → length input - place < size → (ss : List Step) → StepsAt input place ss → ss ≡ []
-  step-short size least l [] h = refl
-  step-short size least l (s ∷ ss) h = absurd (omega (arith, least s (h .0), step-room s (h .0)))
+  -- The one step of this code that can stand there. A code that is no other's is a restore's.
+  abbrev pub coded : (code : ℕ) → Step
+  coded c =
+      cond (eqb c 5) take-quote
+      (cond (eqb c 1) (add (number (part input (place + 1) 4)))
+      (cond (eqb c 4) (quote (number (part input (place + 1) 4)))
+      (cond (eqb c 3) (forget (number (part input (place + 1) 2))) (restore (number (part input (place + 1) 2))))))
 
-  -- The one step that can stand there, of this size.
-  abbrev Only : Step → ℕ → Type 0
-  Only x size = (s : Step) → StepIs input place s → (s ≡ x) × (step-size s ≡ size)
+  module _ (c : ℕ) (e : c ≡ number (part input place 1)) where
+    -- Whatever stands there is that one.
+    is-coded : (s : Step) → StepIs input place s → s ≡ coded c
+    is-coded (add n) h = ap add (sym (h .2)) ∙ ap coded (sym (e ∙ h .1))
+    is-coded (restore k) h = ap restore (sym (h .2)) ∙ ap coded (sym (e ∙ h .1))
+    is-coded (forget k) h = ap forget (sym (h .2)) ∙ ap coded (sym (e ∙ h .1))
+    is-coded (quote n) h = ap quote (sym (h .2)) ∙ ap coded (sym (e ∙ h .1))
+    is-coded take-quote h = ap coded (sym (e ∙ h .1))
 
-  -- That step is the first.
-  pub step-first : (x : Step) (size : ℕ) → Only x size → place < length input → (ss : List Step) → StepsAt input place ss
-      → (rest : List Step) × (ss ≡ x ∷ rest) × StepsAt input (place + size) rest
-  step-first x size only l [] h = absurd (omega arith)
-  step-first x size only l (s ∷ ss) h =
-      let o = only s (h .0) in (ss, ap (λ (y : Step). y ∷ ss) (o .0), subst (λ (n : ℕ). StepsAt input (place + n) ss) (o .1) (h .1))
+    -- Where what is left is shorter, no step stands there.
+    pub step-short : (size : ℕ) → size ≤ step-size (coded c) → length input - place < size → (ss : List Step) → StepsAt input place ss → ss ≡ []
+    step-short size least l [] h = refl
+    step-short size least l (s ∷ ss) h = absurd (omega (arith, ap step-size (is-coded s (h .0)), step-room s (h .0)))
 
-  module _ (c : ℕ) (e : c ≡ number (part input place 1)) (v : ℕ) where
-    pub add-only : c ≡ 1 → v ≡ number (part input (place + 1) 4) → Only (add v) 5
-    add-only one d (add n) h = (ap add (sym (h .2) ∙ sym d), refl)
-    add-only one d (restore k) h = absurd (omega (arith, h .1))
-    add-only one d (forget k) h = absurd (omega (arith, h .1))
+    -- That step is the first.
+    pub step-first : (x : Step) → x ≡ coded c → place < length input → (ss : List Step) → StepsAt input place ss
+        → (rest : List Step) × (ss ≡ x ∷ rest) × StepsAt input (place + step-size x) rest
+    step-first x d l [] h = absurd (omega arith)
+    step-first x d l (s ∷ ss) h =
+        let o : s ≡ x = is-coded s (h .0) ∙ sym d in (ss, ap (λ (y : Step). y ∷ ss) o, subst (λ (y : Step). StepsAt input (place + step-size y) ss) o (h .1))
 
-    pub forget-only : c ≡ 3 → v ≡ number (part input (place + 1) 2) → Only (forget v) 3
-    forget-only three d (add n) h = absurd (omega (arith, h .1))
-    forget-only three d (restore k) h = absurd (omega (arith, h .1))
-    forget-only three d (forget k) h = (ap forget (sym (h .2) ∙ sym d), refl)
+  module _ (c : ℕ) where
+    -- An add or a quote has a handle.
+    pub handle-size : (c ≡ 1) ⊎ (c ≡ 4) → 5 ≤ step-size (coded c)
+    handle-size (inl e) = omega (arith, ap (λ (k : ℕ). step-size (coded k)) e)
+    handle-size (inr e) = omega (arith, ap (λ (k : ℕ). step-size (coded k)) e)
 
-    pub restore-only : (c ≡ 1 → ⊥) → (c ≡ 3 → ⊥) → v ≡ number (part input (place + 1) 2) → Only (restore v) 3
-    restore-only no-add no-forget d (add n) h = absurd (no-add (e ∙ h .1))
-    restore-only no-add no-forget d (restore k) h = (ap restore (sym (h .2) ∙ sym d), refl)
-    restore-only no-add no-forget d (forget k) h = absurd (no-forget (e ∙ h .1))
+    -- A step that is neither of them and no taking has a number.
+    module _ (d₅ : c ≡ 5 → ⊥) (d₁ : c ≡ 1 → ⊥) (d₄ : c ≡ 4 → ⊥) where
+      numbered : coded c ≡ cond (eqb c 3) (forget (number (part input (place + 1) 2))) (restore (number (part input (place + 1) 2)))
+      numbered = cond-false (eqb c 5) _ _ (ne-eqb c 5 d₅) ∙ cond-false (eqb c 1) _ _ (ne-eqb c 1 d₁) ∙ cond-false (eqb c 4) _ _ (ne-eqb c 4 d₄)
 
--- ---- whether a step forgets
+      pub number-size : 3 ≤ step-size (coded c)
+      number-size = subst (λ (s : Step). 3 ≤ step-size s) (sym numbered) (by-cond (λ (s : Step). 3 ≤ step-size s) (eqb c 3) _ _ (λ t. omega arith) (λ t. omega arith))
 
--- The steps from `place` on have a forget where those from `at` on have one.
+      pub restore-coded : (c ≡ 3 → ⊥) → coded c ≡ restore (number (part input (place + 1) 2))
+      restore-coded d₃ = numbered ∙ cond-false (eqb c 3) _ _ (ne-eqb c 3 d₃)
+
+-- ---- whether a step is a forget or a quote
+
+-- The steps from `place` on have a forget or a quote where those from `at` on have one.
 abbrev pub ForgetsOn : List ℕ → (at place : ℕ) → Type 0
 ForgetsOn input at place = (ss : List Step) → StepsAt input at ss → (rest : List Step) × StepsAt input place rest × (forgets ss ≡ forgets rest)
 
@@ -244,6 +263,8 @@ abbrev pub ForgetsAfter : List ℕ → (at : ℕ) → NextStep → Type 0
 ForgetsAfter input at (next-step.Add node next) = ForgetsOn input at next
 ForgetsAfter input at (next-step.Restore k next) = ForgetsOn input at next
 ForgetsAfter input at (next-step.Forget k next) = (ss : List Step) → StepsAt input at ss → true ≡ forgets ss
+ForgetsAfter input at (next-step.Quote node next) = (ss : List Step) → StepsAt input at ss → true ≡ forgets ss
+ForgetsAfter input at (next-step.Take next) = ForgetsOn input at next
 ForgetsAfter input at next-step.End = (ss : List Step) → StepsAt input at ss → false ≡ forgets ss
 
 pub forgets-after : (input : List ℕ) (at place : ℕ) → ForgetsOn input at place
@@ -251,4 +272,6 @@ pub forgets-after : (input : List ℕ) (at place : ℕ) → ForgetsOn input at p
 forgets-after input at place on (next-step.Add node next) first = λ ss h. let o = on ss h in let f = first (o .0) (o .1) in (f .0, f .2, o .2 ∙ ap forgets (f .1))
 forgets-after input at place on (next-step.Restore k next) first = λ ss h. let o = on ss h in let f = first (o .0) (o .1) in (f .0, f .2, o .2 ∙ ap forgets (f .1))
 forgets-after input at place on (next-step.Forget k next) first = λ ss h. let o = on ss h in sym (o .2 ∙ ap forgets (first (o .0) (o .1) .1))
+forgets-after input at place on (next-step.Quote node next) first = λ ss h. let o = on ss h in sym (o .2 ∙ ap forgets (first (o .0) (o .1) .1))
+forgets-after input at place on (next-step.Take next) first = λ ss h. let o = on ss h in let f = first (o .0) (o .1) in (f .0, f .2, o .2 ∙ ap forgets (f .1))
 forgets-after input at place on next-step.End first = λ ss h. let o = on ss h in sym (o .2 ∙ ap forgets (first (o .0) (o .1)))

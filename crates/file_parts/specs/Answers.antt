@@ -6,7 +6,7 @@ use lib.Dec.{leb}
 use lib.ListN.{length, drop}
 use Rattle.allocator.specs.SmallAtom.{fits-in-small-atom}
 use Rattle.file_parts.specs.declared.session_file.Part.{Part}
-use Rattle.spec_session.specs.File.{Got, got, refused, and-then, asked, bytes-of, listed, Pair, Step, add, restore, forget}
+use Rattle.spec_session.specs.File.{Got, got, refused, and-then, asked, bytes-of, listed, Pair, Step, add, restore, forget, quote, take-quote}
 
 -- A value that was read, as the word v, with the bytes after it.
 pub record Gives (input : List ℕ) (v : ℕ) (rest : List ℕ) (p : Part) : Type 0 where
@@ -46,6 +46,8 @@ abbrev pub operand-word : Step → ℕ
 operand-word (add h) = h
 operand-word (restore k) = k
 operand-word (forget k) = k
+operand-word (quote h) = h
+operand-word take-quote = 0
 
 -- ---- an atom after its length n
 

@@ -1,4 +1,4 @@
--- What loading the atoms and the pairs of a session file leaves in a table of words, what the next step of the file is, and whether one forgets.
+-- What loading the atoms and the pairs of a session file leaves in a table of words, what the next step of the file is, and whether one can take back all of an add.
 use Prim.Native.Nat.{ℕ, _+_, _-_, _*_, _≤_, _<_}
 use mathlib.Core.Path.{_≡_}
 use mathlib.Core.Bool.{Bool, true, false}
@@ -7,7 +7,7 @@ use lib.ListN.{length, getD, take, drop}
 use Rattle.words.specs.Words.{at}
 use Rattle.file_parts.specs.declared.session_file.NextStep.{NextStep}
 use Rattle.file_parts.specs.declared.session_file.NextStep.the-variants as next-step
-use Rattle.spec_session.specs.File.{Pair, Step, add, restore, forget}
+use Rattle.spec_session.specs.File.{Pair, Step, add, restore, forget, quote, take-quote}
 use Rattle.spec_session.specs.Places.{AtomsAt, PairsAt, StepsAt}
 
 -- ---- atoms
@@ -55,6 +55,8 @@ abbrev pub FirstStep : List ℕ → List Step → NextStep → Type 0
 FirstStep input ss (next-step.Add node next) = (rest : List Step) × (ss ≡ add (node .0) ∷ rest) × StepsAt input next rest
 FirstStep input ss (next-step.Restore number next) = (rest : List Step) × (ss ≡ restore number ∷ rest) × StepsAt input next rest
 FirstStep input ss (next-step.Forget number next) = (rest : List Step) × (ss ≡ forget number ∷ rest) × StepsAt input next rest
+FirstStep input ss (next-step.Quote node next) = (rest : List Step) × (ss ≡ quote (node .0) ∷ rest) × StepsAt input next rest
+FirstStep input ss (next-step.Take next) = (rest : List Step) × (ss ≡ take-quote ∷ rest) × StepsAt input next rest
 FirstStep input ss next-step.End = ss ≡ []
 
 -- The step after this one begins beyond it and within the file, whatever the bytes are.
@@ -62,11 +64,15 @@ abbrev pub Beyond : List ℕ → (at : ℕ) → NextStep → Type 0
 Beyond input at (next-step.Add node next) = (at < next) × (next ≤ length input)
 Beyond input at (next-step.Restore number next) = (at < next) × (next ≤ length input)
 Beyond input at (next-step.Forget number next) = (at < next) × (next ≤ length input)
+Beyond input at (next-step.Quote node next) = (at < next) × (next ≤ length input)
+Beyond input at (next-step.Take next) = (at < next) × (next ≤ length input)
 Beyond input at next-step.End = Unit {0}
 
--- Whether one of the steps is a `03`.
+-- Whether one of the steps is a `03` or a `04`, which is taken back as a `03` does.
 abbrev pub forgets : List Step → Bool
 forgets [] = false
 forgets (add h ∷ ss) = forgets ss
 forgets (restore k ∷ ss) = forgets ss
 forgets (forget k ∷ ss) = true
+forgets (quote h ∷ ss) = true
+forgets (take-quote ∷ ss) = forgets ss

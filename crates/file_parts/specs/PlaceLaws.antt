@@ -11,7 +11,7 @@ use lib.ListN.{length, drop, length-append, drop-of-length-le}
 use lib.Seq.{drop-cons, drop-at}
 use Rattle.words.specs.Choice.{by-lt}
 use Rattle.words.specs.Lists.{All, same}
-use Rattle.spec_session.specs.File.{got, and-then, field, count, version-1, atom, atoms, Pair, one-pair, pairs, sentinel, Step, add, restore, forget, one-step, steps, File}
+use Rattle.spec_session.specs.File.{got, and-then, field, count, version-1, atom, atoms, Pair, one-pair, pairs, sentinel, Step, add, restore, forget, quote, take-quote, one-step, steps, File}
 use Rattle.spec_session.specs.Places.{AtomsAt, PairsAt, StepsAt, StepIs, step-size, PairsNamed, StepNamed, ListedAtom}
 use Rattle.file_parts.specs.Checked.{Contents}
 use Rattle.spec_session.specs.FileLaws.{then-of, asked-of, got-value, got-rest, field-at, atom-at, pair-at, step-at, sentinel-named, count-most, pairs-long, steps-most}
@@ -23,10 +23,12 @@ onward done x more xs e = e ∙ append-assoc done (x ∷ []) more
 one-longer : {A : Type 0} (done : List A) (x : A) → length (done ++ x ∷ []) ≡ suc (length done)
 one-longer done x = length-append done (x ∷ []) ∙ add-one (length done)
 
-pub size-low : (x : Step) → 3 ≤ step-size x
+pub size-low : (x : Step) → 1 ≤ step-size x
 size-low (add h) = omega arith
 size-low (restore k) = omega arith
 size-low (forget k) = omega arith
+size-low (quote h) = omega arith
+size-low take-quote = omega arith
 
 module _ (input : List ℕ) where
   -- Atoms that were read from a place on, after those that were there.

@@ -67,14 +67,19 @@ pub fn next_step(file: &[u8], at: usize) -> NextStep
     }
     let left = file.len() - at;
     let code = session_file::number_at(file, at, 1);
-    if code == 1 {
+    if code == 5 {
+        return NextStep::Take { next: at + 1 };
+    }
+    if code == 1 || code == 4 {
         if left < 5 {
             return NextStep::End;
         }
-        return NextStep::Add {
-            node: NodePtr(session_file::number_at(file, at + 1, 4)),
-            next: at + 5,
-        };
+        let node = NodePtr(session_file::number_at(file, at + 1, 4));
+        let next = at + 5;
+        if code == 4 {
+            return NextStep::Quote { node, next };
+        }
+        return NextStep::Add { node, next };
     }
     if left < 3 {
         return NextStep::End;
@@ -87,7 +92,7 @@ pub fn next_step(file: &[u8], at: usize) -> NextStep
     NextStep::Restore { number, next }
 }
 
-// Whether one of the steps from this place on is a forget.
+// Whether one of the steps from this place on is a forget or a quote.
 pub fn has_forget(file: &[u8], at: usize) -> bool
     ensures { λ r. ⌜ ((ss : List Step) → StepsAt (now (file .entry)) at ss → r ≡ forgets ss) ⌝ }
 {
@@ -102,6 +107,12 @@ pub fn has_forget(file: &[u8], at: usize) -> bool
             }
             NextStep::Forget { number: _, next: _ } => {
                 return true;
+            }
+            NextStep::Quote { node: _, next: _ } => {
+                return true;
+            }
+            NextStep::Take { next } => {
+                place = next;
             }
             NextStep::End => {
                 return false;

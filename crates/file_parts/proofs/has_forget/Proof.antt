@@ -1,4 +1,4 @@
--- `has_forget` meets its contract. The invariant: the steps from the present place on have a forget where all of them have one.
+-- `has_forget` meets its contract. The invariant: the steps from the present place on have a forget or a quote where all of them have one.
 -- Assumes nothing.
 use Prim.Native.Nat.{_-_}
 use mathlib.Core.Path.{_≡_, refl, subst}
@@ -63,6 +63,21 @@ enum-told-2 c = search needs
 returns-2 : tie.Need-returns-2 Inv-loop μ-loop
 returns-2 c = told (c .before .before) _ (c .enum-told2 .given .1)
 
+enum-known-next-3 : tie.Need-enum-known-next-3 Inv-loop μ-loop
+enum-known-next-3 c = search needs
+
+loop-less-3 : tie.Need-loop-less-3 Inv-loop μ-loop
+loop-less-3 c = let b = beyond (c .before .before .before) _ (c .before .next3 .given .1) in omega (arith, b .0, b .1)
+
+loop-again-3 : tie.Need-loop-again-3 Inv-loop μ-loop
+loop-again-3 c = told (c .before .before .before) _ (c .before .next3 .given .1)
+
+enum-told-3 : tie.Need-enum-told-3 Inv-loop μ-loop
+enum-told-3 c = search needs
+
+returns-3 : tie.Need-returns-3 Inv-loop μ-loop
+returns-3 c = told (c .before .before) _ (c .enum-told3 .given .1)
+
 pub has-forget-spec : {M : Type 1} → statement M
 has-forget-spec =
     tie.close
@@ -80,4 +95,9 @@ has-forget-spec =
     enum-told
     returns
     enum-told-2
-    returns-2)
+    returns-2
+    enum-known-next-3
+    loop-less-3
+    loop-again-3
+    enum-told-3
+    returns-3)

@@ -23,7 +23,7 @@ use Rattle.allocator.specs.declared.FitsInSmallAtom.{FitsInSmallAtom}
 use Rattle.allocator.specs.declared.FitsInSmallAtom.the-variants.{Small, Listed}
 use Rattle.file_parts.specs.declared.session_file.Part.{Part}
 use Rattle.spec_session.specs.File as format
-use Rattle.spec_session.specs.File.{Got, got, refused, and-then, asked, bytes-of, field, count, version-1, listed, named, handle, one-pair, operand, one-step, add, restore, forget}
+use Rattle.spec_session.specs.File.{Got, got, refused, and-then, asked, bytes-of, field, count, version-1, listed, named, handle, one-pair, operand, one-step, add, restore, forget, quote, take-quote}
 use Rattle.file_parts.specs.Answers.{Answers, itself, sized, pair-word, operand-word, atom-of}
 use Rattle.spec_session.specs.Sentinel.{sentinel-word}
 
@@ -282,18 +282,27 @@ module _ (input : List ℕ) (q : Part) (at na np code : ℕ) where
   of-code : (n : ℕ) → code ≡ n → Answers input operand-word q (operand na np n (drop at input)) → Answers input operand-word q (operand na np code (drop at input))
   of-code n e a = subst (λ (k : ℕ). Answers input operand-word q (operand na np k (drop at input))) (sym e) a
 
-  pub operand-add : code ≡ 1 → Answers input itself q (handle na np (drop at input)) → Answers input operand-word q (operand na np code (drop at input))
-  operand-add e a = of-code 1 e (mapped input itself operand-word q (handle na np (drop at input)) add (λ k. refl) a)
+  -- The handle of an add or of a quote.
+  pub operand-handle : (code ≡ 1) ⊎ (code ≡ 4) → Answers input itself q (handle na np (drop at input)) → Answers input operand-word q (operand na np code (drop at input))
+  operand-handle (inl e) a = of-code 1 e (mapped input itself operand-word q (handle na np (drop at input)) add (λ k. refl) a)
+  operand-handle (inr e) a = of-code 4 e (mapped input itself operand-word q (handle na np (drop at input)) quote (λ k. refl) a)
 
   -- The number of a restore or of a forget.
   pub operand-number : (code ≡ 2) ⊎ (code ≡ 3) → Answers input itself q (field 2 (drop at input)) → Answers input operand-word q (operand na np code (drop at input))
   operand-number (inl e) a = of-code 2 e (mapped input itself operand-word q (field 2 (drop at input)) restore (λ k. refl) a)
   operand-number (inr e) a = of-code 3 e (mapped input itself operand-word q (field 2 (drop at input)) forget (λ k. refl) a)
 
-  pub operand-unknown : (code ≡ 1 → ⊥) → (code ≡ 2 → ⊥) → (code ≡ 3 → ⊥) → q .number ≡ 8 → Answers input operand-word q (operand na np code (drop at input))
-  operand-unknown d₁ d₂ d₃ e =
+  -- A taking has none.
+  pub operand-take : code ≡ 5 → q .number ≡ 0 → q .value ≡ 0 → q .next ≡ at → at ≤ length input → Answers input operand-word q (operand na np code (drop at input))
+  operand-take e z v n i =
+      of-code 5 e (gives input operand-word q (got take-quote (drop at input)) take-quote (ap (λ (k : ℕ). got take-quote (drop k input)) (sym n)) z v (omega arith))
+
+  pub operand-unknown : (code ≡ 1 → ⊥) → (code ≡ 2 → ⊥) → (code ≡ 3 → ⊥) → (code ≡ 4 → ⊥) → (code ≡ 5 → ⊥) → q .number ≡ 8
+      → Answers input operand-word q (operand na np code (drop at input))
+  operand-unknown d₁ d₂ d₃ d₄ d₅ e =
       refuses input operand-word q (operand na np code (drop at input)) 8
-      (cond-false (eqb code 1) _ _ (ne-eqb code 1 d₁) ∙ cond-false (eqb code 2) _ _ (ne-eqb code 2 d₂) ∙ cond-false (eqb code 3) _ _ (ne-eqb code 3 d₃))
+      (cond-false (eqb code 1) _ _ (ne-eqb code 1 d₁) ∙ cond-false (eqb code 2) _ _ (ne-eqb code 2 d₂) ∙ cond-false (eqb code 3) _ _ (ne-eqb code 3 d₃)
+      ∙ cond-false (eqb code 4) _ _ (ne-eqb code 4 d₄) ∙ cond-false (eqb code 5) _ _ (ne-eqb code 5 d₅))
       e (omega arith) (omega arith)
 
 module _ (input : List ℕ) (p : Part) (at na np done : ℕ) (h : Answers input itself p (field 1 (drop at input))) where
