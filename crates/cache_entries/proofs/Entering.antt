@@ -107,7 +107,7 @@ made-entered a w w′ h x m is =
       low = m .low;
       more = m .more;
       bounded = λ p l k.
-          let u = unmapped-same w w′ p k (m .maps) in
+          let u = unmapped-same w w′ p (λ i h. m .maps i (omega arith)) in
           let n = m .counts in
           record { room = omega (arith, m .few); counts = omega arith };
       maps = λ k l n. m .maps k n;

@@ -81,10 +81,10 @@ module _ (w w′ : List ℕ) (same : (k : ℕ) → k < OPEN → at w′ k ≡ at
 -- ---- the pairs without an entry
 
 -- The same map, the same number.
-pub unmapped-same : (w w′ : List ℕ) (n : ℕ) → n ≤ 1024 → ((k : ℕ) → k < 1024 → at w′ (MAPS + k) ≡ at w (MAPS + k)) → unmapped w′ n ≡ unmapped w n
+pub unmapped-same : (w w′ : List ℕ) (n : ℕ) → ((k : ℕ) → k < n → at w′ (MAPS + k) ≡ at w (MAPS + k)) → unmapped w′ n ≡ unmapped w n
 unfolding unmapped
-unmapped-same w w′ zero h same = refl
-unmapped-same w w′ (suc n) h same = rw (same n (omega arith), unmapped-same w w′ n (omega arith) same)
+unmapped-same w w′ zero same = refl
+unmapped-same w w′ (suc n) same = rw (same n (omega arith), unmapped-same w w′ n (λ k l. same k (omega arith)))
 
 -- The pairs from s on are as they were, so the difference is made below s.
 pub unmapped-above : (w w′ : List ℕ) (s p : ℕ) → s ≤ p → p ≤ 1024 → ((k : ℕ) → s ≤ k → k < 1024 → at w′ (MAPS + k) ≡ at w (MAPS + k))

@@ -92,7 +92,7 @@ module _ {w w₁ : List ℕ} (h : ℕ) {n : ℕ} (wh : Whole w) (names : Names w
   few = wh .handles .few-pairs
 
   same-unmapped : (p : ℕ) → p ≤ 1024 → unmapped w₁ p ≡ unmapped w p
-  same-unmapped p l = unmapped-same w w₁ p l (c₁ .maps)
+  same-unmapped p l = unmapped-same w w₁ p (λ k h. c₁ .maps k (omega arith))
 
   names₁ : Names w₁ (at w₁ PAIR-COUNT) h
   names₁ = rw (c₁ .below ATOM-COUNT (omega arith), c₁ .below PAIR-COUNT (omega arith)) names
@@ -139,7 +139,7 @@ module _ {w w₁ : List ℕ} (h : ℕ) {n : ℕ} (wh : Whole w) (names : Names w
           let s = names-span w (at w PAIR-COUNT) h names in
           let b = e₂ .bounded (at w PAIR-COUNT) s few in
           let m = same-unmapped (at w PAIR-COUNT) few in
-          let m₃ = unmapped-same w₂ w₃ (at w PAIR-COUNT) few maps₃ in
+          let m₃ = unmapped-same w₂ w₃ (at w PAIR-COUNT) (λ k l. maps₃ k (omega (arith, few))) in
           let u = c₁ .used in
           let v = p .used in
           record { room = omega (arith, b .room); counts = omega (arith, b .counts, c₁ .counts, p .counts) }

@@ -6,6 +6,7 @@ use work_layout::COPY;
 use work_layout::COUNTS;
 use work_layout::EntryIndex;
 use work_layout::MAPS;
+use work_layout::PAIR_COUNT;
 use work_layout::USED;
 use work_layout::parents;
 ghost use mathlib.Core.Path.{_≡_};
@@ -13,7 +14,7 @@ ghost use Prim.Native.Nat.{ℕ, _+_, _*_, _≤_, _<_};
 ghost use lib.ListN.{length};
 ghost use mathlib.Core.List.{List};
 ghost use Rattle.words.specs.Words.{at, WORK};
-ghost use Rattle.work_layout.specs.Layout.{COUNTS, SEEN, COPIES, USED, ENTRIES, MAX-PARENTS};
+ghost use Rattle.work_layout.specs.Layout.{PAIR-COUNT, COUNTS, SEEN, COPIES, USED, ENTRIES, MAX-PARENTS};
 ghost use Rattle.work_layout.specs.Rows.{Sound, all-counts, further, all-further};
 ghost use Rattle.cache_undo.specs.cache_copy.Contracts.{ListSaved, ListsSaved, CacheSaved};
 ghost use Rattle.cache_undo.specs.cache_copy.Contracts.{TakenOff, ListBrought, ListsBrought, Bringable, CacheBrought};
@@ -29,9 +30,6 @@ const COPIED_COUNTS: usize = 9314;
 const COPIED_FIRSTS: usize = 12386;
 
 const COPIED_FURTHERS: usize = 15458;
-
-// The words of the map of pairs.
-const PAIRS_MAPPED: usize = 1024;
 
 // The further words of the n parents of entry e stand from `to` on too. Answers where they end.
 fn save_list(work: &mut [u32], e: EntryIndex, n: usize, to: usize) -> usize
@@ -66,16 +64,17 @@ fn save_lists(work: &mut [u32], n: usize, to: usize)
     }
 }
 
-// Copy k gets the cache.
+// Copy k gets the cache. Of the map it gets as many words as the file has pairs.
 pub fn save(work: &mut [u32], k: usize)
-    requires { ⌜ (Sound (now work)) × (all-counts (now work) ENTRIES ≤ 2048) × (k < 16) ⌝ }
+    requires { ⌜ (Sound (now work)) × (all-counts (now work) ENTRIES ≤ 2048) × (at (now work) PAIR-COUNT ≤ 1024) × (k < 16) ⌝ }
     ensures { λ _. ⌜ CacheSaved (now (work .entry)) (now (work .exit)) k ⌝ }
 {
     let to = COPIES + k * COPY;
     let used = work[USED];
     let n = wide(used);
+    let pairs = wide(work[PAIR_COUNT]);
     work[to + COPIED_USED] = used;
-    slices::copy_within(work, MAPS, to + COPIED_MAPS, PAIRS_MAPPED);
+    slices::copy_within(work, MAPS, to + COPIED_MAPS, pairs);
     slices::copy_within(work, COUNTS, to + COPIED_COUNTS, n);
     parents::save_first_links(work, n, to + COPIED_FIRSTS);
     save_lists(work, n, to + COPIED_FURTHERS);
@@ -137,8 +136,9 @@ pub fn bring(work: &mut [u32], k: usize)
 {
     let from = COPIES + k * COPY;
     let n = wide(work[from + COPIED_USED]);
+    let pairs = wide(work[PAIR_COUNT]);
     take_off(work, n);
-    slices::copy_within(work, from + COPIED_MAPS, MAPS, PAIRS_MAPPED);
+    slices::copy_within(work, from + COPIED_MAPS, MAPS, pairs);
     slices::copy_within(work, from + COPIED_COUNTS, COUNTS, n);
     parents::bring_first_links(work, n, from + COPIED_FIRSTS);
     bring_lists(work, n, from + COPIED_FURTHERS);

@@ -62,7 +62,7 @@ module _ (w w′ : List ℕ) (len : length w′ ≡ length w) (low : (k : ℕ) �
       }
 
   pub unmapped-kept : unmapped w′ (at w′ PAIR-COUNT) ≡ unmapped w (at w PAIR-COUNT)
-  unmapped-kept = rw (low PAIR-COUNT (omega arith)) (unmapped-same w w′ (at w PAIR-COUNT) (wh .handles .few-pairs) maps)
+  unmapped-kept = rw (low PAIR-COUNT (omega arith)) (unmapped-same w w′ (at w PAIR-COUNT) (λ k l. maps k (omega (arith, wh .handles .few-pairs))))
 
   pub all-counts-kept : all-counts w′ ENTRIES ≡ all-counts w ENTRIES
   all-counts-kept = counts-kept w w′ len cache (wh .sound) ENTRIES (omega arith)

@@ -8,7 +8,7 @@ use native.Mathlib.Decide.{ℕ-discrete, decLt}
 use lib.ListN.{length}
 use Rattle.words.specs.Words.{at, WORK}
 use Rattle.words.proofs.Copies.{Copied}
-use Rattle.work_layout.specs.Layout.{MAPS, SENTINEL-ENTRY, USED, COUNTS, LEFT, HEADS, PARENTS, SEEN, ENTRIES, MAX-PARENTS}
+use Rattle.work_layout.specs.Layout.{PAIR-COUNT, MAPS, SENTINEL-ENTRY, USED, COUNTS, LEFT, HEADS, PARENTS, SEEN, ENTRIES, MAX-PARENTS}
 use Rattle.work_layout.specs.Rows.{links-at, slot-at, prev, further, all-further}
 use Rattle.work_layout.specs.Parents.{LinksSet, link-of-links}
 use Rattle.work_layout.specs.Counts.{counts-upto, further-same, further-few}
@@ -59,17 +59,20 @@ lists-brought-more w w₁ w₂ e n from next h q o p s t = record {
 
 -- ---- the cache: w₄ has all but the further words
 
-module _ (v w w₁ w₂ w₃ w₄ : List ℕ) (k n : ℕ) (hk : k < 16) (b : Bringable v w k) (hn : n ≡ at w (copied-used k)) (off : TakenOff w w₁ n)
-    (maps : Copied w₁ w₂ (copied-maps k) MAPS 1024) (counts : Copied w₂ w₃ (copied-counts k) COUNTS n) (firsts : Copied w₃ w₄ (copied-firsts k) PARENTS n) where
+module _ (v w w₁ w₂ w₃ w₄ : List ℕ) (k n m : ℕ) (hk : k < 16) (b : Bringable v w k) (hn : n ≡ at w (copied-used k)) (hm : m ≡ at w PAIR-COUNT) (off : TakenOff w w₁ n)
+    (maps : Copied w₁ w₂ (copied-maps k) MAPS m) (counts : Copied w₂ w₃ (copied-counts k) COUNTS n) (firsts : Copied w₃ w₄ (copied-firsts k) PARENTS n) where
   n-is : n ≡ at v USED
   n-is = hn ∙ b .copied .used
 
   n-few : n ≤ ENTRIES
   n-few = omega (arith, n-is, b .then-sound .used)
 
+  m-few : m ≤ 1024
+  m-few = omega (arith, b .few-pairs)
+
   -- What lies above the parents, the copy too, is as it was.
   above-before : (j : ℕ) → SEEN ≤ j → at w₃ j ≡ at w j
-  above-before j l = let z = n-few in counts .other j (λ q. omega arith) ∙ maps .other j (λ q. omega arith) ∙ off .high j (omega arith)
+  above-before j l = let z = n-few in counts .other j (λ q. omega arith) ∙ maps .other j (λ q. omega (arith, m-few)) ∙ off .high j (omega arith)
 
   above : (j : ℕ) → SEEN ≤ j → at w₄ j ≡ at w j
   above j l = let z = n-few in firsts .other j (λ q. omega arith) ∙ above-before j l
@@ -78,7 +81,7 @@ module _ (v w w₁ w₂ w₃ w₄ : List ℕ) (k n : ℕ) (hk : k < 16) (b : Bri
   count e l =
       let z = n-is in
       let y = n-few in
-      firsts .other (COUNTS + e) (λ q. omega arith) ∙ counts .here e l ∙ maps .other (copied-counts k + e) (λ q. omega arith)
+      firsts .other (COUNTS + e) (λ q. omega arith) ∙ counts .here e l ∙ maps .other (copied-counts k + e) (λ q. omega (arith, m-few))
       ∙ off .high (copied-counts k + e) (omega arith) ∙ b .copied .counts e (omega arith)
 
   further-then : (e : ℕ) → e ≤ n → all-further w₄ e ≡ all-further v e
@@ -117,20 +120,22 @@ module _ (v w w₁ w₂ w₃ w₄ : List ℕ) (k n : ℕ) (hk : k < 16) (b : Bri
     each-count e l (yes h) = s .low (COUNTS + e) (omega arith) ∙ count e h
     each-count e l (no h) =
         s .low (COUNTS + e) (omega arith) ∙ firsts .other (COUNTS + e) (λ q. omega arith) ∙ counts .other (COUNTS + e) (λ q. omega arith)
-        ∙ maps .other (COUNTS + e) (λ q. omega arith) ∙ off .none e (omega arith) l ∙ sym (b .then-sound .unused e (omega (arith, n-is)) l)
+        ∙ maps .other (COUNTS + e) (λ q. omega (arith, m-few)) ∙ off .none e (omega arith) l ∙ sym (b .then-sound .unused e (omega (arith, n-is)) l)
 
     -- A word below the parents that no copy reaches.
     kept : (j : ℕ) → (MAPS ≤ j → SENTINEL-ENTRY ≤ j) → (COUNTS ≤ j → LEFT ≤ j) → j < PARENTS → at w₅ j ≡ at w₁ j
     kept j p q l =
-        s .low j l ∙ firsts .other j (λ x. omega arith) ∙ counts .other j (λ x. omega (arith, n-few, q x)) ∙ maps .other j (λ x. omega (arith, p x))
+        s .low j l ∙ firsts .other j (λ x. omega arith) ∙ counts .other j (λ x. omega (arith, n-few, q x)) ∙ maps .other j (λ x. omega (arith, m-few, p x))
 
     pub cache-brought : CacheBrought v w w₅
     cache-brought =
         let y = n-is in
+        let z = m-few in
+        let p = b .pairs in
         record {
           used = kept USED (λ x. omega arith) (λ x. omega arith) (omega arith) ∙ off .used ∙ y;
           maps = λ i l.
-              s .low (MAPS + i) (omega arith) ∙ firsts .other (MAPS + i) (λ x. omega arith) ∙ counts .other (MAPS + i) (λ x. omega arith) ∙ maps .here i l
+              s .low (MAPS + i) (omega arith) ∙ firsts .other (MAPS + i) (λ x. omega arith) ∙ counts .other (MAPS + i) (λ x. omega arith) ∙ maps .here i (omega arith)
               ∙ off .high (copied-maps k + i) (omega arith) ∙ b .copied .maps i l;
           counts = λ e l. each-count e l (decLt e n);
           links = λ e i h l. link-of-links v w₅ e i (word e i (i / 2) (omega arith) l refl (ℕ-discrete (i / 2) 0));

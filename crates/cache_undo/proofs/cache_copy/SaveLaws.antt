@@ -9,7 +9,7 @@ use lib.ListN.{length, set, length-set}
 use lib.Seq.{getD-set-same, getD-set-other}
 use Rattle.words.specs.Words.{at, WORK}
 use Rattle.words.proofs.Copies.{Copied}
-use Rattle.work_layout.specs.Layout.{MAPS, USED, COUNTS, PARENTS, SEEN, COPIES, COPY, ENTRIES, MAX-PARENTS}
+use Rattle.work_layout.specs.Layout.{PAIR-COUNT, MAPS, USED, COUNTS, PARENTS, SEEN, COPIES, COPY, ENTRIES, MAX-PARENTS}
 use Rattle.work_layout.specs.Rows.{links-at, Sound, all-counts, further, all-further}
 use Rattle.work_layout.specs.Counts.{counts-upto, further-same, further-more, further-within, further-few}
 use Rattle.cache_undo.specs.cache_copy.Contracts.{copied-used, copied-maps, copied-counts, copied-firsts, copied-furthers, ListSaved, ListsSaved, CacheSaved}
@@ -59,8 +59,8 @@ lists-saved-more w w₁ w₂ e n to next h q few o p s t = record {
 
 -- ---- the cache: w₄ has all but the further words
 
-module _ (w w₂ w₃ w₄ : List ℕ) (k n : ℕ) (so : Sound w) (few : all-counts w ENTRIES ≤ 2048) (hk : k < 16) (hn : n ≡ at w USED)
-    (a : Copied (set w (copied-used k) (at w USED)) w₂ MAPS (copied-maps k) 1024) (b : Copied w₂ w₃ COUNTS (copied-counts k) n)
+module _ (w w₂ w₃ w₄ : List ℕ) (k n m : ℕ) (so : Sound w) (few : all-counts w ENTRIES ≤ 2048) (few-pairs : at w PAIR-COUNT ≤ 1024) (hk : k < 16) (hn : n ≡ at w USED)
+    (hm : m ≡ at w PAIR-COUNT) (a : Copied (set w (copied-used k) (at w USED)) w₂ MAPS (copied-maps k) m) (b : Copied w₂ w₃ COUNTS (copied-counts k) n)
     (f : Copied w₃ w₄ PARENTS (copied-firsts k) n) where
   n-few : n ≤ ENTRIES
   n-few = omega (arith, so .used)
@@ -123,7 +123,7 @@ module _ (w w₂ w₃ w₄ : List ℕ) (k n : ℕ) (so : Sound w) (few : all-cou
                 front (copied-used k) (omega arith) ∙ b .other (copied-used k) (λ q. omega arith) ∙ a .other (copied-used k) (λ q. omega arith)
                 ∙ getD-set-same w (copied-used k) (at w USED) 0 (omega (arith, so .long));
             maps = λ i l.
-                front (copied-maps k + i) (omega arith) ∙ b .other (copied-maps k + i) (λ q. omega arith) ∙ a .here i l ∙ apart (MAPS + i) (omega arith);
+                front (copied-maps k + i) (omega arith) ∙ b .other (copied-maps k + i) (λ q. omega arith) ∙ a .here i (omega arith) ∙ apart (MAPS + i) (omega arith);
             counts = λ e l.
                 front (copied-counts k + e) (omega arith) ∙ b .here e (omega arith) ∙ a .other (COUNTS + e) (λ q. omega arith) ∙ apart (COUNTS + e) (omega arith);
             firsts = λ e l.

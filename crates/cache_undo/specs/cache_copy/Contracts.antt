@@ -4,7 +4,7 @@ use mathlib.Core.Path.{_≡_}
 use mathlib.Core.List.{List}
 use lib.ListN.{length}
 use Rattle.words.specs.Words.{at}
-use Rattle.work_layout.specs.Layout.{MAPS, SENTINEL-ENTRY, USED, COUNTS, LEFT, HEADS, PARENTS, SEEN, COPIES, COPY, ENTRIES, SLOTS}
+use Rattle.work_layout.specs.Layout.{PAIR-COUNT, MAPS, SENTINEL-ENTRY, USED, COUNTS, LEFT, HEADS, PARENTS, SEEN, COPIES, COPY, ENTRIES, SLOTS}
 use Rattle.work_layout.specs.Rows.{links-at, link-at, slot-at, prev, Sound, all-counts, further, all-further}
 
 -- Copy k: where its count of entries, its map of pairs, its counts of parents, the first word of each entry's parents and the further words lie. The further
@@ -24,10 +24,10 @@ copied-firsts k = COPIES + k * COPY + 12386
 abbrev pub copied-furthers : ℕ → ℕ
 copied-furthers k = COPIES + k * COPY + 15458
 
--- Copy k of w has the cache of v: how many entries there are, which entry each pair has, and the parents of each entry.
+-- Copy k of w has the cache of v: how many entries there are, which entry each pair of the file has, and the parents of each entry.
 pub record CacheCopied (v w : List ℕ) (k : ℕ) : Type 0 where
   pub used : at w (copied-used k) ≡ at v USED
-  pub maps : (i : ℕ) → i < 1024 → at w (copied-maps k + i) ≡ at v (MAPS + i)
+  pub maps : (i : ℕ) → i < at v PAIR-COUNT → at w (copied-maps k + i) ≡ at v (MAPS + i)
   pub counts : (e : ℕ) → e < at v USED → at w (copied-counts k + e) ≡ at v (COUNTS + e)
   pub firsts : (e : ℕ) → e < at v USED → at w (copied-firsts k + e) ≡ links-at v e 0
   pub furthers : (e i : ℕ) → e < at v USED → i < further (at v (COUNTS + e)) → at w (copied-furthers k + all-further v e + i) ≡ links-at v e (i + 1)
@@ -84,18 +84,20 @@ pub record ListsBrought (w w′ : List ℕ) (n from : ℕ) : Type 0 where
   pub low : (j : ℕ) → j < PARENTS → at w′ j ≡ at w j
   pub high : (j : ℕ) → SEEN ≤ j → at w′ j ≡ at w j
 
--- What putting back copy k takes: it has the cache of v, of which the present one has all entries, and maybe more.
+-- What putting back copy k takes: it has the cache of v, of which the present one has all entries, and maybe more. The file has as many pairs as then.
 pub record Bringable (v w : List ℕ) (k : ℕ) : Type 0 where
   pub copied : CacheCopied v w k
   pub then-sound : Sound v
   pub then-few : all-counts v ENTRIES ≤ 2048
   pub sound : Sound w
   pub fewer : at v USED ≤ at w USED
+  pub pairs : at w PAIR-COUNT ≡ at v PAIR-COUNT
+  pub few-pairs : at w PAIR-COUNT ≤ 1024
 
 -- The cache is that of v again, but for keys and lengths, which are not touched. Each slot's chain has the entries that are left.
 pub record CacheBrought (v w w′ : List ℕ) : Type 0 where
   pub used : at w′ USED ≡ at v USED
-  pub maps : (i : ℕ) → i < 1024 → at w′ (MAPS + i) ≡ at v (MAPS + i)
+  pub maps : (i : ℕ) → i < at v PAIR-COUNT → at w′ (MAPS + i) ≡ at v (MAPS + i)
   pub counts : (e : ℕ) → e < ENTRIES → at w′ (COUNTS + e) ≡ at v (COUNTS + e)
   pub links : (e i : ℕ) → e < at v USED → i < at v (COUNTS + e) → link-at w′ e i ≡ link-at v e i
   pub heads : (s : ℕ) → s < SLOTS → at w′ (HEADS + s) ≡ prev (slot-at w) s (at v USED)

@@ -11,8 +11,11 @@ use Rattle.cache_undo.proofs.cache_copy.bring.Statement.{statement}
 use Rattle.cache_undo.proofs.cache_copy.bring.Tie as tie
 
 -- The places before, from each copy and from where the entries are taken off.
+abbrev to-entries : tie.After-take-off → tie.After-wide
+to-entries c = c .before .before .before .before
+
 abbrev start : tie.After-take-off → tie.Start
-start c = c .before .before .before .before .before
+start c = to-entries c .before .before .before
 
 abbrev to-off : tie.After-copy-within → tie.After-take-off
 to-off c = c .before .before .before .before
@@ -24,22 +27,25 @@ abbrev to-counts : tie.After-bring-first-links → tie.After-copy-within2
 to-counts c = c .before .before .before .before
 
 -- The map of pairs is that of the copy.
-maps-copied : (c : tie.After-copy-within) → Copied (to-off c .take-off .last .0) (c .copy-within .last .0) (copied-maps (start (to-off c) .args .k)) MAPS 1024
+maps-copied : (c : tie.After-copy-within) →
+    Copied (to-off c .take-off .last .0) (c .copy-within .last .0) (copied-maps (start (to-off c) .args .k)) MAPS (to-off c .before .before .wide2 .result)
 maps-copied c =
     let o = to-off c in
     let s = start o in
-    let l = s .pre .1 .1 .sound .long in
-    copied _ (copied-maps (s .args .k)) MAPS 1024 (omega (arith, l, o .take-off .ensures .len)) (omega (arith, l, o .take-off .ensures .len)) _ (c .copy-within .ensures)
+    let b = s .pre .1 .1 in
+    let m = o .before .before .wide2 in
+    copied _ (copied-maps (s .args .k)) MAPS (m .result) (omega (arith, b .sound .long, o .take-off .ensures .len, m .ensures, b .few-pairs))
+    (omega (arith, b .sound .long, o .take-off .ensures .len, m .ensures, b .few-pairs)) _ (c .copy-within .ensures)
 
 -- And so are the counts.
 counts-copied : (c : tie.After-copy-within2) →
-    Copied (to-maps c .copy-within .last .0) (c .copy-within2 .last .0) (copied-counts (start (to-off (to-maps c)) .args .k)) COUNTS (to-off (to-maps c) .before .before .wide .result)
+    Copied (to-maps c .copy-within .last .0) (c .copy-within2 .last .0) (copied-counts (start (to-off (to-maps c)) .args .k)) COUNTS (to-entries (to-off (to-maps c)) .wide .result)
 counts-copied c =
     let m = to-maps c in
     let o = to-off m in
     let s = start o in
     let b = s .pre .1 .1 in
-    let n = o .before .before .wide in
+    let n = to-entries o .wide in
     let l = maps-copied m .len in
     copied _ (copied-counts (s .args .k)) COUNTS (n .result) (omega (arith, b .sound .long, o .take-off .ensures .len, n .ensures, b .copied .used, b .then-sound .used))
     (omega (arith, b .sound .long, o .take-off .ensures .len, n .ensures, b .copied .used, b .then-sound .used)) _ (c .copy-within2 .ensures)
@@ -48,14 +54,14 @@ counts-copied c =
 firsts-copied : (c : tie.After-bring-first-links) →
     let d = to-counts c in
     let o = to-off (to-maps d) in
-    Copied (d .copy-within2 .last .0) (c .bring-first-links .last .0) (copied-firsts (start o .args .k)) PARENTS (o .before .before .wide .result)
+    Copied (d .copy-within2 .last .0) (c .bring-first-links .last .0) (copied-firsts (start o .args .k)) PARENTS (to-entries o .wide .result)
 firsts-copied c =
     let d = to-counts c in
     let m = to-maps d in
     let o = to-off m in
     let s = start o in
     let b = s .pre .1 .1 in
-    let n = o .before .before .wide in
+    let n = to-entries o .wide in
     let l = counts-copied d .len ∙ maps-copied m .len in
     copied _ (copied-firsts (s .args .k)) PARENTS (n .result) (omega (arith, b .sound .long, o .take-off .ensures .len, n .ensures, b .copied .used, b .then-sound .used))
     (omega (arith, b .sound .long, o .take-off .ensures .len, n .ensures, b .copied .used, b .then-sound .used)) _ (c .bring-first-links .ensures)
@@ -77,6 +83,12 @@ slice-read-wide c = search needs
 
 wide-requires : tie.Need-wide-requires
 wide-requires c κs = search needs
+
+slice-read-wide-2 : tie.Need-slice-read-wide-2
+slice-read-wide-2 c = search needs
+
+wide-requires-2 : tie.Need-wide-requires-2
+wide-requires-2 c κs = search needs
 
 take-off-requires : tie.Need-take-off-requires
 take-off-requires c κs = search needs
@@ -103,7 +115,7 @@ bring-first-links-requires c κs =
     let o = to-off m in
     let s = start o in
     let b = s .pre .1 .1 in
-    let n = o .before .before .wide in
+    let n = to-entries o .wide in
     let l = counts-copied d .len ∙ maps-copied m .len in (
       omega (arith, b .sound .long, o .take-off .ensures .len),
       omega (arith, n .ensures, b .copied .used, b .then-sound .used),
@@ -121,8 +133,9 @@ bring-lists-requires c κs =
     let m = to-maps d in
     let o = to-off m in
     let s = start o in
-    let n = o .before .before .wide in
-    lists-asked (s .pre .1 .0) (s .args .work .now) _ _ _ _ (s .args .k) (n .result) (s .pre .0) (s .pre .1 .1) (n .ensures) (o .take-off .ensures) (maps-copied m) (counts-copied d)
+    let n = to-entries o .wide in
+    lists-asked (s .pre .1 .0) (s .args .work .now) _ _ _ _ (s .args .k) (n .result) _ (s .pre .0) (s .pre .1 .1) (n .ensures) (o .before .before .wide2 .ensures)
+    (o .take-off .ensures) (maps-copied m) (counts-copied d)
     (firsts-copied f)
 
 same-length : tie.Need-same-length
@@ -136,8 +149,9 @@ returns c v b =
     let m = to-maps d in
     let o = to-off m in
     let s = start o in
-    let n = o .before .before .wide in
-    cache-brought v (s .args .work .now) _ _ _ _ (s .args .k) (n .result) (s .pre .0) b (n .ensures) (o .take-off .ensures) (maps-copied m) (counts-copied d) (firsts-copied f) _
+    let n = to-entries o .wide in
+    cache-brought v (s .args .work .now) _ _ _ _ (s .args .k) (n .result) _ (s .pre .0) b (n .ensures) (o .before .before .wide2 .ensures)
+    (o .take-off .ensures) (maps-copied m) (counts-copied d) (firsts-copied f) _
     (l .bring-lists .ensures)
 
 pub bring-spec : {M : Type 1} → statement M
@@ -150,6 +164,8 @@ bring-spec =
     mul-wide
     slice-read-wide
     wide-requires
+    slice-read-wide-2
+    wide-requires-2
     take-off-requires
     add-copy-within
     copy-within-requires

@@ -12,9 +12,12 @@ use Rattle.cache_undo.proofs.cache_copy.SaveLaws.{lists-asked, cache-sa
 use Rattle.cache_undo.proofs.cache_copy.save.Statement.{statement}
 use Rattle.cache_undo.proofs.cache_copy.save.Tie as tie
 
--- The call, and the copies of the map and the counts, from later places.
+-- The call, the number of entries, and the copies of the map and the counts, from later places.
+abbrev to-entries : tie.After-copy-within → tie.After-wide
+to-entries c = c .before .before .before .before
+
 abbrev start : tie.After-copy-within → tie.Start
-start c = c .before .before .before .before .before
+start c = to-entries c .before .before .before
 
 abbrev to-maps : tie.After-copy-within2 → tie.After-copy-within
 to-maps c = c .before .before .before .before
@@ -26,13 +29,14 @@ to-counts c = c .before .before .before .before
 maps-copied : (c : tie.After-copy-within) →
     let s = start c in
     let w = s .args .work .now in
-    Copied (set w (copied-used (s .args .k)) (at w USED)) (c .copy-within .last .0) MAPS (copied-maps (s .args .k)) 1024
+    Copied (set w (copied-used (s .args .k)) (at w USED)) (c .copy-within .last .0) MAPS (copied-maps (s .args .k)) (c .before .before .wide2 .result)
 maps-copied c =
     let s = start c in
     let w = s .args .work .now in
     let u = set w (copied-used (s .args .k)) (at w USED) in
     let l : length u ≡ length w = length-set w (copied-used (s .args .k)) (at w USED) in
-    copied u MAPS (copied-maps (s .args .k)) 1024 (omega (arith, s .pre .0 .long)) (omega (arith, s .pre .0 .long)) _ (c .copy-within .ensures)
+    let m = c .before .before .wide2 in
+    copied u MAPS (copied-maps (s .args .k)) (m .result) (omega (arith, s .pre .0 .long, s .pre .2, m .ensures)) (omega (arith, s .pre .0 .long, s .pre .2, m .ensures)) _ (c .copy-within .ensures)
 
 maps-length : (c : tie.After-copy-within) → length (c .copy-within .last .0) ≡ length (start c .args .work .now)
 maps-length c = let s = start c in maps-copied c .len ∙ length-set (s .args .work .now) (copied-used (s .args .k)) (at (s .args .work .now) USED)
@@ -40,11 +44,11 @@ maps-length c = let s = start c in maps-copied c .len ∙ length-set (s .args .w
 -- And how many parents each entry has.
 counts-copied : (c : tie.After-copy-within2) →
     let m = to-maps c in
-    Copied (m .copy-within .last .0) (c .copy-within2 .last .0) COUNTS (copied-counts (start m .args .k)) (m .before .before .wide .result)
+    Copied (m .copy-within .last .0) (c .copy-within2 .last .0) COUNTS (copied-counts (start m .args .k)) (to-entries m .wide .result)
 counts-copied c =
     let m = to-maps c in
     let s = start m in
-    let n = m .before .before .wide in
+    let n = to-entries m .wide in
     let l = maps-length m in
     copied _ COUNTS (copied-counts (s .args .k)) (n .result) (omega (arith, s .pre .0 .long, s .pre .0 .used, n .ensures)) (omega (arith, s .pre .0 .long, s .pre .0 .used, n .ensures)) _
     (c .copy-within2 .ensures)
@@ -52,12 +56,12 @@ counts-copied c =
 -- And the first words of the parents.
 firsts-copied : (c : tie.After-save-first-links) →
     let d = to-counts c in
-    Copied (d .copy-within2 .last .0) (c .save-first-links .last .0) PARENTS (copied-firsts (start (to-maps d) .args .k)) (to-maps d .before .before .wide .result)
+    Copied (d .copy-within2 .last .0) (c .save-first-links .last .0) PARENTS (copied-firsts (start (to-maps d) .args .k)) (to-entries (to-maps d) .wide .result)
 firsts-copied c =
     let d = to-counts c in
     let m = to-maps d in
     let s = start m in
-    let n = m .before .before .wide in
+    let n = to-entries m .wide in
     let l = counts-copied d .len ∙ maps-length m in
     copied _ PARENTS (copied-firsts (s .args .k)) (n .result) (omega (arith, s .pre .0 .long, s .pre .0 .used, n .ensures)) (omega (arith, s .pre .0 .long, s .pre .0 .used, n .ensures)) _
     (c .save-first-links .ensures)
@@ -73,6 +77,12 @@ slice-read-used c = search needs
 
 wide-requires : tie.Need-wide-requires
 wide-requires c κs = search needs
+
+slice-read-wide : tie.Need-slice-read-wide
+slice-read-wide c = search needs
+
+wide-requires-2 : tie.Need-wide-requires-2
+wide-requires-2 c κs = search needs
 
 add-work : tie.Need-add-work
 add-work c = search needs
@@ -96,7 +106,7 @@ copy-within-requires-2 : tie.Need-copy-within-requires-2
 copy-within-requires-2 c κs =
     let m = c .before .before .before in
     let s = start m in
-    let n = m .before .before .wide in
+    let n = to-entries m .wide in
     let l = maps-length m in
     (omega (arith, s .pre .0 .long, s .pre .0 .used, n .ensures), omega (arith, s .pre .0 .long, s .pre .0 .used, n .ensures), λ q. omega (arith, s .pre .0 .used, n .ensures))
 
@@ -108,9 +118,9 @@ save-first-links-requires c κs =
     let d = c .before .before .before in
     let m = to-maps d in
     let s = start m in
-    let n = m .before .before .wide in
+    let n = to-entries m .wide in
     let l = counts-copied d .len ∙ maps-length m in
-    (omega (arith, s .pre .0 .long), omega (arith, s .pre .0 .used, n .ensures), omega arith, omega (arith, s .pre .2, s .pre .0 .used, n .ensures))
+    (omega (arith, s .pre .0 .long), omega (arith, s .pre .0 .used, n .ensures), omega arith, omega (arith, s .pre .3, s .pre .0 .used, n .ensures))
 
 add-save-lists : tie.Need-add-save-lists
 add-save-lists c = search needs
@@ -121,8 +131,9 @@ save-lists-requires c κs =
     let d = to-counts f in
     let m = to-maps d in
     let s = start m in
-    let n = m .before .before .wide in
-    lists-asked (s .args .work .now) _ _ _ (s .args .k) (n .result) (s .pre .0) (s .pre .1) (s .pre .2) (n .ensures) (maps-copied m) (counts-copied d) (firsts-copied f)
+    let n = to-entries m .wide in
+    lists-asked (s .args .work .now) _ _ _ (s .args .k) (n .result) _ (s .pre .0) (s .pre .1) (s .pre .2) (s .pre .3) (n .ensures)
+    (m .before .before .wide2 .ensures) (maps-copied m) (counts-copied d) (firsts-copied f)
 
 same-length : tie.Need-same-length
 same-length c =
@@ -138,8 +149,9 @@ returns c =
     let d = to-counts f in
     let m = to-maps d in
     let s = start m in
-    let n = m .before .before .wide in
-    cache-saved (s .args .work .now) _ _ _ (s .args .k) (n .result) (s .pre .0) (s .pre .1) (s .pre .2) (n .ensures) (maps-copied m) (counts-copied d) (firsts-copied f) _
+    let n = to-entries m .wide in
+    cache-saved (s .args .work .now) _ _ _ (s .args .k) (n .result) _ (s .pre .0) (s .pre .1) (s .pre .2) (s .pre .3) (n .ensures)
+    (m .before .before .wide2 .ensures) (maps-copied m) (counts-copied d) (firsts-copied f) _
     (l .save-lists .ensures)
 
 pub save-spec : {M : Type 1} → statement M
@@ -150,6 +162,8 @@ save-spec =
     add-to
     slice-read-used
     wide-requires
+    slice-read-wide
+    wide-requires-2
     add-work
     mul-work
     slice-write-work
