@@ -123,8 +123,7 @@ locals=Locals(['S′.mir',slice_type('T.the-row',0),slice_type('u32',1),slice_ty
     'S′.mir','S′.mir',WORD,'T′.mir','R′.mir','tyBool',WORD,'tyPtr','T′.mir',*again_types('u32','u32','u8'),'tyPtr'])
 params={**{i+1:'v'+sub(i) for i in range(5)},6:'mach s'}
 all_locals=range(locals.n-1,-1,-1)
-def is_field(x): return USIZE.is_('m .progress .'+x,'vint w64 (m .progress .%s)'%x)
-slot=Call(f,SLOT,[Slice(4)]+[Plain(USIZE,'m .progress .'+x,'vint w64 (m .progress .%s)'%x,x+'-is') for x in ('at','adds')])
+slot=Call(f,SLOT,[Slice(4),Plain(PROGRESS,'m .progress','mach (m .progress)','(f .progress-is)')])
 step=Call(f,STEP,[Slice(i,'(again%s δ%s (m .%s))'%(sub(i),sub(i),lists[i]),True) for i in lists]+[Slice(4),
     Plain(PROGRESS,'m .progress','mach (m .progress)','(f .progress-is)'),Plain(RECORD,'rec k','mach-c (rec k)','c-is')],
     '(ν₁ ν₂ ν₃ : ℕ) (δ₁ δ₂ δ₃ : GName) (k : ℕ)','rd','(c-is : Is T.the-row (rec k) (mach-c (rec k) ∷ [])) '
@@ -140,7 +139,7 @@ turn=w.text(10)
 on=w.fork()
 on.e('(λ go. skips ! $ exec ! (𝓣 .C) (𝓣 .Λ) En (after (after body.turn-1)) (anyQ (Turned i)) $')
 on.copy(4)
-on.call(slot,[5,(7,0),(7,2)])
+on.call(slot,[5,7])
 on.answer(slot,USIZE,'k','u',8,[('Slot file (m .progress) k','ek')])
 FITS='record { fits = byte-fits room₀ (in-k k go ek) }'
 def place(p,how):   # The place of record k, to local p.
@@ -208,17 +207,11 @@ LOOP='''      -- The context of a turn, and its postcondition: it ends nearer to
         in-k : (k : ℕ) → Holds (not (m .progress .done)) → Slot file (m .progress) k → k < n₀
         in-k k go ek = subst (λ (n : ℕ). k < n) (f .rows-len) (in-row k go ek)
 
-        at-is : @IS-AT@
-        at-is = LL.owed S.the-type S′.the-laws (m .progress) _ (f .progress-is) .0
-
-        adds-is : @IS-ADDS@
-        adds-is = LL.owed S.the-type S′.the-laws (m .progress) _ (f .progress-is) .1 .1 .0
-
         parts : (r : StepAnswer) (w : Val) → Is R.the-row r (w ∷ [])
             → Is S.the-row (r .state) (mach (r .state) ∷ []) × (Is T.the-row (r .saved) (mach-c (r .saved) ∷ []) × Unit {0})
         parts r w r-is = LL.owed R.the-type R′.the-laws r _ r-is
 
-        -- `slot_of`: the file, and two numbers of the progress.
+        -- `slot_of`: the file and the progress.
 @SLOT@
         -- `bounded_step`: the slices, lent again, the file, the progress and record k.
 @STEP@
@@ -237,7 +230,7 @@ LOOP='''      -- The context of a turn, and its postcondition: it ends nearer to
 
 '''
 LOOP=fill(LOOP,AT=locals.chain(all_locals,{**params,7:'mach (i .0 .progress)'},'[]'),START=locals.chain(all_locals,params,'[]'),
-    **{'IS-AT':is_field('at'),'IS-ADDS':is_field('adds')},SLOT=slot.text(8),STEP=step.text(8),
+    SLOT=slot.text(8),STEP=step.text(8),
     TURN='\n'.join((turn,on.text(10),over.text(10))),BEGINS=w.text(10))
 
 w=Walk(f,['toks','owns'])

@@ -18,6 +18,7 @@ use Rattle.file_parts.specs.Checked.{Passed, Contents}
 use Rattle.file_parts.specs.CheckedLaws.{pair-named}
 use Rattle.file_parts.specs.declared.session_file.Checked.{Checked}
 use Rattle.spec_session.specs.Writer.{start}
+use Rattle.spec_session.specs.Steps.{at-start}
 use Rattle.work_layout.specs.Layout.{TOPS, WRITTEN, MAPS, PARENTS, ENTRIES}
 use Rattle.work_layout.specs.Rows.{stack-of}
 use Rattle.cache_stack.specs.marks.Contracts.{marked-at}
@@ -109,10 +110,14 @@ module _ (input : List ℕ) (f : File) (c : Checked) (p : Passed input f c) (fla
             };
         known = λ e. sym (known (f .steps) (p .steps-there)) ∙ e;
         few-adds = omega arith;
+        goes = refl;
         steps-there = p .steps-there;
         steps-named = p .contents .steps-named;
         few-steps = omega (arith, p .contents .few-steps);
         many-rows = many-rows;
         many-words = many-words;
+        quote-saved = λ e. clash cc;
+        state = at-start;
+        shown = refl;
         same = refl;
       }

@@ -17,7 +17,7 @@ asked input work words records = cond (are-long work words records) (file versio
 
 -- A run that is over before it starts.
 abbrev pub refused-with : ℕ → Progress
-refused-with n = record { at = 0; steps = 0; adds = 0; opens = 0; depth = 0; size = 0; finished = false; number = n; done = true; forgets = false }
+refused-with n = record { at = 0; steps = 0; adds = 0; opens = 0; depth = 0; size = 0; finished = false; number = n; done = true; forgets = false; quoted = false }
 
 -- The run can start, with work as it is. All records are to be cleared.
 pub record Starts (input w : List ℕ) (words records : ℕ) (b : Begun) : Type 0 where

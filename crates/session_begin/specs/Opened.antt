@@ -38,4 +38,4 @@ pub record Opened (input : List ℕ) (f : File) (w : List ℕ) : Type 0 where
 
 -- The first step comes next; nothing is added, open or written.
 abbrev pub start-at : (place : ℕ) → (forgets : Bool) → Progress
-start-at place b = record { at = place; steps = 0; adds = 0; opens = 0; depth = 0; size = 0; finished = false; number = 0; done = false; forgets = b }
+start-at place b = record { at = place; steps = 0; adds = 0; opens = 0; depth = 0; size = 0; finished = false; number = 0; done = false; forgets = b; quoted = false }

@@ -68,7 +68,7 @@ fn open(file: &[u8], work: &mut [u32], checked: Checked)
     work[work_layout::SENTINEL] = checked.sentinel;
 }
 
-// The start of the steps, which stand from this place of the file on; whether one of them forgets.
+// The start of the steps, which stand from this place of the file on; whether one of them forgets or quotes.
 fn start_at(at: usize, forgets: bool) -> Progress
     ensures { λ r. ⌜ r ≡ start-at at forgets ⌝ }
 {
@@ -83,6 +83,7 @@ fn start_at(at: usize, forgets: bool) -> Progress
         number: 0,
         done: false,
         forgets,
+        quoted: false,
     }
 }
 

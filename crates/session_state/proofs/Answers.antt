@@ -9,11 +9,11 @@ use lib.ListN.{length, take}
 use Rattle.session_state.specs.declared.checkpoints.Checkpoint.{Checkpoint}
 use Rattle.path.specs.Measure.{counted}
 use Rattle.spec_session.specs.File.{File}
-use Rattle.spec_session.specs.Steps.{Run, stop-at, run-steps}
+use Rattle.spec_session.specs.Steps.{State, Run, stop-at, run-steps}
 use Rattle.session_state.specs.declared.progress.Progress.{Progress}
 use Rattle.session_state.specs.declared.progress.StepAnswer.{StepAnswer}
 use Rattle.session_state.specs.Moves.{refused-at, stopped-at}
-use Rattle.session_state.specs.State.{standing, after-words, Underway, Ended, Stands}
+use Rattle.session_state.specs.State.{whole-run, standing, after-words, Shows, Underway, Ended, Stands}
 use Rattle.session_state.specs.Steps.{Onward}
 use Rattle.session_state.proofs.Runs.{words-ended}
 
@@ -30,7 +30,15 @@ module _ (input : List ℕ) (f : File) (w words : List ℕ) (rows : List Checkpo
   pub ended : t .done ≡ true → Stands input f w words rows out t (t .done) → Ended f words out t
   ended d s = subst (λ (b : Bool). Stands input f w words rows out t b) d s
 
-module _ (input : List ℕ) (f : File) (w words out : List ℕ) (p : Progress) (c : Checkpoint) where
+module _ (input : List ℕ) (f : File) (w words out : List ℕ) (p : Progress) (c : Checkpoint) (none-open : p .quoted ≡ false) where
+  -- The run from the session that is held, where no quote is open.
+  pub same-standing : (rows : List Checkpoint) (u : Underway input f w words rows out p)
+      → whole-run f (length out) ≡ after-words (take (p .steps) words) (run-steps counted (length out) f (u .left) (standing (u .past) (u .session)))
+  same-standing rows u =
+      u .same
+      ∙ ap (λ (st : State). after-words (take (p .steps) words) (run-steps counted (length out) f (u .left) st))
+      (subst (λ (b : Bool). Shows b f (length out) (u .state) (u .past) (u .session)) none-open (u .shown))
+
   -- The run is over at a step.
   over : (rows : List Checkpoint) (u : Underway input f w words rows out p) (n : ℕ)
       → run-steps counted (length out) f (u .left) (standing (u .past) (u .session)) ≡ stop-at n (u .session) → Ended f words out (refused-at p n)
@@ -42,7 +50,7 @@ module _ (input : List ℕ) (f : File) (w words out : List ℕ) (p : Progress) (
         short = u .present .running .short;
         few-steps = omega (arith, u .few-steps);
         many-words = u .many-words;
-        same = u .same ∙ ap (λ (r : Run). after-words (take (p .steps) words) r) e ∙ words-ended (take (p .steps) words) n (u .session);
+        same = same-standing rows u ∙ ap (λ (r : Run). after-words (take (p .steps) words) r) e ∙ words-ended (take (p .steps) words) n (u .session);
       }
 
   -- The answer of a step that is refused, or of the end.

@@ -12,58 +12,83 @@ use lib.Seq.{take-suc-set}
 use borrow.Author.Tests.{lt-ltb, le-ltb}
 use Rattle.words.specs.Choice.{clash}
 use Rattle.path.specs.Measure.{counted}
-use Rattle.spec_session.specs.File.{File, Step, add}
+use Rattle.spec_session.specs.File.{File, Step, take-quote}
 use Rattle.spec_session.specs.Unfold.{unfolded}
 use Rattle.spec_session.specs.Cache.{update}
-use Rattle.spec_session.specs.Writer.{Todo, parse, Outcome, Session, settle, add-at, resume}
-use Rattle.spec_session.specs.Steps.{room-in, State, Stepped, Run, finished-bit, word-of, stop-at, with-word, after-add, unless-full, after-step, run-steps}
+use Rattle.spec_session.specs.Writer.{Todo, parse, Outcome, Session, Added, added, settle, add-at, resume}
+use Rattle.spec_session.specs.Steps.{room-in, State, Stepped, went, Run, finished-bit, word-of, stop-at, with-word, after-add, after-quote, unless-full}
+use Rattle.spec_session.specs.Steps.{add-handle, after-step, run-step, run-steps}
+use Rattle.spec_session.specs.StepLaws.{add-went}
 use Rattle.spec_session.specs.FindPath.{find-in}
 use Rattle.spec_session.specs.Trees.{nth}
 use Rattle.path.specs.Bytes.{bit}
-use Rattle.session_state.specs.State.{standing, after-words, waits, undo-of, undone}
+use Rattle.session_state.specs.State.{standing, after-words, waits, Shows, add-of, undo-of, undone}
+
+-- What comes of an add, or of a quote of it.
+abbrev pub after-tried : (quotes : Bool) → (handle : ℕ) → Added → State → Stepped
+after-tried false h a st = after-add a st
+after-tried true h a st = after-quote h a st
 
 module _ (space : ℕ) (f : File) (past : List Session) (s : Session) where
   pub run-ends : run-steps counted space f [] (standing past s) ≡ stop-at 0 s
   unfolding run-steps
   run-ends = refl
 
-  -- Question 9.
-  pub run-finished : (h : ℕ) (steps : List Step) → s .waiting ≡ none → run-steps counted space f (add h ∷ steps) (standing past s) ≡ stop-at 9 s
+  -- Number 17.
+  pub run-none-open : (steps : List Step) → run-steps counted space f (take-quote ∷ steps) (standing past s) ≡ stop-at 17 s
   unfolding run-steps
-  run-finished h steps e = go (s .waiting) e (ltb 15 (length past)) _ _
-    where
-      go : (o : Option (List Todo)) → o ≡ none → (b : Bool) (x : Stepped) (next : State → Run) → after-step (unless-full o b s x) next ≡ stop-at 9 s
-      go none q b x next = refl
-      go (some k) q b x next = clash cc
+  run-none-open steps = refl
+
+  -- An add, or a quote of it, by its questions.
+  run-tried : (b : Bool) (h : ℕ) (steps : List Step)
+      → run-steps counted space f (add-of b h ∷ steps) (standing past s)
+      ≡ after-step (unless-full (s .waiting) (ltb 15 (length past)) s (after-tried b h (add-handle counted space f h s) (standing past s))) (λ t. run-steps counted space f steps t)
+  unfolding run-steps
+  run-tried false h steps = refl
+  run-tried true h steps = refl
+
+  -- Question 9.
+  pub run-finished : (b : Bool) (h : ℕ) (steps : List Step) → s .waiting ≡ none → run-steps counted space f (add-of b h ∷ steps) (standing past s) ≡ stop-at 9 s
+  run-finished b h steps e =
+      run-tried b h steps
+      ∙ (λ i. after-step (unless-full (e i) (ltb 15 (length past)) s (after-tried b h (add-handle counted space f h s) (standing past s)))
+      (λ t. run-steps counted space f steps t))
 
   -- Question 10.
-  pub run-full : (h : ℕ) (steps : List Step) (k : List Todo) → s .waiting ≡ some k → 16 ≤ length past
-      → run-steps counted space f (add h ∷ steps) (standing past s) ≡ stop-at 10 s
-  unfolding run-steps
-  run-full h steps k e l = go (s .waiting) e (ltb 15 (length past)) (lt-ltb 15 (length past) (omega arith)) _ _
-    where
-      go : (o : Option (List Todo)) → o ≡ some k → (b : Bool) → b ≡ true → (x : Stepped) (next : State → Run) → after-step (unless-full o b s x) next ≡ stop-at 10 s
-      go none q b z x next = clash cc
-      go (some j) q true z x next = refl
-      go (some j) q false z x next = clash cc
+  pub run-full : (b : Bool) (h : ℕ) (steps : List Step) (k : List Todo) → s .waiting ≡ some k → 16 ≤ length past
+      → run-steps counted space f (add-of b h ∷ steps) (standing past s) ≡ stop-at 10 s
+  run-full b h steps k e l =
+      let full = lt-ltb 15 (length past) (omega arith) in
+      run-tried b h steps
+      ∙ (λ i. after-step (unless-full (e i) (full i) s (after-tried b h (add-handle counted space f h s) (standing past s))) (λ t. run-steps counted space f steps t))
 
   -- An add at an open place.
-  pub run-add : (h : ℕ) (steps : List Step) (k : List Todo) (o : Outcome) → s .waiting ≡ some k → length past ≤ 15
+  pub add-settles : (h : ℕ) (k : List Todo) (o : Outcome) → s .waiting ≡ some k
       → resume (find-in counted) (room-in space) (update (unfolded f h) (s .cache)) (parse (unfolded f h) ∷ k) (s .written) ≡ o
-      → run-steps counted space f (add h ∷ steps) (standing past s)
-      ≡ after-step (after-add (settle s (update (unfolded f h) (s .cache)) o) (standing past s)) (λ t. run-steps counted space f steps t)
-  unfolding run-steps
-  run-add h steps k o e l q = go (s .waiting) e (ltb 15 (length past)) (le-ltb 15 (length past) (omega arith)) _
-    where
-      go : (p : Option (List Todo)) → p ≡ some k → (b : Bool) → b ≡ false → (next : State → Run)
-          → after-step (unless-full p b s (after-add (add-at (find-in counted) (room-in space) (unfolded f h) s p) (standing past s))) next
-          ≡ after-step (after-add (settle s (update (unfolded f h) (s .cache)) o) (standing past s)) next
-      go none z b y next = clash cc
-      go (some j) z true y next = clash cc
-      go (some j) z false y next =
-          let same : j ≡ k = cc in
-          ap (λ (x : Outcome). after-step (after-add (settle s (update (unfolded f h) (s .cache)) x) (standing past s)) next)
-          (ap (λ (i : List Todo). resume (find-in counted) (room-in space) (update (unfolded f h) (s .cache)) (parse (unfolded f h) ∷ i) (s .written)) same ∙ q)
+      → add-handle counted space f h s ≡ settle s (update (unfolded f h) (s .cache)) o
+  add-settles h k o e q =
+      (λ i. add-at (find-in counted) (room-in space) (unfolded f h) s (e i)) ∙ ap (settle s (update (unfolded f h) (s .cache))) q
+
+  pub run-add : (b : Bool) (h : ℕ) (steps : List Step) (k : List Todo) (a : Added) → s .waiting ≡ some k → length past ≤ 15 → add-handle counted space f h s ≡ a
+      → run-steps counted space f (add-of b h ∷ steps) (standing past s) ≡ after-step (after-tried b h a (standing past s)) (λ t. run-steps counted space f steps t)
+  run-add b h steps k a e l q =
+      let room = le-ltb 15 (length past) (omega arith) in
+      run-tried b h steps ∙ (λ i. after-step (unless-full (e i) (room i) s (after-tried b h (q i) (standing past s))) (λ t. run-steps counted space f steps t))
+
+  -- The state after an add, or a quote of it, that leads to the session t.
+  abbrev pub tried : (quotes : Bool) → (handle : ℕ) → Session → State
+  tried false h t = standing (past ++ s ∷ []) t
+  tried true h t = record { now = s; past = past; quoted = some h }
+
+  pub tried-went : (b : Bool) (h : ℕ) (t : Session) (next : State → Run)
+      → after-step (after-tried b h (added t) (standing past s)) next ≡ with-word (word-of t) (next (tried b h t))
+  tried-went false h t next = refl
+  tried-went true h t next = refl
+
+  pub shows-tried : (b : Bool) (h : ℕ) (k : List Todo) (t : Session) → s .waiting ≡ some k → length past ≤ 15 → add-handle counted space f h s ≡ added t
+      → Shows b f space (tried b h t) (past ++ s ∷ []) t
+  shows-tried false h k t e l q = refl
+  shows-tried true h k t e l q = (add-went counted space f h (tried true h t) k t e (le-ltb 15 (length past) (omega arith)) q, refl)
 
   -- Question 11, of an undo that forgets or not.
   pub run-beyond : (b : Bool) (n : ℕ) (steps : List Step) → nth past n ≡ none → run-steps counted space f (undo-of b n ∷ steps) (standing past s) ≡ stop-at 11 s
@@ -77,6 +102,15 @@ module _ (space : ℕ) (f : File) (past : List Session) (s : Session) where
   unfolding run-steps
   run-undo false n steps u e = rw e refl
   run-undo true n steps u e = rw e refl
+
+-- ---- an open quote
+
+module _ (space : ℕ) (f : File) (st : State) where
+  -- A taking that goes on.
+  pub run-taken : (w : ℕ) (t : State) (ss : List Step) → run-step counted space f take-quote st ≡ went w t
+      → run-steps counted space f (take-quote ∷ ss) st ≡ with-word w (run-steps counted space f ss t)
+  unfolding run-steps
+  run-taken w t ss e = ap (λ (x : Stepped). after-step x (λ y. run-steps counted space f ss y)) e
 
 -- ---- the words
 

@@ -2,11 +2,10 @@
 -- Assumes nothing.
 use Prim.Native.Nat.{ℕ, zero, suc, _≤_, _<_}
 use mathlib.Core.Path.{_≡_, refl, sym, ap, _∙_}
-use mathlib.Core.Bool.{cond}
+use mathlib.Core.Bool.{Bool, false}
 use mathlib.Core.List.{List, [], _∷_}
 use mathlib.Core.Option.{none, some}
 use native.Mathlib.Omega.{arith}
-use lib.Dec.{ltb}
 use lib.ListN.{length, take}
 use Rattle.words.specs.Choice.{clash}
 use Rattle.file_parts.specs.declared.session_file.NextStep.{NextStep}
@@ -14,24 +13,29 @@ use Rattle.file_parts.specs.declared.session_file.NextStep.the-variants as next
 use Rattle.spec_session.specs.File.{Step}
 use Rattle.file_parts.specs.Loaded.{FirstStep}
 use Rattle.spec_session.specs.Trees.{nth}
-use Rattle.session_state.specs.State.{slot-for}
+use Rattle.session_state.specs.State.{low-slot, slot-for}
 
 abbrev pub slot-of-next : NextStep → ℕ → ℕ
-slot-of-next (next-step.Add node next) adds = cond (ltb adds 16) adds 0
-slot-of-next (next-step.Restore number next) adds = cond (ltb number 16) number 0
-slot-of-next (next-step.Forget number next) adds = cond (ltb number 16) number 0
+slot-of-next (next-step.Add node next) adds = low-slot adds
+slot-of-next (next-step.Restore number next) adds = low-slot number
+slot-of-next (next-step.Forget number next) adds = low-slot number
+slot-of-next (next-step.Quote node next) adds = low-slot adds
+slot-of-next (next-step.Take next) adds = 0
 slot-of-next next-step.End adds = 0
 
-pub slot-first : (input : List ℕ) (ss : List Step) (r : NextStep) (adds : ℕ) → FirstStep input ss r → slot-of-next r adds ≡ slot-for ss adds
+pub slot-first : (input : List ℕ) (ss : List Step) (r : NextStep) (adds : ℕ) → FirstStep input ss r → slot-of-next r adds ≡ slot-for false ss adds
 slot-first input ss (next-step.Add node next) adds h = rw (h .1) refl
 slot-first input ss (next-step.Restore number next) adds h = rw (h .1) refl
 slot-first input ss (next-step.Forget number next) adds h = rw (h .1) refl
+slot-first input ss (next-step.Quote node next) adds h = rw (h .1) refl
+slot-first input ss (next-step.Take next) adds h = rw (h .1) refl
 slot-first input ss next-step.End adds h = rw h refl
 
 -- The record that the first step takes, from the answer that tells the step.
 pub slot-told : (input : List ℕ) (at adds k : ℕ) (r q : NextStep) (P : List Step → Type 0) → ((ss : List Step) → P ss → FirstStep input ss r) → r ≡ q
-    → k ≡ slot-of-next q adds → (ss : List Step) → P ss → k ≡ slot-for ss adds
-slot-told input at adds k r q P h e m ss s = m ∙ ap (λ (x : NextStep). slot-of-next x adds) (sym e) ∙ slot-first input ss r adds (h ss s)
+    → k ≡ slot-of-next q adds → (b : Bool) → b ≡ false → (ss : List Step) → P ss → k ≡ slot-for b ss adds
+slot-told input at adds k r q P h e m b z ss s =
+    m ∙ ap (λ (x : NextStep). slot-of-next x adds) (sym e) ∙ slot-first input ss r adds (h ss s) ∙ ap (λ (x : Bool). slot-for x ss adds) (sym z)
 
 -- ---- lists read by number
 

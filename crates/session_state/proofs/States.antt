@@ -3,7 +3,7 @@
 use Prim.Native.Nat.{ℕ, _+_, _*_, _≤_, _<_}
 use mathlib.Core.Path.{_≡_, sym, ap, subst, _∙_}
 use mathlib.Core.Logic.{_⊎_, inl, inr}
-use mathlib.Core.Bool.{Bool, false}
+use mathlib.Core.Bool.{Bool, true, false}
 use mathlib.Core.List.{List, [], _∷_, _++_}
 use mathlib.Core.Option.{some}
 use native.Mathlib.Omega.{arith}
@@ -20,20 +20,21 @@ use Rattle.spec_session.specs.File.{File, Step}
 use Rattle.spec_session.specs.Places.{StepsAt, StepNamed}
 use Rattle.spec_session.specs.Writer.{Session}
 use Rattle.spec_session.specs.Trees.{nth}
-use Rattle.spec_session.specs.Steps.{word-of, with-word, run-steps}
+use Rattle.spec_session.specs.Steps.{word-of, State, with-word, run-steps}
 use Rattle.spec_session.specs.Cache.{Cache}
 use Rattle.spec_session.specs.Extends.{Extends, extends-refl, extends-trans}
 use Rattle.file_parts.specs.Loaded.{forgets}
-use Rattle.work_layout.specs.Layout.{OPEN, USED, COPIES, COPY, ENTRIES}
+use Rattle.work_layout.specs.Layout.{OPEN, COPIES, COPY, ENTRIES}
 use Rattle.work_layout.specs.Rows.{all-counts, all-further}
 use Rattle.work_layout.specs.Counts.{further-within, further-few}
 use Rattle.cache_undo.specs.undo_state.Contracts.{copied-open, copied-stack, copied-marks}
 use Rattle.cache_undo.specs.cache_copy.Contracts.{copied-used, copied-maps, copied-counts, copied-firsts, copied-furthers, CacheCopied}
+use Rattle.cache_entries.specs.Meaning.{Whole}
 use Rattle.write_place.specs.State.{todo-of}
 use Rattle.session_state.specs.declared.progress.Progress.{Progress}
 use Rattle.path.specs.Bytes.{bit}
 use Rattle.session_state.specs.Moves.{noted-at}
-use Rattle.session_state.specs.State.{standing, whole-run, after-words, Roomy, At, Before, size-at, History, Stocked, Underway}
+use Rattle.session_state.specs.State.{whole-run, after-words, Roomy, At, Before, size-at, History, Shows, Stocked, Underway}
 use Rattle.session_state.proofs.Slots.{nth-low, nth-take}
 use Rattle.session_state.proofs.Runs.{finished-word, word-noted}
 
@@ -43,15 +44,15 @@ pub roomy-later : (w : List ℕ) (m n : ℕ) → m ≤ n → Roomy w m → Roomy
 roomy-later w m n l r = record { entries = omega (arith, r .entries); counts = r .counts }
 
 -- The copy of a cache rests on the words of its copy.
-pub copied-kept : (v w w′ : List ℕ) (k : ℕ) → at v USED ≤ ENTRIES → all-counts v ENTRIES ≤ 2048
+pub copied-kept : (v w w′ : List ℕ) (k : ℕ) → Whole v → all-counts v ENTRIES ≤ 2048
     → ((j : ℕ) → copied-open k ≤ j → j < copied-open k + COPY → at w′ j ≡ at w j) → CacheCopied v w k → CacheCopied v w′ k
-copied-kept v w w′ k few counts copies c = record {
+copied-kept v w w′ k wh counts copies c = record {
   used = copies (copied-used k) (omega arith) (omega arith) ∙ c .used;
-  maps = λ i l. copies (copied-maps k + i) (omega arith) (omega arith) ∙ c .maps i l;
-  counts = λ e l. copies (copied-counts k + e) (omega arith) (omega arith) ∙ c .counts e l;
-  firsts = λ e l. copies (copied-firsts k + e) (omega arith) (omega arith) ∙ c .firsts e l;
+  maps = λ i l. copies (copied-maps k + i) (omega arith) (omega (arith, wh .handles .few-pairs)) ∙ c .maps i l;
+  counts = λ e l. copies (copied-counts k + e) (omega arith) (omega (arith, wh .sound .used)) ∙ c .counts e l;
+  firsts = λ e l. copies (copied-firsts k + e) (omega arith) (omega (arith, wh .sound .used)) ∙ c .firsts e l;
   furthers = λ e i l m.
-      let b = further-within v ENTRIES e (omega arith) in
+      let b = further-within v ENTRIES e (omega (arith, wh .sound .used)) in
       let h = further-few v ENTRIES in
       copies (copied-furthers k + all-further v e + i) (omega arith) (omega arith) ∙ c .furthers e i l m;
 }
@@ -95,7 +96,7 @@ module _ (out out′ : List ℕ) (long : length out′ ≡ length out) where
           places = λ i l. copies (copied-stack k + i) (omega arith) (omega arith) ∙ a .places i l;
           marks = λ i l. copies (copied-marks k + i) (omega arith) (omega arith) ∙ a .marks i l;
           room-then = roomy-later (a .words-then) steps steps′ later (a .room-then);
-          cache-then = λ q. copied-kept (a .words-then) w w′ k (a .stood .running .stands .whole .sound .used) (a .stood .running .stands .counts) copies (a .cache-then q);
+          cache-then = λ q. copied-kept (a .words-then) w w′ k (a .stood .running .stands .whole) (a .stood .running .stands .counts) copies (a .cache-then q);
         }
 
     -- ---- the states before n adds
@@ -106,6 +107,10 @@ module _ (out out′ : List ℕ) (long : length out′ ≡ length out) where
       history-kept k u e =
           let l : k < n = omega (arith, nth-low past k u e, h .long) in
           before-kept k (getD rows k blank) u (λ j a b. copies j (omega arith) (omega arith)) (take-less (size-at rows k) size (h .sizes k l) same) (h .befores k u e)
+
+      -- As many adds, and the same session.
+      pub history-later : History f w′ out′ rows b steps′ size n past c
+      history-later = record { long = h .long; befores = history-kept; sizes = h .sizes; ordered = h .ordered; extended = h .extended; older = h .older }
 
       -- Fewer adds: an undo, with the size at record n, to a cache that has the entries of those before it.
       pub history-back : (m : ℕ) → m < n → (c′ : Cache) → ((k : ℕ) (u : Session) → k < m → nth past k ≡ some u → Extends (u .cache) c′)
@@ -181,12 +186,13 @@ module _ (out out′ : List ℕ) (long : length out′ ≡ length out) where
 
 -- The step's word is noted, and the run goes on at the next step.
 pub go-on : (input : List ℕ) (f : File) (w words words′ : List ℕ) (rows : List Checkpoint) (out : List ℕ) (q : Progress) (next : ℕ) (rest : List Step)
-    (past : List Session) (t : Session) → At f w out (q .opens) (q .depth) (q .size) (q .finished) t → Stocked input f w (q .steps + 1)
-    → History f w out rows (q .forgets) (q .steps + 1) (q .size) (q .adds) past (t .cache) → (q .forgets ≡ false → forgets rest ≡ false) → q .adds ≤ 16 → StepsAt input next rest
+    (past : List Session) (t : Session) (st : State) → At f w out (q .opens) (q .depth) (q .size) (q .finished) t → Stocked input f w (q .steps + 1)
+    → History f w out rows (q .forgets) (q .steps + 1) (q .size) (q .adds) past (t .cache) → (q .forgets ≡ false → forgets rest ≡ false) → q .adds ≤ 16 → q .done ≡ false → StepsAt input next rest
     → All (StepNamed (length (f .atoms)) (length (f .pairs))) rest → q .steps + 1 + length rest ≤ 1024 → 16 ≤ length rows → 1024 ≤ length words
-    → whole-run f (length out) ≡ after-words (take (q .steps) words) (with-word (word-of t) (run-steps counted (length out) f rest (standing past t)))
+    → (q .quoted ≡ true → q .forgets ≡ true) → Shows (q .quoted) f (length out) st past t
+    → whole-run f (length out) ≡ after-words (take (q .steps) words) (with-word (word-of t) (run-steps counted (length out) f rest st))
     → words′ ≡ set words (q .steps) (q .size * 2 + bit (q .finished)) → Underway input f w words′ rows out (noted-at q next)
-go-on input f w words words′ rows out q next rest past t a s h known few there named left many-rows many-words run e =
+go-on input f w words words′ rows out q next rest past t st a s h known few goes there named left many-rows many-words saved shown run e =
     record {
       left = rest;
       past = past;
@@ -196,16 +202,20 @@ go-on input f w words words′ rows out q next rest past t a s h known few there
       history = h;
       known = known;
       few-adds = few;
+      goes = goes;
       steps-there = there;
       steps-named = named;
       few-steps = left;
       many-rows = many-rows;
       many-words = omega (arith, ap length e, length-set words (q .steps) (q .size * 2 + bit (q .finished)));
+      quote-saved = saved;
+      state = st;
+      shown = shown;
       same =
           run
-          ∙ ap (λ (v : ℕ). after-words (take (q .steps) words) (with-word v (run-steps counted (length out) f rest (standing past t)))) word
-          ∙ word-noted words (q .steps) (q .size * 2 + bit (q .finished)) (run-steps counted (length out) f rest (standing past t)) (omega arith)
-          ∙ ap (λ (ws : List ℕ). after-words (take (q .steps + 1) ws) (run-steps counted (length out) f rest (standing past t))) (sym e);
+          ∙ ap (λ (v : ℕ). after-words (take (q .steps) words) (with-word v (run-steps counted (length out) f rest st))) word
+          ∙ word-noted words (q .steps) (q .size * 2 + bit (q .finished)) (run-steps counted (length out) f rest st) (omega arith)
+          ∙ ap (λ (ws : List ℕ). after-words (take (q .steps + 1) ws) (run-steps counted (length out) f rest st)) (sym e);
     }
   where
     word : word-of t ≡ q .size * 2 + bit (q .finished)

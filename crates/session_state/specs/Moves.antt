@@ -1,4 +1,4 @@
--- Where a session stands after each move: a refusal, a finished step, an add, an undo.
+-- Where a session stands after each move: a refusal, a finished step, an add, a quote, an undo.
 use Prim.Native.Nat.{ℕ, _+_}
 use mathlib.Core.Bool.{Bool, true, false}
 use Rattle.session_state.specs.declared.checkpoints.Checkpoint.{Checkpoint}
@@ -22,6 +22,7 @@ refused-at p n =
       number = n;
       done = true;
       forgets = p .forgets;
+      quoted = p .quoted;
     }
 
 -- A step is finished; the next one stands at `next`.
@@ -38,6 +39,7 @@ noted-at p next =
       number = p .number;
       done = p .done;
       forgets = p .forgets;
+      quoted = p .quoted;
     }
 
 -- Another place of the writer, and another count of adds.
@@ -54,6 +56,24 @@ moved-to p q n b =
       number = 0;
       done = false;
       forgets = p .forgets;
+      quoted = false;
+    }
+
+-- A quote is open, or none.
+abbrev pub with-quote : Progress → Bool → Progress
+with-quote p b =
+    record {
+      at = p .at;
+      steps = p .steps;
+      adds = p .adds;
+      opens = p .opens;
+      depth = p .depth;
+      size = p .size;
+      finished = p .finished;
+      number = p .number;
+      done = p .done;
+      forgets = p .forgets;
+      quoted = b;
     }
 
 -- The progress after an add.
@@ -61,6 +81,11 @@ abbrev pub after-outcome : Progress → Outcome → Progress
 after-outcome p (outcome.Done q) = moved-to p q (p .adds + 1) true
 after-outcome p (outcome.Stopped q) = moved-to p q (p .adds + 1) false
 after-outcome p (outcome.Refused n q) = refused-at (moved-to p q (p .adds) false) n
+
+-- The progress p before an add that is refused, and q after it: a quote of it leaves the one before.
+abbrev pub refusal-of : (quotes : Bool) → (p q : Progress) → Progress
+refusal-of false p q = q
+refusal-of true p q = refused-at p (q .number)
 
 -- The progress after an undo.
 abbrev pub undone-at : Progress → Checkpoint → ℕ → Progress

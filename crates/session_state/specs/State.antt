@@ -1,5 +1,5 @@
 -- What the slices hold between two steps of a session, and what they mean: a session of the definitions, and the states before its adds.
-use Prim.Native.Nat.{ℕ, _+_, _*_, _≤_, _<_}
+use Prim.Native.Nat.{ℕ, _+_, _-_, _*_, _≤_, _<_}
 use mathlib.Core.Path.{_≡_}
 use mathlib.Core.Bool.{Bool, true, false, cond}
 use mathlib.Core.List.{List, [], _∷_, _++_}
@@ -11,13 +11,13 @@ use Rattle.words.specs.Lists.{All}
 use Rattle.session_state.specs.Records.{blank}
 use Rattle.session_state.specs.declared.checkpoints.Checkpoint.{Checkpoint}
 use Rattle.path.specs.Measure.{counted}
-use Rattle.spec_session.specs.File.{File, Got, got, refused, Step, add, restore, forget, file, version-1}
+use Rattle.spec_session.specs.File.{File, Got, got, refused, Step, add, restore, forget, quote, take-quote, file, version-1}
 use Rattle.spec_session.specs.Places.{StepsAt, StepNamed}
 use Rattle.spec_session.specs.Items.{size-of, output}
 use Rattle.spec_session.specs.Cache.{Cache}
 use Rattle.spec_session.specs.Writer.{Todo, Session}
 use Rattle.spec_session.specs.Trees.{nth}
-use Rattle.spec_session.specs.Steps.{restored, State, at-start, Run, run-steps}
+use Rattle.spec_session.specs.Steps.{word-of, restored, State, at-start, went, run-step, Run, run-steps}
 use Rattle.spec_session.specs.Extends.{Extends}
 use Rattle.file_parts.specs.Loaded.{forgets}
 use Rattle.work_layout.specs.Layout.{PAIR-COUNT, OPEN, STACK, WRITTEN, SENTINEL-ENTRY, USED, ENTRIES}
@@ -44,7 +44,7 @@ unfoldable pub whole-run : File → (space : ℕ) → Run
 whole-run f space = run-steps counted space f (f .steps) at-start
 
 abbrev pub standing : (past : List Session) → Session → State
-standing past s = record { now = s; past = past }
+standing past s = record { now = s; past = past; quoted = none }
 
 -- A run after the words of steps that are finished.
 abbrev pub after-words : List ℕ → Run → Run
@@ -96,6 +96,13 @@ pub record History (f : File) (w out : List ℕ) (rows : List Checkpoint) (forge
   pub extended : (k : ℕ) (u : Session) → nth past k ≡ some u → Extends (u .cache) c
   pub older : (j k : ℕ) (u v : Session) → j < k → nth past j ≡ some u → nth past k ≡ some v → Extends (u .cache) (v .cache)
 
+-- ---- an open quote
+
+-- The state st of the definitions, where a session and those before its adds are held. While a quote is open its add stands: held is what the taking leaves.
+abbrev pub Shows : (quoted : Bool) → File → (space : ℕ) → State → (past : List Session) → Session → Type 0
+Shows false f space st past s = st ≡ standing past s
+Shows true f space st past s = (run-step counted space f take-quote st ≡ went (word-of s) (standing past s)) × (past ≡ st .past ++ st .now ∷ [])
+
 -- ---- a run under way
 
 -- What work holds of the file, and room for what the steps that are left can add to the cache.
@@ -115,12 +122,17 @@ pub record Underway (input : List ℕ) (f : File) (w words : List ℕ) (rows : L
   -- The flag is set before the first step.
   pub known : p .forgets ≡ false → forgets left ≡ false
   pub few-adds : p .adds ≤ 16
+  pub goes : p .done ≡ false
   pub steps-there : StepsAt input (p .at) left
   pub steps-named : All (StepNamed (length (f .atoms)) (length (f .pairs))) left
   pub few-steps : p .steps + length left ≤ 1024
   pub many-rows : 16 ≤ length rows
   pub many-words : 1024 ≤ length words
-  pub same : whole-run f (length out) ≡ after-words (take (p .steps) words) (run-steps counted (length out) f left (standing past session))
+  -- The cache before an open quote is saved.
+  pub quote-saved : p .quoted ≡ true → p .forgets ≡ true
+  pub state : State
+  pub shown : Shows (p .quoted) f (length out) state past session
+  pub same : whole-run f (length out) ≡ after-words (take (p .steps) words) (run-steps counted (length out) f left state)
 
 -- The run is over: no step is left, or one is refused.
 pub record Ended (f : File) (words out : List ℕ) (p : Progress) : Type 0 where
@@ -136,12 +148,25 @@ abbrev pub Stands : (input : List ℕ) (f : File) (w words : List ℕ) (rows : L
 Stands input f w words rows out p true = Ended f words out p
 Stands input f w words rows out p false = Underway input f w words rows out p
 
--- The record that a step takes, and stores: of an add its own; of an undo the one that it names.
-abbrev pub slot-for : List Step → (adds : ℕ) → ℕ
-slot-for [] adds = 0
-slot-for (add h ∷ steps) adds = cond (ltb adds 16) adds 0
-slot-for (restore n ∷ steps) adds = cond (ltb n 16) n 0
-slot-for (forget n ∷ steps) adds = cond (ltb n 16) n 0
+-- A record's number, or 0.
+abbrev pub low-slot : ℕ → ℕ
+low-slot n = cond (ltb n 16) n 0
+
+-- The record that a step takes, and stores: of an add or a quote its own; of an undo the one that it names; while a quote is open, that of its add.
+abbrev pub slot-for : (quoted : Bool) → List Step → (adds : ℕ) → ℕ
+slot-for true steps adds = low-slot (adds - 1)
+slot-for false [] adds = 0
+slot-for false (add h ∷ steps) adds = low-slot adds
+slot-for false (restore n ∷ steps) adds = low-slot n
+slot-for false (forget n ∷ steps) adds = low-slot n
+slot-for false (quote h ∷ steps) adds = low-slot adds
+slot-for false (take-quote ∷ steps) adds = 0
+
+-- ---- an add, or a quote of it
+
+abbrev pub add-of : (quotes : Bool) → (handle : ℕ) → Step
+add-of false h = add h
+add-of true h = quote h
 
 -- ---- an undo, which forgets or not
 

@@ -1,7 +1,7 @@
 -- What a step takes and leaves, in the terms of the states.
-use Prim.Native.Nat.{ℕ, _+_, _≤_}
+use Prim.Native.Nat.{ℕ, _+_, _*_, _<_}
 use mathlib.Core.Path.{_≡_}
-use mathlib.Core.Bool.{Bool, true, false}
+use mathlib.Core.Bool.{Bool, true, false, not}
 use mathlib.Core.List.{List}
 use lib.ListN.{getD, set}
 use Rattle.session_state.specs.Records.{blank}
@@ -29,14 +29,14 @@ told-undo true n next = next-step.Forget n next
 pub record Ready (input : List ℕ) (f : File) (w words out : List ℕ) (p : Progress) (c : Checkpoint) : Type 0 where
   pub rows : List Checkpoint
   pub underway : Underway input f w words rows out p
-  pub record-is : getD rows (slot-for (underway .left) (p .adds)) blank ≡ c
+  pub record-is : getD rows (slot-for (p .quoted) (underway .left) (p .adds)) blank ≡ c
 
--- One step more is finished, or the run is over.
+-- One step more is finished, or a quote is dropped, or the run is over.
 abbrev pub Nearer : Progress → Progress → Type 0
-Nearer p q = p .steps + 1 ≤ q .steps + bit (q .done)
+Nearer p q = 2 * p .steps + bit (not (p .quoted)) < 2 * (q .steps + bit (q .done)) + bit (not (q .quoted))
 
 -- The step is done, or refused, whatever the other records are.
 abbrev pub Onward : (input : List ℕ) (f : File) (w words out : List ℕ) (p : Progress) (c : Checkpoint) (w′ words′ out′ : List ℕ) (a : StepAnswer) → Type 0
 Onward input f w words out p c w′ words′ out′ a =
-    (rows : List Checkpoint) (u : Underway input f w words rows out p) → getD rows (slot-for (u .left) (p .adds)) blank ≡ c
-    → Stands input f w′ words′ (set rows (slot-for (u .left) (p .adds)) (a .saved)) out′ (a .state) (a .state .done) × Nearer p (a .state)
+    (rows : List Checkpoint) (u : Underway input f w words rows out p) → getD rows (slot-for (p .quoted) (u .left) (p .adds)) blank ≡ c
+    → Stands input f w′ words′ (set rows (slot-for (p .quoted) (u .left) (p .adds)) (a .saved)) out′ (a .state) (a .state .done) × Nearer p (a .state)

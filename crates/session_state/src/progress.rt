@@ -5,11 +5,12 @@ use write_place::Outcome;
 use write_place::Place;
 ghost use mathlib.Core.Path.{_≡_};
 ghost use Prim.Native.Nat.{_<_};
-ghost use Rattle.session_state.specs.Moves.{refused-at, moved-to, after-outcome, undone-at, stopped-at};
+ghost use Rattle.session_state.specs.Moves.{refused-at, moved-to, after-outcome, undone-at, stopped-at, with-quote, refusal-of};
 
 // Where a session stands: the next step's place in the file, the finished steps, the adds on the present history, the open pairs, the depth of the stack,
 // the bytes written, and whether the session is finished. The run is done at the end of the file, with number 0, or where a question gets no. `forgets` says
-// whether a step of the file is a forget: then each add saves the tree cache too.
+// whether a step of the file is a forget or a quote: then each add saves the tree cache too. While a quote is open (`quoted`) its add stands as the last one
+// of the history, until it is taken or dropped.
 pub struct Progress {
     pub at: usize,
     pub steps: usize,
@@ -21,6 +22,7 @@ pub struct Progress {
     pub number: u32,
     pub done: bool,
     pub forgets: bool,
+    pub quoted: bool,
 }
 
 // After a step: where the session stands, and the checkpoint record to store.
@@ -54,6 +56,7 @@ fn moved(p: Progress, q: Place, adds: usize, finished: bool) -> Progress
         number: 0,
         done: false,
         forgets: p.forgets,
+        quoted: false,
     }
 }
 
@@ -67,6 +70,25 @@ pub fn after_outcome(p: Progress, o: Outcome) -> Progress
         Outcome::Stopped(q) => moved(p, q, p.adds + 1, false),
         Outcome::Refused(n, q) => refuse(moved(p, q, p.adds, false), n),
     }
+}
+
+// A quote is open, or none.
+pub fn with_quote(p: Progress, quoted: bool) -> Progress
+    ensures { λ r. ⌜ r ≡ with-quote p quoted ⌝ }
+{
+    let mut next = p;
+    next.quoted = quoted;
+    next
+}
+
+// Where the session stands after a refused add q, or after a quote of it: then where it stood before.
+pub fn refusal_of(p: Progress, q: Progress, quotes: bool) -> Progress
+    ensures { λ r. ⌜ r ≡ refusal-of quotes p q ⌝ }
+{
+    if quotes {
+        return refuse(p, q.number);
+    }
+    q
 }
 
 // Where the session stands after an undo.

@@ -3,7 +3,7 @@ use crate::checkpoints::Checkpoint;
 use crate::progress::Progress;
 ghost use mathlib.Core.Path.{_≡_};
 ghost use mathlib.Core.Bool.{cond};
-ghost use Prim.Native.Nat.{_+_, _*_, _^_, _≤_, _<_, min};
+ghost use Prim.Native.Nat.{_+_, _-_, _*_, _^_, _≤_, _<_, min};
 ghost use lib.Dec.{ltb};
 ghost use lib.ListN.{length, set};
 ghost use Rattle.words.specs.Words.{WORK};
@@ -26,6 +26,16 @@ pub fn within(n: usize) -> usize
         return n;
     }
     0
+}
+
+// The checkpoint record of the last add.
+pub fn last(adds: usize) -> usize
+    ensures { λ r. ⌜ (r < 16) × (r ≡ cond (ltb (adds - 1) 16) (adds - 1) 0) ⌝ }
+{
+    if adds == 0 {
+        return 0;
+    }
+    within(adds - 1)
 }
 
 // The checkpoint record of the present state.

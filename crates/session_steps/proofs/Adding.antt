@@ -2,9 +2,9 @@
 -- Assumes nothing.
 use Prim.Native.Nat.{ℕ, suc, _+_, _*_, _≤_, _<_}
 use mathlib.Core.Path.{_≡_, refl, sym, ap, subst, _∙_}
-use mathlib.Core.Bool.{Bool, true, false}
+use mathlib.Core.Bool.{Bool, true, false, cond}
 use mathlib.Core.List.{List, [], _∷_, _++_}
-use mathlib.Core.Option.{none, some}
+use mathlib.Core.Option.{Option, none, some}
 use native.Mathlib.Omega.{arith}
 use lib.Dec.{ltb}
 use lib.ListN.{length, set, take, length-set}
@@ -16,14 +16,14 @@ use Rattle.session_state.specs.declared.checkpoints.Checkpoint.{Checkpoint}
 use Rattle.path.specs.Measure.{counted}
 use Rattle.allocator.specs.Handle.{node-of}
 use Rattle.allocator.specs.declared.NodePtr.{NodePtr}
-use Rattle.spec_session.specs.File.{File, Step, add, named}
+use Rattle.spec_session.specs.File.{File, Step, named}
 use Rattle.spec_session.specs.Places.{StepsAt, StepNamed}
 use Rattle.spec_session.specs.Unfold.{unfolded}
 use Rattle.spec_session.specs.Cache.{Cache, update}
 use Rattle.spec_session.specs.Writer.{Todo, Written, Session, settle}
 use Rattle.spec_session.specs.Writer as writer
 use Rattle.spec_session.specs.Extends.{Extends, update-extends}
-use Rattle.spec_session.specs.Steps.{room-in, Run, after-add, after-step, run-steps}
+use Rattle.spec_session.specs.Steps.{room-in, add-handle, Run, after-step, run-steps}
 use Rattle.file_parts.specs.Loaded.{forgets}
 use Rattle.spec_session.specs.FindPath.{find-in}
 use Rattle.work_layout.specs.Layout.{ATOM-COUNT, PAIR-COUNT, OPEN, STACK, WRITTEN, MOVED, MAPS, SENTINEL-ENTRY, USED, SEEN, COPIES, ENTRIES}
@@ -37,36 +37,41 @@ use Rattle.cache_entries.specs.Contracts.{Updated}
 use Rattle.write_place.specs.State.{AtomPlaces, AtomsThere, todo-of, Running, Writes}
 use Rattle.write_loop.specs.Contracts.{place-of, Fine, goes-on, comes-to, Leads, ended}
 use Rattle.write_loop.proofs.write_turn.Frames.{todo-same, rights-same, pairs-few}
+use Rattle.write_place.specs.declared.Place.{Place}
 use Rattle.write_place.specs.declared.Outcome.{Outcome}
 use Rattle.write_place.specs.declared.Outcome.the-variants as outcome
 use Rattle.session_state.specs.declared.progress.Progress.{Progress}
 use Rattle.path.specs.Bytes.{bit}
 use Rattle.session_state.specs.Stored.{record-of}
-use Rattle.session_state.specs.Moves.{noted-at, after-outcome}
-use Rattle.session_state.specs.State.{standing, whole-run, after-words, waits, Roomy, At, Before, History, Stocked, Underway, Ended, slot-for}
+use Rattle.session_state.specs.Moves.{noted-at, moved-to, with-quote, after-outcome, refusal-of}
+use Rattle.session_state.specs.State.{standing, whole-run, after-words, waits, Roomy, At, Before, History, Stocked, Underway, Ended, slot-for, add-of}
 use Rattle.session_steps.specs.Contracts.{StateSaved, Adding, Added}
 use Rattle.write_place.proofs.Frames.{places-kept, atoms-kept, whole-kept, holds-kept, unmapped-kept, all-counts-kept}
-use Rattle.session_state.proofs.Runs.{run-add, words-ended}
+use Rattle.session_state.proofs.Runs.{after-tried, tried, tried-went, add-settles, run-add, shows-tried, words-ended}
+use Rattle.session_state.proofs.Answers.{same-standing}
 use Rattle.session_state.proofs.States.{roomy-later, copied-kept, at-kept, history-more, go-on}
 
 -- ---- what an add takes
 
+-- Its handle names a node.
+first-named : (b : Bool) (h : ℕ) (rest : List Step) (atoms pairs : ℕ) → All (StepNamed atoms pairs) (add-of b h ∷ rest) → named atoms pairs (node-of h) ≡ true
+first-named false h rest atoms pairs a = a .0
+first-named true h rest atoms pairs a = a .0
+
 pub adding : {input : List ℕ} {f : File} {w words : List ℕ} {rows : List Checkpoint} {out : List ℕ} {p : Progress} {h : ℕ} {rest : List Step}
-    (u : Underway input f w words rows out p) → u .left ≡ add h ∷ rest → p .finished ≡ false → p .adds < 16 → Adding input w out p h
-adding {input} {f} {w} {words} {rows} {out} {p} {h} {rest} u e fin few =
+    (b : Bool) (u : Underway input f w words rows out p) → u .left ≡ add-of b h ∷ rest → p .finished ≡ false → p .adds < 16 → Adding input w out p h
+adding {input} {f} {w} {words} {rows} {out} {p} {h} {rest} b u e fin few =
     let left : length (u .left) ≡ suc (length rest) = ap length e in
     record {
       places = u .stocked .places;
       running = subst (λ (b : Bool). Running w out (p .opens) (p .depth) (p .size) (bit b)) fin (u .present .running);
-      names = rw (u .stocked .tables .atom-count, u .stocked .tables .pair-count) (first (u .left) e (u .steps-named));
+      names =
+          rw (u .stocked .tables .atom-count, u .stocked .tables .pair-count)
+          (first-named b h rest (length (f .atoms)) (length (f .pairs)) (subst (λ (x : List Step). All (StepNamed (length (f .atoms)) (length (f .pairs))) x) e (u .steps-named)));
       room = omega (arith, u .stocked .room .entries, u .few-steps);
       counts = u .stocked .room .counts;
       few = few;
     }
-  where
-    first : (ss : List Step) → ss ≡ add h ∷ rest → All (StepNamed (length (f .atoms)) (length (f .pairs))) ss
-        → named (length (f .atoms)) (length (f .pairs)) (node-of h) ≡ true
-    first ss q a = subst (λ (x : List Step). All (StepNamed (length (f .atoms)) (length (f .pairs))) x) q a .0
 
 module _ {input w out : List ℕ} {p : Progress} {h : ℕ} (ad : Adding input w out p h) {w₁ : List ℕ} (len₁ : length w₁ ≡ length w)
     (sv : StateSaved w w₁ p) where
@@ -173,9 +178,9 @@ module _ {input w out : List ℕ} {p : Progress} {h : ℕ} (ad : Adding input w 
 
 -- ---- what an add leaves
 
-module _ {input : List ℕ} {f : File} {w words : List ℕ} {rows : List Checkpoint} {out : List ℕ} {p : Progress} {node : NodePtr} (next : ℕ) {rest : List Step}
-    (u : Underway input f w words rows out p) (e : u .left ≡ add (node .0) ∷ rest) (there : StepsAt input next rest) (fin : p .finished ≡ false) (few : p .adds < 16)
-    {w′ out′ : List ℕ} {q : Progress} (a : Added input w out w′ out′ p node q) where
+module _ {input : List ℕ} {f : File} {w words : List ℕ} {rows : List Checkpoint} {out : List ℕ} {p : Progress} {node : NodePtr} (b : Bool) (next : ℕ) {rest : List Step}
+    (u : Underway input f w words rows out p) (none-open : p .quoted ≡ false) (e : u .left ≡ add-of b (node .0) ∷ rest) (there : StepsAt input next rest)
+    (fin : p .finished ≡ false) (few : p .adds < 16) {w′ out′ : List ℕ} {q : Progress} (a : Added input w out w′ out′ p node q) where
   abbrev h : ℕ
   h = node .0
 
@@ -198,7 +203,7 @@ module _ {input : List ℕ} {f : File} {w words : List ℕ} {rows : List Checkpo
   w₂ = a .updated-words
 
   ad : Adding input w out p h
-  ad = adding u e fin few
+  ad = adding b u e fin few
 
   tables₂ : Tables f w₂
   tables₂ = tables-kept w w₂ (low₂ ad (a .saved-long) (a .saved) (a .updated)) f (ad .running .stands .whole .handles) (u .stocked .tables)
@@ -245,7 +250,7 @@ module _ {input : List ℕ} {f : File} {w words : List ℕ} {rows : List Checkpo
         marks = λ i l. copied (copied-marks (p .adds) + i) (omega arith) ∙ a .saved .saved .marks i l;
         room-then = roomy-later w (p .steps) (p .steps + 1) (omega arith) (u .stocked .room);
         cache-then = λ y.
-            copied-kept w w₁ w′ (p .adds) (ad .running .stands .whole .sound .used) (ad .running .stands .counts) (λ j l m. copied j (omega arith)) (a .saved .cache y);
+            copied-kept w w₁ w′ (p .adds) (ad .running .stands .whole) (ad .running .stands .counts) (λ j l m. copied j (omega arith)) (a .saved .cache y);
       }
 
   history : (size′ : ℕ) → p .size ≤ size′ → History f w′ out′ rows′ (p .forgets) (p .steps + 1) size′ (p .adds + 1) past′ c₂
@@ -255,24 +260,33 @@ module _ {input : List ℕ} {f : File} {w words : List ℕ} {rows : List Checkpo
       (record-of w p) s size′ c₂ (omega (arith, u .many-rows)) l (omega arith) refl (update-extends (unfolded f h) (s .cache)) before
 
   known : p .forgets ≡ false → forgets rest ≡ false
-  known y = ap forgets (sym e) ∙ u .known y
+  known y = go b (ap forgets (sym e) ∙ u .known y)
+    where
+      go : (c : Bool) → forgets (add-of c h ∷ rest) ≡ false → forgets rest ≡ false
+      go false q = q
+      go true q = clash cc
 
-  slot : slot-for (u .left) (p .adds) ≡ p .adds
-  slot = ap (λ (x : List Step). slot-for x (p .adds)) e ∙ cond-true (ltb (p .adds) 16) (p .adds) 0 (lt-ltb (p .adds) 16 few)
+  -- A quote's state was saved with its cache.
+  saved-cache : b ≡ true → p .forgets ≡ true
+  saved-cache q = go (p .forgets) (λ y. ap (λ (c : Bool). forgets (add-of c h ∷ rest)) (sym q) ∙ ap forgets (sym e) ∙ u .known y)
+    where
+      go : (flag : Bool) → (flag ≡ false → true ≡ false) → flag ≡ true
+      go true k = refl
+      go false k = sym (k refl)
 
-  -- The run up to this add, and the add.
-  run : whole-run f (length out′)
-      ≡ after-words (take (p .steps) words) (after-step (after-add (settle s c₂ (comes-to f c₂ (length out) w′ (ended (a .outcome)) (meant .last))) (standing (u .past) s))
-      (λ t. run-steps counted (length out′) f rest t))
-  run =
-      subst (λ (n : ℕ). whole-run f n
-      ≡ after-words (take (p .steps) words) (after-step (after-add (settle s c₂ (comes-to f c₂ (length out) w′ (ended (a .outcome)) (meant .last))) (standing (u .past) s))
-      (λ t. run-steps counted n f rest t)))
-      (sym (a .out-long))
-      (u .same
-      ∙ ap (λ (ss : List Step). after-words (take (p .steps) words) (run-steps counted (length out) f ss (standing (u .past) s))) e
-      ∙ ap (λ (r : Run). after-words (take (p .steps) words) r)
-      (run-add (length out) f (u .past) s h rest (todo-of f w (p .opens)) (comes-to f c₂ (length out) w′ (ended (a .outcome)) (meant .last)) waiting (omega (arith, u .history .long)) resumes))
+  slot : slot-for (p .quoted) (u .left) (p .adds) ≡ p .adds
+  slot = (λ i. slot-for (none-open i) (e i) (p .adds)) ∙ go b ∙ cond-true (ltb (p .adds) 16) (p .adds) 0 (lt-ltb (p .adds) 16 few)
+    where
+      go : (c : Bool) → slot-for false (add-of c h ∷ rest) (p .adds) ≡ cond (ltb (p .adds) 16) (p .adds) 0
+      go false = refl
+      go true = refl
+
+  -- What the definitions' add comes to.
+  abbrev outcome-of : Outcome → writer.Added
+  outcome-of o = settle s c₂ (comes-to f c₂ (length out) w′ (ended o) (meant .last))
+
+  adds : add-handle counted (length out′) f h s ≡ outcome-of (a .outcome)
+  adds = subst (λ (n : ℕ). add-handle counted n f h s ≡ outcome-of (a .outcome)) (sym (a .out-long)) (add-settles (length out) f (u .past) s h (todo-of f w (p .opens)) _ waiting resumes)
     where
       resumes : writer.resume (find-in counted) (room-in (length out)) c₂ (writer.parse (unfolded f h) ∷ todo-of f w (p .opens)) (s .written)
           ≡ comes-to f c₂ (length out) w′ (ended (a .outcome)) (meant .last)
@@ -280,6 +294,19 @@ module _ {input : List ℕ} {f : File} {w words : List ℕ} {rows : List Checkpo
           ap (λ (k : List Todo). writer.resume (find-in counted) (room-in (length out)) c₂ (writer.parse (unfolded f h) ∷ k) (s .written))
           (sym (todo₂ ad (a .saved-long) (a .saved) (a .updated) f))
           ∙ meant .same
+
+  few-past : length (u .past) ≤ 15
+  few-past = omega (arith, u .history .long)
+
+  -- The run up to this add, and the add.
+  run : (r : writer.Added) → add-handle counted (length out′) f h s ≡ r → whole-run f (length out′)
+      ≡ after-words (take (p .steps) words) (after-step (after-tried b h r (standing (u .past) s)) (λ t. run-steps counted (length out′) f rest t))
+  run r q =
+      subst (λ (n : ℕ). whole-run f n ≡ after-words (take (p .steps) words) (run-steps counted n f (u .left) (standing (u .past) s))) (sym (a .out-long))
+      (same-standing input f w words out p (record-of w p) none-open rows u)
+      ∙ ap (λ (ss : List Step). after-words (take (p .steps) words) (run-steps counted (length out′) f ss (standing (u .past) s))) e
+      ∙ ap (λ (y : Run). after-words (take (p .steps) words) y)
+      (run-add (length out′) f (u .past) s b h rest (todo-of f w (p .opens)) r waiting few-past q)
 
   long₂ : length w′ ≡ length w₂
   long₂ = a .long ∙ sym (a .updated-long)
@@ -304,17 +331,9 @@ module _ {input : List ℕ} {f : File} {w words : List ℕ} {rows : List Checkpo
         room = record { entries = omega (arith, u .stocked .room .entries); counts = omega (arith, u .stocked .room .counts) };
       }
 
-  -- The session after the add.
-  abbrev session-after : Outcome → Session
-  session-after (outcome.Done pl) = record { cache = c₂; waiting = none; written = meant .last }
-  session-after (outcome.Stopped pl) = record { cache = c₂; waiting = some (todo-of f w′ (pl .opens)); written = meant .last }
-  session-after (outcome.Refused n pl) = record { cache = c₂; waiting = s .waiting; written = meant .last }
-
-  abbrev RunTo : Outcome → Type 0
-  RunTo o =
-      whole-run f (length out′)
-      ≡ after-words (take (p .steps) words) (after-step (after-add (settle s c₂ (comes-to f c₂ (length out) w′ (ended o) (meant .last))) (standing (u .past) s))
-      (λ t. run-steps counted (length out′) f rest t))
+  -- The session after the add, which waits at an open place or not.
+  abbrev after : Option (List Todo) → Session
+  after k = record { cache = c₂; waiting = k; written = meant .last }
 
   abbrev WritesTo : Outcome → Type 0
   WritesTo o = Writes f w′ out′ (place-of (ended o) .depth) (place-of (ended o) .size) c₂ (meant .last)
@@ -328,42 +347,72 @@ module _ {input : List ℕ} {f : File} {w words : List ℕ} {rows : List Checkpo
   many : 16 ≤ length rows′
   many = omega (arith, length-set rows (p .adds) (record-of w p), u .many-rows)
 
-  on : (o : Outcome) → Fine w′ out′ (ended o) → WritesTo o → p .size ≤ place-of (ended o) .size → RunTo o → after-outcome p o .done ≡ false → (words′ : List ℕ)
-      → words′ ≡ set words (after-outcome p o .steps) (after-outcome p o .size * 2 + bit (after-outcome p o .finished))
-      → Underway input f w′ words′ rows′ out′ (noted-at (after-outcome p o) next)
-  on (outcome.Done pl) ends writes longer to d words′ ws =
-      go-on input f w′ words words′ rows′ out′ (after-outcome p (outcome.Done pl)) next rest past′ (session-after (outcome.Done pl))
-      (record { running = ends .0; writes = writes; waiting = refl }) stocked (history (pl .size) longer) known (omega arith) there named-rest few-rest many (u .many-words) to ws
-  on (outcome.Stopped pl) ends writes longer to d words′ ws =
-      go-on input f w′ words words′ rows′ out′ (after-outcome p (outcome.Stopped pl)) next rest past′ (session-after (outcome.Stopped pl))
-      (record { running = ends; writes = writes; waiting = refl }) stocked (history (pl .size) longer) known (omega arith) there named-rest few-rest many (u .many-words) to ws
-  on (outcome.Refused n pl) ends writes longer to d words′ ws = clash cc
+  going : (pl : Place) (end : Bool) (k : Option (List Todo)) → At f w′ out′ (pl .opens) (pl .depth) (pl .size) end (after k) → p .size ≤ pl .size
+      → add-handle counted (length out′) f h s ≡ writer.added (after k) → (words′ : List ℕ) → words′ ≡ set words (p .steps) (pl .size * 2 + bit end)
+      → Underway input f w′ words′ rows′ out′ (noted-at (with-quote (moved-to p pl (p .adds + 1) end) b) next)
+  going pl end k there-at longer is words′ ws =
+      go-on input f w′ words words′ rows′ out′ (with-quote (moved-to p pl (p .adds + 1) end) b) next rest past′ (after k) (tried (length out′) f (u .past) s b h (after k))
+      there-at stocked (history (pl .size) longer) known (omega arith) refl there named-rest few-rest many (u .many-words) saved-cache
+      (shows-tried (length out′) f (u .past) s b h (todo-of f w (p .opens)) (after k) waiting few-past is)
+      (run (writer.added (after k)) is
+      ∙ ap (λ (r : Run). after-words (take (p .steps) words) r) (tried-went (length out′) f (u .past) s b h (after k) (λ y. run-steps counted (length out′) f rest y)))
+      ws
 
-  off : (o : Outcome) → WritesTo o → RunTo o → after-outcome p o .done ≡ true → Ended f words out′ (after-outcome p o)
-  off (outcome.Done pl) writes to d = clash cc
-  off (outcome.Stopped pl) writes to d = clash cc
-  off (outcome.Refused n pl) writes to d =
-      record {
-        session = session-after (outcome.Refused n pl);
-        size-is = writes .size-is;
-        bytes-are = writes .bytes-are;
-        short = omega (arith, a .out-long, ad .running .short);
-        few-steps = omega (arith, u .few-steps);
-        many-words = u .many-words;
-        same = to ∙ words-ended (take (p .steps) words) n (session-after (outcome.Refused n pl));
-      }
+  on : (o : Outcome) → Fine w′ out′ (ended o) → WritesTo o → p .size ≤ place-of (ended o) .size → add-handle counted (length out′) f h s ≡ outcome-of o
+      → after-outcome p o .done ≡ false → (words′ : List ℕ)
+      → words′ ≡ set words (after-outcome p o .steps) (after-outcome p o .size * 2 + bit (after-outcome p o .finished))
+      → Underway input f w′ words′ rows′ out′ (noted-at (with-quote (after-outcome p o) b) next)
+  on (outcome.Done pl) ends writes longer is d words′ ws =
+      going pl true none (record { running = ends .0; writes = writes; waiting = refl }) longer is words′ ws
+  on (outcome.Stopped pl) ends writes longer is d words′ ws =
+      going pl false (some (todo-of f w′ (pl .opens))) (record { running = ends; writes = writes; waiting = refl }) longer is words′ ws
+  on (outcome.Refused n pl) ends writes longer is d words′ ws = clash cc
+
+  off : (o : Outcome) → WritesTo o → add-handle counted (length out′) f h s ≡ outcome-of o → after-outcome p o .done ≡ true
+      → Ended f words out′ (refusal-of b p (after-outcome p o))
+  off (outcome.Done pl) writes is d = clash cc
+  off (outcome.Stopped pl) writes is d = clash cc
+  off (outcome.Refused n pl) writes is d = go b (run _ is)
+    where
+      t : Session
+      t = after (s .waiting)
+
+      go : (c : Bool) → whole-run f (length out′)
+          ≡ after-words (take (p .steps) words) (after-step (after-tried c h (writer.turned-down n t) (standing (u .past) s)) (λ y. run-steps counted (length out′) f rest y))
+          → Ended f words out′ (refusal-of c p (after-outcome p (outcome.Refused n pl)))
+      go false to =
+          record {
+            session = t;
+            size-is = writes .size-is;
+            bytes-are = writes .bytes-are;
+            short = omega (arith, a .out-long, ad .running .short);
+            few-steps = omega (arith, u .few-steps);
+            many-words = u .many-words;
+            same = to ∙ words-ended (take (p .steps) words) n t;
+          }
+      go true to =
+          record {
+            session = s;
+            size-is = stood .writes .size-is;
+            bytes-are = stood .writes .bytes-are;
+            short = omega (arith, a .out-long, ad .running .short);
+            few-steps = omega (arith, u .few-steps);
+            many-words = u .many-words;
+            same = to ∙ words-ended (take (p .steps) words) n s;
+          }
 
   -- An add that is not refused: its word is noted, and the run goes on.
-  pub added-on : {words′ : List ℕ} {t : Progress} → q .done ≡ false → words′ ≡ set words (q .steps) (q .size * 2 + bit (q .finished)) → t ≡ noted-at q next
-      → Underway input f w′ words′ (set rows (slot-for (u .left) (p .adds)) (record-of w p)) out′ t
+  pub added-on : {words′ : List ℕ} {t : Progress} → q .done ≡ false → words′ ≡ set words (q .steps) (q .size * 2 + bit (q .finished)) → t ≡ noted-at (with-quote q b) next
+      → Underway input f w′ words′ (set rows (slot-for (p .quoted) (u .left) (p .adds)) (record-of w p)) out′ t
   added-on {words′} {t} d ws is =
       subst (λ (k : ℕ). Underway input f w′ words′ (set rows k (record-of w p)) out′ t) (sym slot)
       (subst (λ (x : Progress). Underway input f w′ words′ rows′ out′ x) (sym is)
       (subst (λ (x : Progress). x .done ≡ false → words′ ≡ set words (x .steps) (x .size * 2 + bit (x .finished))
-      → Underway input f w′ words′ rows′ out′ (noted-at x next)) (sym (a .is))
-      (λ x y. on (a .outcome) (a .resumed .fine) (meant .writes) (a .resumed .grows) run x words′ y) d ws))
+      → Underway input f w′ words′ rows′ out′ (noted-at (with-quote x b) next)) (sym (a .is))
+      (λ x y. on (a .outcome) (a .resumed .fine) (meant .writes) (a .resumed .grows) adds x words′ y) d ws))
 
-  -- A refused add ends the run, and keeps the whole items written.
-  pub added-off : q .done ≡ true → Ended f words out′ q
-  added-off d =
-      subst (λ (x : Progress). x .done ≡ true → Ended f words out′ x) (sym (a .is)) (λ x. off (a .outcome) (meant .writes) run x) d
+  -- A refused add ends the run, and keeps the whole items written; a refused quote keeps what was there before.
+  pub added-off : {t : Progress} → q .done ≡ true → t ≡ refusal-of b p q → Ended f words out′ t
+  added-off {t} d is =
+      subst (λ (x : Progress). Ended f words out′ x) (sym is)
+      (subst (λ (x : Progress). x .done ≡ true → Ended f words out′ (refusal-of b p x)) (sym (a .is)) (λ x. off (a .outcome) (meant .writes) adds x) d)

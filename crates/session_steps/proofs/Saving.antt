@@ -8,7 +8,7 @@ use native.Mathlib.Omega.{arith}
 use lib.ListN.{length}
 use Rattle.words.specs.Choice.{clash}
 use Rattle.words.specs.Words.{at}
-use Rattle.work_layout.specs.Layout.{USED, COUNTS, PARENTS, COPIES, MAPS, ENTRIES}
+use Rattle.work_layout.specs.Layout.{PAIR-COUNT, USED, COUNTS, PARENTS, COPIES, MAPS, ENTRIES}
 use Rattle.work_layout.specs.Rows.{Sound, all-counts}
 use Rattle.work_layout.specs.Counts.{further-same}
 use Rattle.cache_undo.specs.undo_state.Contracts.{copied-open, copied-stack, copied-marks, Saved}
@@ -26,10 +26,17 @@ module _ {w w₁ : List ℕ} (p : Progress) (st : Standing w (p .opens) (p .dept
   so : Sound w
   so = st .whole .sound
 
-  pub cache-asks : Sound w₁ × (all-counts w₁ ENTRIES ≤ 2048)
+  pairs : at w₁ PAIR-COUNT ≡ at w PAIR-COUNT
+  pairs = same PAIR-COUNT (omega arith)
+
+  few-pairs : at w PAIR-COUNT ≤ 1024
+  few-pairs = st .whole .handles .few-pairs
+
+  pub cache-asks : Sound w₁ × (all-counts w₁ ENTRIES ≤ 2048) × (at w₁ PAIR-COUNT ≤ 1024)
   cache-asks = (
     sound-kept w w₁ len (λ k a b. same k (omega arith)) so,
     omega (arith, counts-kept w w₁ len (λ k a b. same k (omega arith)) so ENTRIES (omega arith), st .counts),
+    omega (arith, pairs, few-pairs),
   )
 
   -- The copy of the cache lies behind that of the stack and the marks.
@@ -44,7 +51,7 @@ module _ {w w₁ : List ℕ} (p : Progress) (st : Standing w (p .opens) (p .dept
     };
     cache = λ e. record {
       used = cs .copied .used ∙ used;
-      maps = λ i l. cs .copied .maps i l ∙ same (MAPS + i) (omega arith);
+      maps = λ i l. cs .copied .maps i (omega (arith, pairs)) ∙ same (MAPS + i) (omega (arith, few-pairs));
       counts = λ x l. cs .copied .counts x (omega (arith, used)) ∙ count x (omega (arith, so .used));
       firsts = λ x l. cs .copied .firsts x (omega (arith, used)) ∙ same (PARENTS + x) (omega (arith, so .used));
       furthers = λ x i l m.

@@ -1,11 +1,13 @@
--- An add: what it takes, and what it leaves.
+-- An add, or a quote of it: what it takes, and what it leaves.
 use Prim.Native.Nat.{ℕ, _+_, _*_, _≤_, _<_}
 use mathlib.Core.Path.{_≡_}
-use mathlib.Core.Bool.{true}
+use mathlib.Core.Bool.{Bool, true, false}
 use mathlib.Core.List.{List}
 use lib.ListN.{length}
 use Rattle.words.specs.Words.{at}
 use Rattle.allocator.specs.declared.NodePtr.{NodePtr}
+use Rattle.file_parts.specs.declared.session_file.NextStep.{NextStep}
+use Rattle.file_parts.specs.declared.session_file.NextStep.the-variants as next-step
 use Rattle.work_layout.specs.Layout.{PAIR-COUNT, USED, ENTRIES}
 use Rattle.work_layout.specs.Rows.{all-counts}
 use Rattle.cache_undo.specs.undo_state.Contracts.{Saved}
@@ -19,6 +21,11 @@ use Rattle.write_place.specs.declared.Place.{Place}
 use Rattle.write_place.specs.declared.Outcome.{Outcome}
 use Rattle.session_state.specs.declared.progress.Progress.{Progress}
 use Rattle.session_state.specs.Moves.{after-outcome}
+
+-- An add at a place of the file, or a quote of it.
+abbrev pub told-add : (quotes : Bool) → NodePtr → (next : ℕ) → NextStep
+told-add false node next = next-step.Add node next
+told-add true node next = next-step.Quote node next
 
 -- The state p of the words is saved.
 pub record StateSaved (w w′ : List ℕ) (p : Progress) : Type 0 where

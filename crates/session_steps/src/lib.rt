@@ -1,4 +1,5 @@
 // incremental.rs and the session file: the steps of a session.
+mod quoted_step;
 pub mod run_steps;
 mod undo_step;
 
@@ -12,13 +13,14 @@ use session_state::progress;
 use session_state::progress::Progress;
 use session_state::step_records;
 use write_place::Place;
+ghost use mathlib.Core.Path.{_≡_};
+ghost use mathlib.Core.Bool.{false};
 ghost use Prim.Native.Nat.{_<_};
 ghost use lib.ListN.{take};
-ghost use Rattle.file_parts.specs.declared.session_file.NextStep.the-variants as next-step;
 ghost use Rattle.session_state.specs.State.{the-file};
 ghost use Rattle.session_state.specs.Steps.{Comes, Ready, Onward};
 ghost use Rattle.write_place.specs.State.{Standing};
-ghost use Rattle.session_steps.specs.Contracts.{StateSaved, Adding, Added};
+ghost use Rattle.session_steps.specs.Contracts.{told-add, StateSaved, Adding, Added};
 
 // The state before an add is saved: open pairs, stack and marks, and the tree cache where a step of the file forgets.
 fn save_state(work: &mut [u32], p: Progress)
@@ -47,7 +49,8 @@ fn add(file: &[u8], work: &mut [u32], output: &mut [u8], p: Progress, node: Node
     progress::after_outcome(p, o)
 }
 
-// An add: questions 9 and 10; the tree is added, and the step's word written unless the add is refused.
+// An add, or a quote of it: questions 9 and 10; the tree is added, and the step's word written unless the add is refused. What a quote adds stands until
+// the next step; where it is refused, the session ends as it was before.
 fn add_step(
     file: &[u8],
     work: &mut [u32],
@@ -55,12 +58,13 @@ fn add_step(
     output: &mut [u8],
     p: Progress,
     node: NodePtr,
+    quotes: bool,
     next: usize,
     c: Checkpoint,
 ) -> StepAnswer
     requires { ⌜
-        (Ready (now file) (the-file (now file)) (now work) (now words) (now output) p c)
-        × (Comes (now file) (p .at) (next-step.Add node next)) ⌝ }
+        (Ready (now file) (the-file (now file)) (now work) (now words) (now output) p c) × (p .quoted ≡ false)
+        × (Comes (now file) (p .at) (told-add quotes node next)) ⌝ }
     ensures { λ a. ⌜
         Onward (now (file .entry)) (the-file (now (file .entry))) (now (work .entry)) (now (words .entry))
         (now (output .entry)) p c (now (work .exit)) (now (words .exit)) (now (output .exit)) a ⌝ }
@@ -72,15 +76,18 @@ fn add_step(
     let saved = step_records::record_of(work, p);
     let q = add(file, work, output, p, node);
     if q.done {
-        return StepAnswer { state: q, saved };
+        let state = progress::refusal_of(p, q, quotes);
+        return StepAnswer { state, saved };
     }
+    let kept = progress::with_quote(q, quotes);
     StepAnswer {
-        state: step_records::note(words, q, next),
+        state: step_records::note(words, kept, next),
         saved,
     }
 }
 
-// One step of the file: an add, an undo, or the end. It takes the session's state and one checkpoint record, and gives the state and the record to store.
+// One step of the file: an add, a quote, an undo, a taking, or the end. It takes the session's state and one checkpoint record, and gives the state and the
+// record to store. While a quote is open, this may be its drop alone.
 pub fn core_step(
     file: &[u8],
     work: &mut [u32],
@@ -94,15 +101,23 @@ pub fn core_step(
         Onward (now (file .entry)) (the-file (now (file .entry))) (now (work .entry)) (now (words .entry))
         (now (output .entry)) p c (now (work .exit)) (now (words .exit)) (now (output .exit)) a ⌝ }
 {
-    let at = p.at;
-    match file_parts::next_step(file, at) {
-        NextStep::Add { node, next } => { add_step(file, work, words, output, p, node, next, c) }
+    if p.quoted {
+        return quoted_step::quoted_step(file, work, words, output, p, c);
+    }
+    match file_parts::next_step(file, p.at) {
+        NextStep::Add { node, next } => {
+            add_step(file, work, words, output, p, node, false, next, c)
+        }
         NextStep::Restore { number, next } => {
             undo_step::undo_step(file, work, words, output, p, number, false, next, c)
         }
         NextStep::Forget { number, next } => {
             undo_step::undo_step(file, work, words, output, p, number, true, next, c)
         }
+        NextStep::Quote { node, next } => {
+            add_step(file, work, words, output, p, node, true, next, c)
+        }
+        NextStep::Take { next: _ } => progress::stop(p, 17, c),
         NextStep::End => progress::stop(p, 0, c),
     }
 }

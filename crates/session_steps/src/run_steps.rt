@@ -20,7 +20,7 @@ pub fn run_steps(
 {
     let mut p = start;
     while !p.done {
-        let k = session_state::slot_of(file, p.at, p.adds);
+        let k = session_state::slot_of(file, p);
         let c = checkpoints[k];
         let a = crate::bounded_step(work, words, output, file, p, c);
         checkpoints[k] = a.saved;

@@ -5,6 +5,8 @@ use session_state::StepAnswer;
 use session_state::progress;
 use session_state::progress::Progress;
 use session_state::step_records;
+ghost use mathlib.Core.Path.{_≡_};
+ghost use mathlib.Core.Bool.{false};
 ghost use Prim.Native.Nat.{_≤_};
 ghost use lib.ListN.{length};
 ghost use Rattle.words.specs.Words.{WORK};
@@ -26,7 +28,7 @@ fn bring_cache(work: &mut [u32], number: usize, forgets: bool, c: Checkpoint)
 }
 
 // The state of copy `number` and its record is the present one again, over a stack of `depth` entries.
-fn undo(work: &mut [u32], depth: usize, number: usize, forgets: bool, c: Checkpoint)
+pub fn undo(work: &mut [u32], depth: usize, number: usize, forgets: bool, c: Checkpoint)
     requires { ⌜ Undoing forgets (now work) depth number c ⌝ }
     ensures { λ _. ⌜ Undone forgets (now (work .entry)) (now (work .exit)) number c ⌝ }
 {
@@ -47,7 +49,7 @@ pub fn undo_step(
     c: Checkpoint,
 ) -> StepAnswer
     requires { ⌜
-        (Ready (now file) (the-file (now file)) (now work) (now words) (now output) p c)
+        (Ready (now file) (the-file (now file)) (now work) (now words) (now output) p c) × (p .quoted ≡ false)
         × (Comes (now file) (p .at) (told-undo forgets number next)) ⌝ }
     ensures { λ a. ⌜
         Onward (now (file .entry)) (the-file (now (file .entry))) (now (work .entry)) (now (words .entry))

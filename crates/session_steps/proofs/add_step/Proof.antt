@@ -1,4 +1,4 @@
--- `session_steps::add_step` meets its contract: questions 9 and 10, a refused add, and an add whose word is noted.
+-- `session_steps::add_step` meets its contract, of an add and of a quote: questions 9 and 10, a refused one, and one whose word is noted.
 -- Assumes nothing.
 use Prim.Native.Nat.{_<_}
 use mathlib.Core.Path.{_≡_}
@@ -30,7 +30,7 @@ returns : tie.Need-returns
 returns c =
     let asked = c .before .before in
     let s = asked .before .before .before .before .before in
-    answers.stops-asked (s .pre .0) (s .args .node) (s .args .next) (s .pre .1) (asked .question .ensures) (c .before .if1 .taken) (c .stop .ensures)
+    answers.stops-asked (s .pre .0) (s .pre .1) (s .args .quotes) (s .args .node) (s .args .next) (s .pre .2) (asked .question .ensures) (c .before .if1 .taken) (c .stop .ensures)
 
 record-of-requires : tie.Need-record-of-requires
 record-of-requires c κs = search needs
@@ -39,7 +39,7 @@ add-requires : tie.Need-add-requires
 add-requires c κs =
     let test = c .before .before .before .before in
     let s = to-start test in
-    answers.add-asks (s .pre .0) (s .args .node) (s .args .next) (s .pre .1) (free test)
+    answers.add-asks (s .pre .0) (s .pre .1) (s .args .quotes) (s .args .node) (s .args .next) (s .pre .2) (free test)
 
 same-length : tie.Need-same-length
 same-length c = search needs
@@ -47,17 +47,25 @@ same-length c = search needs
 same-length-2 : tie.Need-same-length-2
 same-length-2 c = search needs
 
+refusal-of-requires : tie.Need-refusal-of-requires
+refusal-of-requires c κs = search needs
+
 returns-2 : tie.Need-returns-2
 returns-2 c =
-    let added = c .before .before .before .before .before in
+    let added = c .before .before .before .before .before .before in
     let s = to-start (to-test added) in
-    answers.adds-off (s .pre .0) (s .args .node) (s .args .next) (s .pre .1) (free (to-test added)) (added .add .ensures) _ (c .if2 .taken)
+    answers.adds-off (s .pre .0) (s .pre .1) (s .args .quotes) (s .args .node) (s .args .next) (s .pre .2) (free (to-test added)) (added .add .ensures) _
+    (c .before .if2 .taken) (c .refusal-of .ensures)
+
+with-quote-requires : tie.Need-with-quote-requires
+with-quote-requires c κs = search needs
 
 note-requires : tie.Need-note-requires
 note-requires c κs =
-    let added = c .before .before .before .before .before .before in
+    let added = c .before .before .before .before .before .before .before in
     let s = to-start (to-test added) in
-    answers.note-asks (s .pre .0) (s .args .node) (s .args .next) (s .pre .1) (free (to-test added)) (added .add .ensures) (c .before .if2 .left)
+    answers.note-asks (s .pre .0) (s .pre .1) (s .args .quotes) (s .args .node) (s .args .next) (s .pre .2) (free (to-test added)) (added .add .ensures)
+    (c .before .before .if2 .left) (c .before .with-quote .ensures)
 
 same-length-3 : tie.Need-same-length-3
 same-length-3 c = search needs
@@ -71,11 +79,12 @@ same-length-5 c = search needs
 returns-3 : tie.Need-returns-3
 returns-3 c =
     let note = c .before .before .note in
-    let on = c .before .before .before .before in
+    let kept = c .before .before .before .before in
+    let on = kept .before in
     let added = on .before .before .before .before .before in
     let s = to-start (to-test added) in
-    answers.adds-on (s .pre .0) (s .args .node) (s .args .next) (s .pre .1) (free (to-test added)) (added .add .ensures)
-    (added .before .before .before .record-of .ensures) (on .if2 .left) (note .ensures .0) (note .ensures .1)
+    answers.adds-on (s .pre .0) (s .pre .1) (s .args .quotes) (s .args .node) (s .args .next) (s .pre .2) (free (to-test added)) (added .add .ensures)
+    (added .before .before .before .record-of .ensures) (on .if2 .left) (kept .with-quote .ensures) (note .ensures .0) (note .ensures .1)
 
 pub add-step-spec : {M : Type 1} → statement M
 add-step-spec =
@@ -86,9 +95,11 @@ add-step-spec =
     returns
     record-of-requires
     add-requires
+    refusal-of-requires
     same-length
     same-length-2
     returns-2
+    with-quote-requires
     note-requires
     same-length-3
     same-length-4

@@ -1,6 +1,6 @@
 -- The loop over the steps: what holds between two steps, what a step asks and leaves, and the end.
 -- Assumes nothing.
-use Prim.Native.Nat.{ℕ, _+_, _-_, _<_}
+use Prim.Native.Nat.{ℕ, _+_, _-_, _*_, _<_}
 use mathlib.Core.Path.{_≡_, refl, sym, ap, subst, _∙_}
 use mathlib.Core.Bool.{Bool, true, false, not}
 use mathlib.Core.List.{List}
@@ -18,6 +18,7 @@ use Rattle.session_state.specs.State.{the-file, Underway, Stands, slot-for}
 use Rattle.session_state.specs.Steps.{Ready, Onward}
 use Rattle.session_state.proofs.Answers.{stands-on, under, ended}
 use Rattle.session_steps.specs.Driven.{Going, Driven}
+use Rattle.session_steps.proofs.Answers.{bit-most}
 
 -- What the slices hold, and where the run stands.
 pub record Values : Type 0 where
@@ -29,11 +30,11 @@ pub record Values : Type 0 where
 
 -- How far the run is from its end.
 abbrev pub ahead : Progress → ℕ
-ahead p = 1025 - (p .steps + bit (p .done))
+ahead p = 2052 - (2 * (p .steps + bit (p .done)) + bit (not (p .quoted)))
 
 -- Record k is the one that the step at a place takes.
 abbrev pub Slot : (input : List ℕ) (p : Progress) (k : ℕ) → Type 0
-Slot input p k = (k < 16) × ((ss : List Step) → StepsAt input (p .at) ss → k ≡ slot-for ss (p .adds))
+Slot input p k = (k < 16) × ((ss : List Step) → StepsAt input (p .at) ss → k ≡ slot-for (p .quoted) ss (p .adds))
 
 -- The step of a run, with record k.
 abbrev pub Stepped : (input : List ℕ) (m : Values) (k : ℕ) (w words out : List ℕ) (a : StepAnswer) → Type 0
@@ -88,10 +89,10 @@ module _ (input : List ℕ) (first : Values) where
     pub in-rows : k < length (m .rows)
     in-rows = omega (arith, slot .0, u .many-rows)
 
-    is-slot : k ≡ slot-for (u .left) (m .progress .adds)
+    is-slot : k ≡ slot-for (m .progress .quoted) (u .left) (m .progress .adds)
     is-slot = slot .1 (u .left) (u .steps-there)
 
-    record-is : getD (m .rows) (slot-for (u .left) (m .progress .adds)) blank ≡ getD (m .rows) k blank
+    record-is : getD (m .rows) (slot-for (m .progress .quoted) (u .left) (m .progress .adds)) blank ≡ getD (m .rows) k blank
     record-is = ap (λ (j : ℕ). getD (m .rows) j blank) (sym is-slot)
 
     pub ready : Ready input (the-file input) (m .work) (m .words) (take 65535 (m .out)) (m .progress) (getD (m .rows) k blank)
@@ -105,7 +106,7 @@ module _ (input : List ℕ) (first : Values) where
           (st (m .rows) u record-is .0))
 
       pub falls : ahead (a .state) < ahead (m .progress)
-      falls = omega (arith, st (m .rows) u record-is .1, u .few-steps, ap bit e)
+      falls = omega (arith, st (m .rows) u record-is .1, u .few-steps, ap bit e, bit-most (not (m .progress .quoted)))
 
   -- The run is over.
   pub at-end : (m : Values) → Between m → m .progress .done ≡ true

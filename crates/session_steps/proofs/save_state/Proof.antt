@@ -14,7 +14,7 @@ save-requires-2 c κs =
     let sv = c .before .before .before .before .save in
     let s = c .before .before .before .before .before .before .before in
     let q = cache-asks (s .args .p) (s .pre .0) (sv .kept .0) (sv .ensures) in
-    (q .0, q .1, omega (arith, s .pre .1))
+    (q .0, q .1, q .2, omega (arith, s .pre .1))
 
 same-length : tie.Need-same-length
 same-length c = search needs

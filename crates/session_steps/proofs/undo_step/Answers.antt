@@ -2,7 +2,7 @@
 -- Assumes nothing.
 use Prim.Native.Nat.{ℕ, suc, _+_, _*_, _≤_, _<_}
 use mathlib.Core.Path.{_≡_, sym, ap, _∙_}
-use mathlib.Core.Bool.{Bool, true, false}
+use mathlib.Core.Bool.{Bool, true, false, not}
 use mathlib.Core.List.{List, _∷_}
 use native.Mathlib.Omega.{arith}
 use lib.ListN.{length, getD, set}
@@ -22,11 +22,11 @@ use Rattle.session_state.specs.Steps.{Comes, told-undo, Ready, Onward}
 use Rattle.session_steps.specs.undo_step.Contracts.{Undoing, Undone}
 use Rattle.session_state.proofs.Slots.{nth-none}
 use Rattle.session_state.proofs.Runs.{run-beyond}
-use Rattle.session_steps.proofs.undo_step.Undoing.{slot, undoing, undone-on}
+use Rattle.session_steps.proofs.undo_step.Undoing.{slot, undo-takes, undone-on}
 use Rattle.session_state.proofs.Answers.{stands-on, stops}
 
 module _ {input : List ℕ} {f : File} {w words out : List ℕ} {p : Progress} {c : Checkpoint} (ready : Ready input f w words out p c)
-    (b : Bool) (n next : ℕ) (told : Comes input (p .at) (told-undo b n next)) where
+    (none-open : p .quoted ≡ false) (b : Bool) (n next : ℕ) (told : Comes input (p .at) (told-undo b n next)) where
   -- The steps that are left begin with it.
   comes : (ss : List Step) → StepsAt input (p .at) ss → (rest : List Step) × (ss ≡ undo-of b n ∷ rest) × StepsAt input next rest
   comes ss there = go b (told ss there)
@@ -38,7 +38,7 @@ module _ {input : List ℕ} {f : File} {w words out : List ℕ} {p : Progress} {
   -- Question 11.
   pub stops-11 : {a : StepAnswer} → a ≡ stopped-at p 11 c → p .adds ≤ n → Onward input f w words out p c w words out a
   stops-11 {a} is beyond =
-      stops input f w words out p c 11 a is (λ rows u.
+      stops input f w words out p c none-open 11 a is (λ rows u.
       let e = comes (u .left) (u .steps-there) in
       ap (λ (ss : List Step). run-steps counted (length out) f ss (standing (u .past) (u .session))) (e .1)
       ∙ run-beyond (length out) f (u .past) (u .session) b n (e .0) (nth-none (u .past) n (omega (arith, u .history .long))))
@@ -48,7 +48,7 @@ module _ {input : List ℕ} {f : File} {w words out : List ℕ} {p : Progress} {
     undo-asks =
         let u = ready .underway in
         let e = comes (u .left) (u .steps-there) in
-        undoing b u (e .1) few (ready .record-is)
+        undo-takes b u none-open (e .1) few (ready .record-is)
 
     pub undo-note-asks : {q : Progress} → q ≡ undone-at p c n → (q .steps < length words) × (q .size ≤ 65535) × (q .steps < 1024)
     undo-note-asks {q} is =
@@ -60,10 +60,10 @@ module _ {input : List ℕ} {f : File} {w words out : List ℕ} {p : Progress} {
         let k : c .size ≤ 65535 = size-low (ready .rows) u (ready .record-is) (e .0) (e .1) in
         (omega (arith, u .few-steps, u .many-words), omega arith, omega (arith, u .few-steps))
       where
-        size-low : (rows : List Checkpoint) (u : Underway input f w words rows out p) → getD rows (slot-for (u .left) (p .adds)) blank ≡ c
+        size-low : (rows : List Checkpoint) (u : Underway input f w words rows out p) → getD rows (slot-for (p .quoted) (u .left) (p .adds)) blank ≡ c
             → (rest : List Step) → u .left ≡ undo-of b n ∷ rest → c .size ≤ 65535
         size-low rows u r-is rest e =
-            let z : size-at rows n ≡ c .size = ap (λ (k : ℕ). size-at rows k) (sym (slot b u e few r-is)) ∙ ap (λ (x : Checkpoint). x .size) r-is in
+            let z : size-at rows n ≡ c .size = ap (λ (k : ℕ). size-at rows k) (sym (slot b u none-open e few r-is)) ∙ ap (λ (x : Checkpoint). x .size) r-is in
             omega (arith, u .history .sizes n few, u .present .running .fits, u .present .running .short)
 
     pub undoes-on : {w′ : List ℕ} → length w′ ≡ length w → Undone b w w′ n c → {words′ : List ℕ} {q t : Progress} → q ≡ undone-at p c n
@@ -72,7 +72,7 @@ module _ {input : List ℕ} {f : File} {w words out : List ℕ} {p : Progress} {
     undoes-on {w′} long un {words′} {q} {t} qi ws is rows u r-is =
         let e = comes (u .left) (u .steps-there) in
         let s : t .steps ≡ p .steps + 1 = ap (λ (x : Progress). x .steps) is ∙ ap (λ (x : Progress). x .steps + 1) qi in (
-          stands-on input f w′ words′ (set rows (slot-for (u .left) (p .adds)) c) out t (ap (λ (x : Progress). x .done) is ∙ ap (λ (x : Progress). x .done) qi)
-              (undone-on b u (e .1) few r-is long un next (e .2) qi ws is),
-          omega arith,
+          stands-on input f w′ words′ (set rows (slot-for (p .quoted) (u .left) (p .adds)) c) out t (ap (λ (x : Progress). x .done) is ∙ ap (λ (x : Progress). x .done) qi)
+              (undone-on b u none-open (e .1) few r-is long un next (e .2) qi ws is),
+          omega (arith, ap bit (ap not none-open), ap (λ (x : Progress). bit (not (x .quoted))) is, ap (λ (x : Progress). bit (not (x .quoted))) qi),
         )

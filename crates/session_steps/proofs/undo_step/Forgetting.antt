@@ -20,7 +20,7 @@ use Rattle.work_layout.specs.Prev.{prev-same}
 use Rattle.work_layout.specs.Counts.{counts-same}
 use Rattle.cache_undo.specs.Contracts.{Restored}
 use Rattle.cache_undo.specs.cache_copy.Contracts.{CacheBrought}
-use Rattle.cache_entries.specs.Meaning.{entry-of, key-of, entry-or-none, unmapped, Whole, Holds}
+use Rattle.cache_entries.specs.Meaning.{entry-of, key-of, Tables, entry-or-none, unmapped, Whole, Holds}
 use Rattle.cache_entries.proofs.Frames.{unmapped-same}
 use Rattle.cache_entries.proofs.Lift.{length-rows}
 use Rattle.cache_entries.proofs.Making.{whole-of}
@@ -70,10 +70,10 @@ module _ (f : File) (v w : List ℕ) (a c : Cache) (hv : Holds f v a) (hw : Hold
 
 -- ---- the cache put back
 
--- The words of w′ from MAPS to SEEN are those of v, but for keys and lengths, which are those of w.
+-- The words of w′ from MAPS to SEEN that are in use are those of v, but for keys and lengths, which are those of w.
 pub record CacheAgain (v w w′ : List ℕ) : Type 0 where
   pub used : at w′ USED ≡ at v USED
-  pub maps : (i : ℕ) → i < 1024 → at w′ (MAPS + i) ≡ at v (MAPS + i)
+  pub maps : (i : ℕ) → i < at v PAIR-COUNT → at w′ (MAPS + i) ≡ at v (MAPS + i)
   pub counts : (e : ℕ) → e < ENTRIES → at w′ (COUNTS + e) ≡ at v (COUNTS + e)
   pub links : (e i : ℕ) → e < at v USED → i < at v (COUNTS + e) → link-at w′ e i ≡ link-at v e i
   pub heads : (s : ℕ) → s < SLOTS → at w′ (HEADS + s) ≡ prev (slot-at w) s (at v USED)
@@ -81,11 +81,11 @@ pub record CacheAgain (v w w′ : List ℕ) : Type 0 where
   pub entry : at w′ SENTINEL-ENTRY ≡ at v SENTINEL-ENTRY
 
 -- What a forget leaves in the words of the cache, after the stack and the marks are restored too.
-pub again : (v w x w′ : List ℕ) (s n o d : ℕ) → Sound v → WORK ≤ length w → Forgotten v w x s → s ≡ at v SENTINEL-ENTRY → Restored x w′ n o d → CacheAgain v w w′
-again v w x w′ s n o d so long a si r =
+pub again : (v w x w′ : List ℕ) (s n o d : ℕ) → Whole v → WORK ≤ length w → Forgotten v w x s → s ≡ at v SENTINEL-ENTRY → Restored x w′ n o d → CacheAgain v w w′
+again v w x w′ s n o d wh long a si r =
     record {
       used = same USED (omega arith) (λ q. omega (arith, q)) ∙ b .used;
-      maps = λ i l. same (MAPS + i) (omega arith) (λ q. omega (arith, q)) ∙ b .maps i l;
+      maps = λ i l. same (MAPS + i) (omega arith) (λ q. omega (arith, q, wh .handles .few-pairs)) ∙ b .maps i l;
       counts = λ e l. same (COUNTS + e) (omega arith) (λ q. omega (arith, q)) ∙ b .counts e l;
       links = λ e i l m.
           link-same (a .brought-words) w′ e i (omega (arith, so .used)) (omega (arith, so .counts e (omega (arith, so .used)))) (λ k p q. same k (omega arith) (λ z. omega (arith, z)))
@@ -99,6 +99,9 @@ again v w x w′ s n o d so long a si r =
   where
     b : CacheBrought v w (a .brought-words)
     b = a .brought
+
+    so : Sound v
+    so = wh .sound
 
     same : (k : ℕ) → MOVED ≤ k → (k ≡ SENTINEL-ENTRY → ⊥) → at w′ k ≡ at (a .brought-words) k
     same k l q = r .high k l ∙ ap (λ (y : List ℕ). at y k) (a .is) ∙ getD-set-other (a .brought-words) SENTINEL-ENTRY k s 0 q
@@ -148,7 +151,6 @@ module _ (v w w′ : List ℕ) (len : length w′ ≡ length w) (low : (k : ℕ)
   whole-again =
       let u = g .used in
       let t = tables PAIR-COUNT (omega arith) in
-      let few = whv .handles .few-pairs in
       whole-of w w′ wh sound-again low
       (λ e h. let k = key e (omega arith) in rw (k .0, k .1) (wh .keys e (omega arith)))
       (λ i h. omega (arith, g .maps i (omega arith), whv .maps i (omega arith)))
@@ -161,7 +163,7 @@ module _ (v w w′ : List ℕ) (len : length w′ ≡ length w) (low : (k : ℕ)
   pairs-again = low PAIR-COUNT (omega arith) ∙ tables PAIR-COUNT (omega arith)
 
   unmapped-again : unmapped w′ (at w′ PAIR-COUNT) ≡ unmapped v (at v PAIR-COUNT)
-  unmapped-again = rw pairs-again (unmapped-same v w′ (at v PAIR-COUNT) (whv .handles .few-pairs) (g .maps))
+  unmapped-again = rw pairs-again (unmapped-same v w′ (at v PAIR-COUNT) (g .maps))
 
   pub roomy-again : (steps : ℕ) → Roomy v steps → Roomy w′ steps
   roomy-again steps r =
@@ -172,13 +174,13 @@ module _ (v w w′ : List ℕ) (len : length w′ ≡ length w) (low : (k : ℕ)
   few-again h = omega (arith, counts-again)
 
   -- The words hold the cache of that time.
-  pub holds-again : (f : File) (a c : Cache) → length (f .pairs) ≤ 1024 → Holds f v a → Holds f w c → Extends a c → Holds f w′ a
+  pub holds-again : (f : File) (a c : Cache) → Tables f w → Holds f v a → Holds f w c → Extends a c → Holds f w′ a
   unfolding rows-of parents-of
-  holds-again f a c few hv hw x =
+  holds-again f a c t hv hw x =
       record {
         entries =
             hv .entries ∙ sym (ap (λ (n : ℕ). map (entry-of f) (tabulate n (row-of w′))) (g .used) ∙ map-tabulate (entry-of f) (at v USED) (row-of w′) (row-of v) row);
-        mapped = λ i l. hv .mapped i l ∙ ap entry-or-none (sym (g .maps i (omega arith)));
+        mapped = λ i l. hv .mapped i l ∙ ap entry-or-none (sym (g .maps i (omega (arith, t .pair-count, tables PAIR-COUNT (omega arith)))));
         sentinel-entry = hv .sentinel-entry ∙ ap entry-or-none (sym (g .entry));
       }
     where

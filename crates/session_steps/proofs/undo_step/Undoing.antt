@@ -47,6 +47,7 @@ use Rattle.session_state.proofs.Slots.{Found, nth-found}
 use Rattle.write_place.proofs.Frames.{places-kept, atoms-kept, whole-kept, holds-kept, unmapped-kept, all-counts-kept}
 use Rattle.session_state.proofs.Runs.{run-undo}
 use Rattle.session_state.proofs.States.{roomy-later, history-back, go-on}
+use Rattle.session_state.proofs.Answers.{same-standing}
 use Rattle.session_steps.proofs.undo_step.Forgetting.{used-more, again, whole-again, roomy-again, few-again, holds-again}
 
 -- ---- the sentinel's entry, of a restore
@@ -96,37 +97,16 @@ restore-asks b {w} {x} {depth} {n} {r} u long a =
       λ i l. omega (arith, o .above (copied-stack n + i) (omega arith), u .entries i l),
     )
 
--- ---- an undo
+-- ---- an undo: the state before add n, of which record n and copy n are kept
 
--- The flag is set where a step forgets.
-flag-set : (b : Bool) (n : ℕ) (rest : List Step) (flag : Bool) → (flag ≡ false → forgets (undo-of b n ∷ rest) ≡ false) → b ≡ true → flag ≡ true
-flag-set false n rest flag h q = clash cc
-flag-set true n rest true h q = refl
-flag-set true n rest false h q = let z : true ≡ false = h refl in clash cc
-
-rest-known : (b : Bool) (n : ℕ) (rest : List Step) → forgets (undo-of b n ∷ rest) ≡ false → forgets rest ≡ false
-rest-known false n rest h = h
-rest-known true n rest h = clash cc
-
-module _ {input : List ℕ} {f : File} {w words : List ℕ} {rows : List Checkpoint} {out : List ℕ} {p : Progress} (b : Bool) {n : ℕ} {rest : List Step}
-    (u : Underway input f w words rows out p) (e : u .left ≡ undo-of b n ∷ rest) (few : n < p .adds) {r : Checkpoint}
-    (r-is : getD rows (slot-for (u .left) (p .adds)) blank ≡ r) where
+module _ {input : List ℕ} {f : File} {w words : List ℕ} {rows : List Checkpoint} {out : List ℕ} {p : Progress} (b : Bool) {n : ℕ}
+    (u : Underway input f w words rows out p) (few : n < p .adds) {r : Checkpoint} (row : getD rows n blank ≡ r) (flag : b ≡ true → p .forgets ≡ true) where
   -- The session before add n.
-  found : Found (u .past) n
+  pub found : Found (u .past) n
   found = nth-found (u .past) n (omega (arith, u .history .long))
 
-  abbrev was : Session
+  abbrev pub was : Session
   was = found .value
-
-  pub slot : slot-for (u .left) (p .adds) ≡ n
-  slot = ap (λ (x : List Step). slot-for x (p .adds)) e ∙ of-undo b ∙ cond-true (ltb n 16) n 0 (lt-ltb n 16 (omega (arith, u .few-adds)))
-    where
-      of-undo : (c : Bool) → slot-for (undo-of c n ∷ rest) (p .adds) ≡ cond (ltb n 16) n 0
-      of-undo false = refl
-      of-undo true = refl
-
-  row : getD rows n blank ≡ r
-  row = ap (λ (k : ℕ). getD rows k blank) (sym slot) ∙ r-is
 
   before : Before f w out (p .forgets) (p .steps) n r was
   before = subst (λ (x : Checkpoint). Before f w out (p .forgets) (p .steps) n x was) row (u .history .befores n was (found .is))
@@ -150,11 +130,13 @@ module _ {input : List ℕ} {f : File} {w words : List ℕ} {rows : List Checkpo
   bringable : b ≡ true → Bringable then w n
   bringable q =
       record {
-        copied = before .cache-then (flag-set b n rest (p .forgets) (λ z. ap forgets (sym e) ∙ u .known z) q);
+        copied = before .cache-then (flag q);
         then-sound = whole-then .sound;
         then-few = before .stood .running .stands .counts;
         sound = wh .sound;
         fewer = more-used;
+        pairs = before .tables-same PAIR-COUNT (omega arith);
+        few-pairs = wh .handles .few-pairs;
       }
 
   -- What the undo takes.
@@ -174,7 +156,7 @@ module _ {input : List ℕ} {f : File} {w words : List ℕ} {rows : List Checkpo
       brings false g = tt
       brings true g = (omega (arith, u .few-adds), then, g refl)
 
-  module _ {w′ : List ℕ} (long : length w′ ≡ length w) (a : Undone b w w′ n r) where
+  module _ {w′ : List ℕ} (long : length w′ ≡ length w) (a : Undone b w w′ n r) (later : ℕ) (le : p .steps ≤ later) where
     abbrev x : List ℕ
     x = a .cache-words
 
@@ -204,10 +186,7 @@ module _ {input : List ℕ} {f : File} {w words : List ℕ} {rows : List Checkpo
       whole : Whole w′
       holds : Holds f w′ c
       counts : all-counts w′ ENTRIES ≤ 2048
-      room : Roomy w′ (p .steps + 1)
-
-    few-pairs : length (f .pairs) ≤ 1024
-    few-pairs = omega (arith, u .stocked .tables .pair-count, wh .handles .few-pairs)
+      room : Roomy w′ later
 
     -- After a restore: that of before, but for the sentinel's entry.
     cache-kept : x ≡ with-entry w (r .sentinel) → CacheIs (undone false was (u .session) .cache)
@@ -250,19 +229,19 @@ module _ {input : List ℕ} {f : File} {w words : List ℕ} {rows : List Checkpo
     cache-again : CacheBack true w x n r → Bringable then w n → CacheIs (undone true was (u .session) .cache)
     cache-again back q =
         let g =
-        again then w x w′ (r .sentinel) n (r .opens) (r .depth) (whole-then .sound) (wh .sound .long) (back then q) (before .entry-is) (a .restored) in
+        again then w x w′ (r .sentinel) n (r .opens) (r .depth) whole-then (wh .sound .long) (back then q) (before .entry-is) (a .restored) in
         record {
           whole = whole-again then w w′ long low (before .tables-same) whole-then wh more-used g;
           holds =
-              holds-again then w w′ long low (before .tables-same) whole-then wh more-used g f (was .cache) (u .session .cache) few-pairs (before .stood .writes .cache)
+              holds-again then w w′ long low (before .tables-same) whole-then wh more-used g f (was .cache) (u .session .cache) (u .stocked .tables) (before .stood .writes .cache)
               (u .present .writes .cache) grown;
           counts = few-again then w w′ long low (before .tables-same) whole-then wh more-used g (before .stood .running .stands .counts);
           room =
-              roomy-later w′ (p .steps) (p .steps + 1) (omega arith)
+              roomy-later w′ (p .steps) later le
               (roomy-again then w w′ long low (before .tables-same) whole-then wh more-used g (p .steps) (before .room-then));
         }
 
-    abbrev back : Session
+    abbrev pub back : Session
     back = undone b was (u .session)
 
     cached : CacheIs (back .cache)
@@ -308,7 +287,7 @@ module _ {input : List ℕ} {f : File} {w words : List ℕ} {rows : List Checkpo
     waiting : was .waiting ≡ some (todo-of f w′ (r .opens))
     waiting = before .stood .waiting ∙ ap {B = Option (List Todo)} some (sym todo)
 
-    stocked : Stocked input f w′ (p .steps + 1)
+    pub stocked : Stocked input f w′ later
     stocked =
         record {
           places = places-kept w w′ low (wh .handles .few-atoms) input (u .stocked .places);
@@ -325,41 +304,80 @@ module _ {input : List ℕ} {f : File} {w words : List ℕ} {rows : List Checkpo
         go false = let g = u .history .extended k y q in record { more = g .more; entries-are = g .entries-are }
         go true = u .history .older k n y was l q (found .is)
 
-    history : History f w′ out rows (p .forgets) (p .steps + 1) (r .size) n (take n (u .past)) (back .cache)
+    pub history : History f w′ out rows (p .forgets) later (r .size) n (take n (u .past)) (back .cache)
     history =
-        subst (λ (y : Checkpoint). History f w′ out rows (p .forgets) (p .steps + 1) (y .size) n (take n (u .past)) (back .cache)) row
-        (history-back out out refl f w w′ low (p .forgets) (p .steps) (p .steps + 1) (omega arith) rows (p .size) (p .adds) (u .past) (u .session .cache)
+        subst (λ (y : Checkpoint). History f w′ out rows (p .forgets) later (y .size) n (take n (u .past)) (back .cache)) row
+        (history-back out out refl f w w′ low (p .forgets) (p .steps) later le rows (p .size) (p .adds) (u .past) (u .session .cache)
         (λ j y z. a .restored .high j (omega arith) ∙ outside .above j (omega arith)) refl (u .history) n few (back .cache) over)
+
+    pub present : At f w′ out (r .opens) (r .depth) (r .size) false back
+    present = go b running writes
+      where
+        go : (c : Bool) → Running w′ out (r .opens) (r .depth) (r .size) 0 → Writes f w′ out (r .depth) (r .size) (undone c was (u .session) .cache) (was .written)
+            → At f w′ out (r .opens) (r .depth) (r .size) false (undone c was (u .session))
+        go false y z = record { running = y; writes = z; waiting = waiting }
+        go true y z = record { running = y; writes = z; waiting = waiting }
+
+-- ---- the step of an undo
+
+-- The flag is set where a step forgets.
+flag-set : (b : Bool) (n : ℕ) (rest : List Step) (flag : Bool) → (flag ≡ false → forgets (undo-of b n ∷ rest) ≡ false) → b ≡ true → flag ≡ true
+flag-set false n rest flag h q = clash cc
+flag-set true n rest true h q = refl
+flag-set true n rest false h q = let z : true ≡ false = h refl in clash cc
+
+rest-known : (b : Bool) (n : ℕ) (rest : List Step) → forgets (undo-of b n ∷ rest) ≡ false → forgets rest ≡ false
+rest-known false n rest h = h
+rest-known true n rest h = clash cc
+
+module _ {input : List ℕ} {f : File} {w words : List ℕ} {rows : List Checkpoint} {out : List ℕ} {p : Progress} (b : Bool) {n : ℕ} {rest : List Step}
+    (u : Underway input f w words rows out p) (none-open : p .quoted ≡ false) (e : u .left ≡ undo-of b n ∷ rest) (few : n < p .adds) {r : Checkpoint}
+    (r-is : getD rows (slot-for (p .quoted) (u .left) (p .adds)) blank ≡ r) where
+  pub slot : slot-for (p .quoted) (u .left) (p .adds) ≡ n
+  slot =
+      (λ i. slot-for (none-open i) (e i) (p .adds)) ∙ of-undo b ∙ cond-true (ltb n 16) n 0 (lt-ltb n 16 (omega (arith, u .few-adds)))
+    where
+      of-undo : (c : Bool) → slot-for false (undo-of c n ∷ rest) (p .adds) ≡ cond (ltb n 16) n 0
+      of-undo false = refl
+      of-undo true = refl
+
+  row-is : getD rows n blank ≡ r
+  row-is = ap (λ (k : ℕ). getD rows k blank) (sym slot) ∙ r-is
+
+  flagged : b ≡ true → p .forgets ≡ true
+  flagged = flag-set b n rest (p .forgets) (λ z. ap forgets (sym e) ∙ u .known z)
+
+  pub undo-takes : Undoing b w (p .depth) n r
+  undo-takes = undoing b u few row-is flagged
+
+  module _ {w′ : List ℕ} (long : length w′ ≡ length w) (a : Undone b w w′ n r) where
+    abbrev now-back : Session
+    now-back = back b u few row-is flagged long a (p .steps + 1) (omega arith)
 
     pub undone-on : (next : ℕ) → StepsAt input next rest → {words′ : List ℕ} {q t : Progress} → q ≡ undone-at p r n
         → words′ ≡ set words (q .steps) (q .size * 2 + bit (q .finished)) → t ≡ noted-at q next
-        → Underway input f w′ words′ (set rows (slot-for (u .left) (p .adds)) r) out t
+        → Underway input f w′ words′ (set rows (slot-for (p .quoted) (u .left) (p .adds)) r) out t
     undone-on next there {words′} {q} {t} qi ws ti =
-        subst (λ (y : Progress). Underway input f w′ words′ (set rows (slot-for (u .left) (p .adds)) r) out y) (sym ti)
+        subst (λ (y : Progress). Underway input f w′ words′ (set rows (slot-for (p .quoted) (u .left) (p .adds)) r) out y) (sym ti)
         (subst (λ (y : List Checkpoint). Underway input f w′ words′ y out (noted-at q next))
-        (sym (ap (set rows (slot-for (u .left) (p .adds))) (sym r-is) ∙ set-getD rows (slot-for (u .left) (p .adds)) blank))
+        (sym (ap (set rows (slot-for (p .quoted) (u .left) (p .adds))) (sym r-is) ∙ set-getD rows (slot-for (p .quoted) (u .left) (p .adds)) blank))
         (subst (λ (y : Progress). words′ ≡ set words (y .steps) (y .size * 2 + bit (y .finished)) → Underway input f w′ words′ rows out (noted-at y next)) (sym qi)
-        (λ y. go-on input f w′ words words′ rows out (undone-at p r n) next rest (take n (u .past)) back present stocked history
-        (λ z. rest-known b n rest (ap forgets (sym e) ∙ u .known z)) (omega (arith, u .few-adds)) there
+        (λ y. go-on input f w′ words words′ rows out (undone-at p r n) next rest (take n (u .past)) now-back (standing (take n (u .past)) now-back)
+        (present b u few row-is flagged long a (p .steps + 1) (omega arith)) (stocked b u few row-is flagged long a (p .steps + 1) (omega arith))
+        (history b u few row-is flagged long a (p .steps + 1) (omega arith))
+        (λ z. rest-known b n rest (ap forgets (sym e) ∙ u .known z)) (omega (arith, u .few-adds)) refl there
         (all-rest (u .left) e (u .steps-named))
         (let l : length (u .left) ≡ suc (length rest) = ap length e in omega (arith, u .few-steps))
-        (u .many-rows) (u .many-words) run y) ws))
+        (u .many-rows) (u .many-words) (λ z. clash cc) refl run y) ws))
       where
-        present : At f w′ out (r .opens) (r .depth) (r .size) false back
-        present = go b running writes
-          where
-            go : (c : Bool) → Running w′ out (r .opens) (r .depth) (r .size) 0 → Writes f w′ out (r .depth) (r .size) (undone c was (u .session) .cache) (was .written)
-                → At f w′ out (r .opens) (r .depth) (r .size) false (undone c was (u .session))
-            go false y z = record { running = y; writes = z; waiting = waiting }
-            go true y z = record { running = y; writes = z; waiting = waiting }
-
         all-rest : (ss : List Step) → ss ≡ undo-of b n ∷ rest → All (StepNamed (length (f .atoms)) (length (f .pairs))) ss
             → All (StepNamed (length (f .atoms)) (length (f .pairs))) rest
         all-rest ss q y = subst (λ (z : List Step). All (StepNamed (length (f .atoms)) (length (f .pairs))) z) q y .1
 
         run : whole-run f (length out)
-            ≡ after-words (take (p .steps) words) (with-word (word-of back) (run-steps counted (length out) f rest (standing (take n (u .past)) back)))
+            ≡ after-words (take (p .steps) words) (with-word (word-of now-back) (run-steps counted (length out) f rest (standing (take n (u .past)) now-back)))
         run =
-            u .same
+            same-standing input f w words out p r none-open rows u
             ∙ ap (λ (ss : List Step). after-words (take (p .steps) words) (run-steps counted (length out) f ss (standing (u .past) (u .session)))) e
-            ∙ ap (λ (y : Run). after-words (take (p .steps) words) y) (run-undo (length out) f (u .past) (u .session) b n rest was (found .is))
+            ∙ ap (λ (y : Run). after-words (take (p .steps) words) y)
+            (run-undo (length out) f (u .past) (u .session) b n rest (was b u few row-is flagged) (found b u few row-is flagged .is))

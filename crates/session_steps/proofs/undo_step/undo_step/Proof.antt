@@ -20,12 +20,12 @@ stop-requires c κs = search needs
 returns : tie.Need-returns
 returns c =
     let s = c .before .before .before .before .before .before .before in
-    answers.stops-11 (s .pre .0) (s .args .forgets) (s .args .number) (s .args .next) (s .pre .1) (c .stop .ensures) (omega (arith, c .before .if1))
+    answers.stops-11 (s .pre .0) (s .pre .1) (s .args .forgets) (s .args .number) (s .args .next) (s .pre .2) (c .stop .ensures) (omega (arith, c .before .if1))
 
 undo-requires : tie.Need-undo-requires
 undo-requires c κs =
     let s = to-start (c .before) in
-    answers.undo-asks (s .pre .0) (s .args .forgets) (s .args .number) (s .args .next) (s .pre .1) (few (c .before))
+    answers.undo-asks (s .pre .0) (s .pre .1) (s .args .forgets) (s .args .number) (s .args .next) (s .pre .2) (few (c .before))
 
 undone-requires : tie.Need-undone-requires
 undone-requires c κs = search needs
@@ -34,7 +34,7 @@ note-requires : tie.Need-note-requires
 note-requires c κs =
     let test = c .before .before .before .before .before .before in
     let s = to-start test in
-    answers.undo-note-asks (s .pre .0) (s .args .forgets) (s .args .number) (s .args .next) (s .pre .1) (few test) (c .before .undone .ensures)
+    answers.undo-note-asks (s .pre .0) (s .pre .1) (s .args .forgets) (s .args .number) (s .args .next) (s .pre .2) (few test) (c .before .undone .ensures)
 
 same-length : tie.Need-same-length
 same-length c = search needs
@@ -49,7 +49,8 @@ returns-2 c =
     let un = undone .before .before .before .undo in
     let test = undone .before .before .before .before .before in
     let s = to-start test in
-    answers.undoes-on (s .pre .0) (s .args .forgets) (s .args .number) (s .args .next) (s .pre .1) (few test) (un .kept .0) (un .ensures) (undone .undone .ensures) (no .ensures .0) (no .ensures .1)
+    answers.undoes-on (s .pre .0) (s .pre .1) (s .args .forgets) (s .args .number) (s .args .next) (s .pre .2) (few test) (un .kept .0) (un .ensures)
+    (undone .undone .ensures) (no .ensures .0) (no .ensures .1)
 
 pub undo-step-spec : {M : Type 1} → statement M
 undo-step-spec =

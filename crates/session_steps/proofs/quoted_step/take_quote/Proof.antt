@@ -1,0 +1,33 @@
+-- `session_steps::quoted_step::take_quote` closes the quote, and notes the word of its add.
+-- Assumes nothing.
+use Prim.Native.Nat.{_+_, _*_}
+use mathlib.Core.Path.{ap, _∙_}
+use lib.ListN.{set}
+use borrow.Author.Needs.{needs}
+use Rattle.path.specs.Bytes.{bit}
+use Rattle.session_state.specs.declared.progress.Progress.{Progress}
+use Rattle.session_state.specs.declared.progress.StepAnswer.{StepAnswer}
+use Rattle.session_state.specs.Moves.{noted-at}
+use Rattle.session_steps.proofs.quoted_step.take_quote.Statement.{statement}
+use Rattle.session_steps.proofs.quoted_step.take_quote.Tie as tie
+
+with-quote-requires : tie.Need-with-quote-requires
+with-quote-requires c κs = search needs
+
+note-requires : tie.Need-note-requires
+note-requires c κs = rw (c .before .with-quote .ensures) (c .before .before .before .pre)
+
+same-length : tie.Need-same-length
+same-length c = search needs
+
+returns : tie.Need-returns
+returns c =
+    let s = c .before .before .before .before .before .before in
+    let n = c .before .before .note in
+    let q = c .before .before .before .before .with-quote in (
+      n .ensures .0 ∙ ap (λ (x : Progress). set (s .args .words .now) (x .steps) (x .size * 2 + bit (x .finished))) (q .ensures),
+      (λ i. record { state = n .ensures .1 i; saved = s .args .c }) ∙ ap (λ (x : Progress). record { state = noted-at x (s .args .next); saved = s .args .c }) (q .ensures),
+    )
+
+pub take-quote-spec : {M : Type 1} → statement M
+take-quote-spec = tie.close (tie.spec with-quote-requires note-requires same-length returns)
