@@ -72,7 +72,9 @@ enum nikvoldra_number {
     /* Is each prefix shortest? */
     NIKVOLDRA_LONG_PREFIX = 15,
     /* Does every path stay out of atoms? */
-    NIKVOLDRA_PATH_INTO_ATOM = 16
+    NIKVOLDRA_PATH_INTO_ATOM = 16,
+    /* At a 05, is a quote open? */
+    NIKVOLDRA_NO_QUOTE = 17
 };
 
 /*
@@ -116,15 +118,19 @@ struct nikvoldra_read_answer {
 };
 
 /*
- * Runs a session file, which docs/FORMAT.md has field by field: numbers 0 to 13.
+ * Runs a session file, which docs/FORMAT.md has field by field: numbers 0 to 13 and 17.
  *
  * A step is 01 and a handle, which adds a tree; or 02 or 03 and a number k, which goes back to the state before add k. With 02
  * the writer keeps what it knows of the trees taken back, as in the Rust; with 03 it forgets them. Question 11 is asked at both.
  *
- * words[i] of a finished step i is its size * 2, plus 1 if the session is finished; output[0 .. size] is what was written.
- * With 1 to 8 no slice is touched, and steps and size are 0. With 0 and 9 to 13 the words past the finished steps, the
- * output past the size, work and the checkpoint records are zero; 9 to 13 keep the finished steps' words and the whole
- * items written.
+ * 04 and a handle quotes an add: its word is the add's, the questions are the add's, and session and output stay as they were.
+ * 05, right after it, makes that add; any other step drops the quote. Question 17 is the only one at a 05.
+ *
+ * words[i] of a finished step i is its size * 2, plus 1 if the session is finished; output[0 .. size] is what was written. A
+ * quote's word says what would be: unless the number is 12 or 13, the session is finished if the last word is size * 2 + 1.
+ * With 1 to 8 no slice is touched, and steps and size are 0. With 0, 9 to 13 and 17 the words past the finished steps, the
+ * output past the size, work and the checkpoint records are zero; 9 to 13 and 17 keep the finished steps' words and the whole
+ * items written, of a refused quote none.
  */
 struct nikvoldra_session_answer nikvoldra_session(
     const uint8_t *file, size_t file_length,

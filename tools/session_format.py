@@ -4,6 +4,8 @@ MARK = b"BRS\x00\x01"
 PAIR, ATOM, SMALL = 0, 1, 2
 NONE = 0xFFFFFFFF
 INDEX_BITS = 26
+# The code of a step and the bytes of its operand, which is a handle if it has four.
+STEPS = {"add": (1, 4), "restore": (2, 2), "forget": (3, 2), "quote": (4, 4), "take": (5, 0)}
 NIL = SMALL << INDEX_BITS
 MAX_FILE, MAX_ATOMS, MAX_PAIRS = 65535, 1024, 1024
 MAX_ATOM_BYTES, MAX_STEPS = 32768, 1024
@@ -61,7 +63,7 @@ class Refused(Exception):
 
 
 class Session:
-    """atoms: bytes; pairs: two handles; sentinel: a handle or NONE; steps: ("add", handle), ("restore", number), ("forget", number)."""
+    """atoms: bytes; pairs: two handles; sentinel: a handle or NONE; steps: a name and an operand, or a name alone."""
 
     def __init__(self):
         self.atoms, self.pairs, self.sentinel, self.steps = [], [], NONE, []
@@ -75,9 +77,11 @@ class Session:
         for left, right in self.pairs:
             out += left.to_bytes(4, "big") + right.to_bytes(4, "big")
         out += self.sentinel.to_bytes(4, "big")
-        for name, operand in self.steps:
-            code, width = {"add": (1, 4), "restore": (2, 2), "forget": (3, 2)}[name]
-            out += code.to_bytes(1, "big") + operand.to_bytes(width, "big")
+        for name, *operands in self.steps:
+            code, width = STEPS[name]
+            out.append(code)
+            for operand in operands:
+                out += operand.to_bytes(width, "big")
         return bytes(out)
 
 
@@ -133,10 +137,11 @@ def read_step(fields, session):
     code = fields.number(1)
     if len(session.steps) == MAX_STEPS:
         raise Refused(5, at)
-    if code == 1:
-        return "add", fields.handle(len(session.atoms), len(session.pairs))
-    if code in (2, 3):
-        return "restore" if code == 2 else "forget", fields.number(2)
+    for name, (known, width) in STEPS.items():
+        if code == known and width == 4:
+            return name, fields.handle(len(session.atoms), len(session.pairs))
+        if code == known:
+            return (name, fields.number(width)) if width else (name,)
     raise Refused(8, at)
 
 

@@ -149,7 +149,8 @@ static int run_session(void) {
         printf("the session was refused: question %" PRIu32 "\n", answer.number);
         return 1;
     }
-    if (answer.steps == 0 || words[answer.steps - 1] % 2 == 0) {
+    /* The word of a quote, which adds nothing, counts more bytes than there are. */
+    if (answer.steps == 0 || words[answer.steps - 1] != answer.size * 2 + 1) {
         printf("the session is not finished\n");
         return 0;
     }

@@ -1,5 +1,6 @@
 //! Cases of 01's "Corners, file by file" and of its questions, each run on the
-//! unchanged Rust and compared with what 01 says; and cases of the step `03`.
+//! unchanged Rust and compared with what 01 says; and cases of the steps `03`, `04` and
+//! `05`.
 
 use crate::hex;
 use crate::leaves::{parse_blob, path_of_bits};
@@ -655,7 +656,7 @@ fn session_file(c: &mut Cases) {
     }
 
     // questions in one file
-    for code in [0, 7, 0xff] {
+    for code in [0, 7, 8, 0xff] {
         let f = [&whole[..], &[code]].concat();
         c.equal(&format!("the code {code:02x} gets 8"), number(&f), 8);
     }
@@ -962,6 +963,334 @@ fn forgets(c: &mut Cases) {
     }
 }
 
+/// A name, steps, and the number, words and output they get.
+type Expected<'a> = (&'a str, &'a [Step], u32, &'a [u32], &'a str);
+
+/// The steps `04` and `05`.
+fn quotes(c: &mut Cases) {
+    use Step::{Add, Forget, Quote, Restore, Take};
+
+    // (foobar . S), and 01's words and output by adds
+    let pair = || {
+        let mut f = File::new();
+        f.pair(FOOBAR, S);
+        f
+    };
+    let p = handle(PAIR, 0);
+    let foobar = "86666f6f626172";
+    let one = "ff86666f6f626172";
+    let two = "ff86666f6f626172fe02";
+    let cases: [Expected; 30] = [
+        ("a quote alone", &[Quote(p)], 0, &[16], ""),
+        ("a quote taken", &[Quote(p), Take], 0, &[16, 16], one),
+        (
+            "two quotes taken",
+            &[Quote(p), Take, Quote(FOOBAR), Take],
+            0,
+            &[16, 16, 21, 21],
+            two,
+        ),
+        (
+            "a quote that would finish",
+            &[Add(p), Quote(FOOBAR)],
+            0,
+            &[16, 21],
+            one,
+        ),
+        (
+            "the session goes on after it",
+            &[Add(p), Quote(FOOBAR), Add(p)],
+            0,
+            &[16, 21, 22],
+            "ff86666f6f626172fffe02",
+        ),
+        (
+            "a quote, and the same add",
+            &[Add(p), Quote(FOOBAR), Add(FOOBAR)],
+            0,
+            &[16, 21, 21],
+            two,
+        ),
+        (
+            "the last of two quotes is taken",
+            &[Quote(FOOBAR), Quote(p), Take],
+            0,
+            &[15, 16, 16],
+            one,
+        ),
+        ("a quote of the sentinel", &[Quote(S)], 0, &[0], ""),
+        (
+            "a quote of the sentinel, taken",
+            &[Quote(S), Take, Add(FOOBAR)],
+            0,
+            &[0, 0, 15],
+            foobar,
+        ),
+        ("17 at first", &[Take], 17, &[], ""),
+        ("17 after an add", &[Add(p), Take], 17, &[16], one),
+        (
+            "17 at the second",
+            &[Quote(p), Take, Take],
+            17,
+            &[16, 16],
+            one,
+        ),
+        (
+            "17 after an add dropped the quote",
+            &[Quote(p), Add(p), Take],
+            17,
+            &[16, 16],
+            one,
+        ),
+        (
+            "17 after a 02 dropped it",
+            &[Add(p), Quote(p), Restore(0), Take],
+            17,
+            &[16, 22, 0],
+            "",
+        ),
+        (
+            "17 after a 03 dropped it",
+            &[Add(p), Quote(p), Forget(0), Take],
+            17,
+            &[16, 22, 0],
+            "",
+        ),
+        (
+            "17 after the second was taken",
+            &[Quote(FOOBAR), Quote(p), Take, Take],
+            17,
+            &[15, 16, 16],
+            one,
+        ),
+        (
+            "17 when finished",
+            &[Quote(FOOBAR), Take, Take],
+            17,
+            &[15, 15],
+            foobar,
+        ),
+        (
+            "9 at a quote",
+            &[Quote(FOOBAR), Take, Quote(S)],
+            9,
+            &[15, 15],
+            foobar,
+        ),
+        (
+            "9 at a quote after an add",
+            &[Add(FOOBAR), Quote(p), Take],
+            9,
+            &[15],
+            foobar,
+        ),
+        (
+            "11 counts no quote, of 02",
+            &[Quote(p), Restore(0)],
+            11,
+            &[16],
+            "",
+        ),
+        (
+            "11 counts no quote, of 03",
+            &[Quote(p), Forget(0)],
+            11,
+            &[16],
+            "",
+        ),
+        (
+            "02 before a taking",
+            &[Quote(p), Take, Restore(0)],
+            0,
+            &[16, 16, 0],
+            "",
+        ),
+        (
+            "03 before a taking",
+            &[Quote(p), Take, Forget(0)],
+            0,
+            &[16, 16, 0],
+            "",
+        ),
+        (
+            "02 before a taking that finished",
+            &[Add(p), Quote(FOOBAR), Take, Restore(1), Quote(FOOBAR), Take],
+            0,
+            &[16, 21, 21, 16, 21, 21],
+            two,
+        ),
+        (
+            "03 before a taking that finished",
+            &[Add(p), Quote(FOOBAR), Take, Forget(1), Quote(FOOBAR), Take],
+            0,
+            &[16, 21, 21, 16, 21, 21],
+            two,
+        ),
+        (
+            "02 to the taking's count",
+            &[Quote(p), Take, Restore(1)],
+            11,
+            &[16, 16],
+            one,
+        ),
+        (
+            "a quote after a 02",
+            &[Add(p), Restore(0), Quote(FOOBAR), Take],
+            0,
+            &[16, 0, 15, 15],
+            foobar,
+        ),
+        (
+            "a quote after a 03",
+            &[Add(p), Forget(0), Quote(FOOBAR), Take],
+            0,
+            &[16, 0, 15, 15],
+            foobar,
+        ),
+        (
+            "9 at the second quote of a finish",
+            &[Add(p), Quote(FOOBAR), Take, Quote(FOOBAR), Take],
+            9,
+            &[16, 21, 21],
+            two,
+        ),
+        (
+            "four quotes, then the add",
+            &[Quote(p), Quote(p), Quote(S), Quote(FOOBAR), Add(p)],
+            0,
+            &[16, 16, 0, 15, 16],
+            one,
+        ),
+    ];
+    for (name, steps, number, words, output) in cases {
+        c.session(name, &pair().steps(steps.to_vec()), number, words, output);
+    }
+    // 13 at a quote leaves what was before it, at an add the whole items
+    for (length, number, size, words) in
+        [(10, 0, 8, 2), (9, 13, 8, 1), (8, 13, 8, 1), (7, 13, 0, 0)]
+    {
+        let s = pair().steps(vec![Quote(p), Take, Quote(FOOBAR)]);
+        let r = session::run(&s.to_bytes(), length, true);
+        let words = words + usize::from(words > 0);
+        c.equal(
+            &format!("quotes in {length} bytes"),
+            (r.number, r.output.len(), r.words.len()),
+            (number, size, words),
+        );
+    }
+    let s = pair().steps(vec![Add(S), Quote(p)]);
+    c.limited("13 inside a quote leaves nothing", &s, 7, 13, &[0], "");
+    let s = pair().steps(vec![Add(S), Add(p)]);
+    c.limited("13 inside an add leaves its items", &s, 7, 13, &[0], "ff");
+
+    // a quote takes no place, and 10 asks of the history as it is
+    let steps =
+        |n: usize, more: &[Step]| pair().steps([&[Quote(S), Take].repeat(n)[..], more].concat());
+    let all = |n: usize, more: &[u32]| [&vec![0; 2 * n][..], more].concat();
+    let s = steps(16, &[Quote(FOOBAR)]);
+    c.session("10 at a quote", &s, 10, &all(16, &[]), "");
+    let s = steps(15, &[Quote(p), Quote(p), Quote(FOOBAR), Take, Quote(S)]);
+    let words = all(15, &[16, 16, 15, 15]);
+    c.session("quotes take no place; 9 before 10", &s, 9, &words, foobar);
+    let s = steps(16, &[Take]);
+    c.session("17 after 16 adds", &s, 17, &all(16, &[]), "");
+    let s = steps(16, &[Forget(15), Quote(FOOBAR), Take]);
+    let words = all(16, &[0, 15, 15]);
+    c.session("a 03 makes room for a quote", &s, 0, &words, foobar);
+    let s = pair().steps(vec![Quote(FOOBAR); 1024]);
+    c.session("1,024 quotes", &s, 0, &[15; 1024], "");
+    let s = pair().steps(vec![Quote(FOOBAR); 1025]);
+    c.session("1,025 quotes", &s, 5, &[], "");
+
+    // 12 inside a quote: 4,093 pairs are open, and the quote would open four
+    let mut f = File::new();
+    let mut t = S;
+    let mut handles = vec![];
+    for _ in 0..1024 {
+        t = f.pair(t, small(1));
+        handles.push(t);
+    }
+    let open = [t, t, t, handles[1020]].map(Add);
+    let words = [2048, 4096, 6144, 8186];
+    let ones = "ff".repeat(4093);
+    let s = f.steps([&open[..], &[Quote(handles[3])]].concat());
+    c.session("12 inside a quote leaves nothing", &s, 12, &words, &ones);
+    let s = SessionFile {
+        steps: [&open[..], &[Quote(handles[2]), Take, Quote(t)]].concat(),
+        ..s
+    };
+    let words = [&words[..], &[8192, 8192]].concat();
+    let ones = "ff".repeat(4096);
+    c.session("12 at a quote's first ff", &s, 12, &words, &ones);
+
+    // as in `forgets`: B = foobar, A = ((S . nil) . B), C = (B . nil)
+    let file = |steps: &dyn Fn(u32, u32) -> Vec<Step>| {
+        let mut f = File::new();
+        let sn = f.pair(S, NIL);
+        let a = f.pair(sn, FOOBAR);
+        let cc = f.pair(FOOBAR, NIL);
+        f.steps(steps(a, cc))
+    };
+    let right = "ffffff86666f6f6261728080fe08";
+    let kept = "ffffff86666f6f6261728080fe04";
+    let s = file(&|a, cc| vec![Add(a), Quote(FOOBAR), Add(cc)]);
+    c.session("04 brings moved parents back", &s, 0, &[4, 25, 29], right);
+    let s = file(&|a, cc| vec![Add(a), Quote(FOOBAR), Quote(cc), Take]);
+    let words = [4, 25, 29, 29];
+    c.session("a taking after a dropped quote", &s, 0, &words, right);
+    c.equal("04 and 05, premises", plain::premises(&s), Ok(()));
+    let filling = plain::fill(&s).expect("no restore");
+    c.equal(
+        "04 and 05, filled",
+        filling.forest.in_full(filling.root, 100),
+        Some(hex::bytes("ffffff86666f6f626172808086666f6f626172")),
+    );
+    let s = file(&|a, cc| {
+        let first = [Add(a), Quote(FOOBAR), Take];
+        [&first[..], &[Restore(1), Quote(cc), Take]].concat()
+    });
+    let words = [4, 25, 25, 4, 29, 29];
+    c.session("02 keeps what a taking left", &s, 0, &words, kept);
+    let s = file(&|a, cc| {
+        let first = [Add(a), Quote(FOOBAR), Take];
+        [&first[..], &[Forget(1), Quote(cc), Take]].concat()
+    });
+    c.session("03 keeps nothing of a taking", &s, 0, &words, right);
+
+    // the sentinel's entry is unknown before and after a quote of the first tree
+    let mut f = File::new();
+    let a = f.pair(S, NIL);
+    let t = f.pair(a, S);
+    let t = f.pair(small(9), t);
+    let r = f.pair(FOOBAR, t);
+    let adds = [Add(r), Add(small(1)), Add(FOOBAR)];
+    let s = f.steps([&[Quote(a), Quote(FOOBAR)], &adds[..]].concat());
+    c.session(
+        "04 before the first add: the sentinel is unknown",
+        &s,
+        0,
+        &[2, 15, 24, 28, 33],
+        "ff86666f6f626172ff09ffff0180fe0b",
+    );
+
+    let file = pair().steps(vec![Add(p)]).to_bytes();
+    for (rest, number) in [
+        (&[4][..], 4),
+        (&[4, 8, 0, 0], 4),
+        (&[4, 8, 0, 0, 0], 0),
+        (&[4, 0xff, 0xff, 0xff, 0xff], 7),
+        (&[4, 0, 0, 0, 1], 7),
+        (&[5], 17),
+        (&[5, 9], 8),
+        (&[4, 8, 0, 0, 0, 5, 5], 17),
+        (&[4, 8, 0, 0, 0, 5, 7], 8),
+    ] {
+        let file = [&file[..], rest].concat();
+        let name = format!("steps {}", hex::encode(rest));
+        c.equal(&name, session::run(&file, MAX_OUTPUT, true).number, number);
+    }
+}
+
 /// Without demand 3's premises read-back fails: two cases.
 fn premises(c: &mut Cases) {
     // P = (S . nil); P, (foobar . (1 . (2 . (P . foobar)))), 3
@@ -1026,6 +1355,7 @@ pub fn run_all() -> Vec<Case> {
     session_file(&mut c);
     steps(&mut c);
     forgets(&mut c);
+    quotes(&mut c);
     premises(&mut c);
     c.0
 }

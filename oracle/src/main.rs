@@ -14,7 +14,7 @@ usage: oracle COMMAND ..
   corners                        01's corner cases, each compared with 01
   selfcheck N SEED               N generated sessions and trees, checked
   exhaustive PART                every small session and tree, or each PARTth
-  wrong                          wrong ways of a 03, each noticed by the kinds made for it
+  wrong                          wrong ways of a 03, and of a 04 and a 05, each noticed by the kinds made for it
   gen-session SEED KIND          writes a session file
   gen-tree SEED KIND             writes an encoded tree
   gen-leaves SEED                writes a file of leaf cases

@@ -2,7 +2,8 @@
 //! Rust: entries, parents, the search's steps, undo. Only questions 2 to 8 are
 //! shared with `session`. `selfcheck` compares it with the unchanged Rust, so a
 //! difference is one between 01 and the Rust. A `03` takes a copy of all that
-//! there was, where `session` does the steps before it again.
+//! there was, where `session` does the steps before it again; a `04` does the add and
+//! takes such a copy.
 
 use crate::node::{ATOM, NIL, PAIR, index, kind};
 use crate::plain::{atom_in_full, small_bytes};
@@ -107,6 +108,36 @@ pub enum Forget {
     TakesMore,
 }
 
+/// Right quotes, and wrong ones, to see which inputs notice them.
+#[derive(Debug, Clone, Copy, PartialEq, Eq)]
+pub enum Quote {
+    Right,
+    /// a `04` leaves its items
+    LeavesItems,
+    /// a `04` takes its add back as such a wrong `03`
+    Back(Forget),
+    /// a `04` leaves the session finished
+    LeavesFinished,
+    /// a `04` takes a place in the history
+    TakesPlace,
+    /// a `05` takes none
+    TakesNone,
+    /// a `04` doesn't ask 10, and a `05` does
+    AsksLater,
+    /// a `04` that is refused leaves the whole items that it wrote
+    RefusedLeavesItems,
+    /// a `05` leaves the quote open
+    StaysOpen,
+    /// a `01` leaves the quote open
+    KeptByAdd,
+    /// a `02` leaves the quote open
+    KeptByRestore,
+    /// a `03` leaves the quote open
+    KeptByForget,
+    /// a `04` leaves the quote before it open
+    KeptByQuote,
+}
+
 impl Cache {
     /// The cache after a `03`, from that of the state it goes back to.
     fn put_back(&mut self, mut before: Cache, way: Forget) {
@@ -158,6 +189,8 @@ struct Model<'a> {
     records: Vec<(u32, State, Cache)>,
     output: Vec<u8>,
     output_length: usize,
+    /// the handle of the open quote
+    quoted: Option<u32>,
     met: Met,
 }
 
@@ -468,12 +501,108 @@ impl Model<'_> {
     }
 }
 
-pub fn run(file: &[u8], output_length: usize) -> (SessionAnswer, Met) {
-    run_with(Forget::Right, file, output_length)
+impl Model<'_> {
+    /// 9 and 10 of an add.
+    fn asked(&self) -> Result<(), u32> {
+        if self.now.finished {
+            return Err(9);
+        }
+        if self.records.len() >= MAX_ADDS {
+            return Err(10);
+        }
+        Ok(())
+    }
+
+    fn word(&self) -> u32 {
+        self.output.len() as u32 * 2 + u32::from(self.now.finished)
+    }
+
+    /// The word of an add. All is then as it was, but for the quote.
+    fn quote(&mut self, root: u32, way: Quote) -> Result<u32, u32> {
+        let result = self.add(root);
+        let (word, size) = (self.word(), self.output.len());
+        let (_, state, cache) = self.records.pop().expect("the add's record");
+        let items = match way {
+            Quote::LeavesItems => size,
+            Quote::RefusedLeavesItems if result.is_err() => size,
+            _ => state.size,
+        };
+        self.output.truncate(items);
+        if way == Quote::TakesPlace {
+            self.records.push((root, state.clone(), cache.clone()));
+        }
+        let finished = way == Quote::LeavesFinished && self.now.finished;
+        self.now = State { finished, ..state };
+        let way_back = match way {
+            Quote::Back(forget) => forget,
+            _ => Forget::Right,
+        };
+        self.cache.put_back(cache, way_back);
+        if way != Quote::KeptByQuote || self.quoted.is_none() {
+            self.quoted = Some(root);
+        }
+        result.map(|()| word)
+    }
+
+    fn step(&mut self, step: Step, forget: Forget, quote: Quote) -> Result<u32, u32> {
+        let kept = match step {
+            Step::Add(_) => quote == Quote::KeptByAdd,
+            Step::Restore(_) => quote == Quote::KeptByRestore,
+            Step::Forget(_) => quote == Quote::KeptByForget,
+            Step::Quote(_) => quote == Quote::KeptByQuote,
+            Step::Take => quote == Quote::StaysOpen,
+        };
+        let quoted = self.quoted;
+        self.quoted = quoted.filter(|_| kept);
+        match step {
+            Step::Add(h) => {
+                self.asked()?;
+                self.add(h)?;
+            }
+            Step::Restore(k) | Step::Forget(k) if usize::from(k) >= self.records.len() => {
+                return Err(11);
+            }
+            Step::Restore(k) => {
+                let cache = self.go_back(k.into());
+                self.cache.sentinel_entry = cache.sentinel_entry.or(self.cache.sentinel_entry);
+            }
+            Step::Forget(k) if forget == Forget::TakesMore => self.go_on_afresh(k.into())?,
+            Step::Forget(k) => {
+                let cache = self.go_back(k.into());
+                self.cache.put_back(cache, forget);
+            }
+            Step::Quote(h) => {
+                match self.asked() {
+                    Err(10) if quote == Quote::AsksLater => (),
+                    asked => asked?,
+                }
+                return self.quote(h, quote);
+            }
+            Step::Take => {
+                let h = quoted.ok_or(17_u32)?;
+                // only a wrong way gets a no here
+                self.asked()?;
+                self.add(h)?;
+                if quote == Quote::TakesNone {
+                    self.records.pop();
+                }
+            }
+        }
+        Ok(self.word())
+    }
 }
 
-/// The same, with a `03` that may be wrong.
-pub fn run_with(way: Forget, file: &[u8], output_length: usize) -> (SessionAnswer, Met) {
+pub fn run(file: &[u8], output_length: usize) -> (SessionAnswer, Met) {
+    run_with(Forget::Right, Quote::Right, file, output_length)
+}
+
+/// The same, with a `03`, or a `04` and a `05`, that may be wrong.
+pub fn run_with(
+    forget: Forget,
+    quote: Quote,
+    file: &[u8],
+    output_length: usize,
+) -> (SessionAnswer, Met) {
     let s = match parse(file) {
         Ok(s) => s,
         Err(number) => {
@@ -491,33 +620,19 @@ pub fn run_with(way: Forget, file: &[u8], output_length: usize) -> (SessionAnswe
         records: vec![],
         output: vec![],
         output_length: output_length.min(MAX_OUTPUT),
+        quoted: None,
         met: Met::default(),
     };
     let mut words = vec![];
     let mut number = 0;
     for step in &s.steps {
-        let result = match *step {
-            Step::Add(_) if m.now.finished => Err(9),
-            Step::Add(_) if m.records.len() >= MAX_ADDS => Err(10),
-            Step::Add(h) => m.add(h),
-            Step::Restore(k) | Step::Forget(k) if usize::from(k) >= m.records.len() => Err(11),
-            Step::Restore(k) => {
-                let cache = m.go_back(k.into());
-                m.cache.sentinel_entry = cache.sentinel_entry.or(m.cache.sentinel_entry);
-                Ok(())
+        match m.step(*step, forget, quote) {
+            Ok(word) => words.push(word),
+            Err(n) => {
+                number = n;
+                break;
             }
-            Step::Forget(k) if way == Forget::TakesMore => m.go_on_afresh(k.into()),
-            Step::Forget(k) => {
-                let cache = m.go_back(k.into());
-                m.cache.put_back(cache, way);
-                Ok(())
-            }
-        };
-        if let Err(n) = result {
-            number = n;
-            break;
         }
-        words.push(m.output.len() as u32 * 2 + u32::from(m.now.finished));
     }
     let answer = SessionAnswer {
         number,

@@ -122,7 +122,7 @@ impl Forest {
 pub struct Filling {
     pub forest: Forest,
     pub root: usize,
-    /// the handles of the adds that survive: no `03` took them back
+    /// the handles of the adds that survive, also by a `05`: no `03` took them back
     pub adds: Vec<u32>,
     pub whole: bool,
 }
@@ -168,27 +168,37 @@ impl<'a> Unfolded<'a> {
 }
 
 /// The plain filling: none with a `02` that is taken. It ends at a step that 9 to
-/// 11 refuse; 12 and 13 aren't asked here, since they depend on the output.
+/// 11 or 17 refuse; 12 and 13 aren't asked here, since they depend on the output.
 pub fn fill(s: &SessionFile) -> Option<Filling> {
     let mut f = Forest::default();
     let u = Unfolded::new(s, &mut f);
     let mut root = u.open;
     // the handle of each add on the present history, and the tree before it
     let mut past: Vec<(u32, usize)> = vec![];
+    let mut quoted = None;
     for step in &s.steps {
+        let open = quoted.take();
+        let added = match *step {
+            Step::Add(h) => Some(h),
+            Step::Take if open.is_none() => break,
+            Step::Take => open,
+            _ => None,
+        };
         match *step {
-            Step::Add(_) if !f.open[root] || past.len() == MAX_ADDS => break,
-            Step::Add(h) => {
-                past.push((h, root));
-                let t = u.tree(&mut f, h);
-                root = f.put(root, t);
-            }
+            Step::Add(_) | Step::Quote(_) if !f.open[root] || past.len() == MAX_ADDS => break,
+            Step::Add(_) | Step::Take => (),
+            Step::Quote(h) => quoted = Some(h),
             Step::Restore(k) | Step::Forget(k) if usize::from(k) >= past.len() => break,
             Step::Restore(_) => return None,
             Step::Forget(k) => {
                 root = past[usize::from(k)].1;
                 past.truncate(k.into());
             }
+        }
+        if let Some(h) = added {
+            past.push((h, root));
+            let t = u.tree(&mut f, h);
+            root = f.put(root, t);
         }
     }
     Some(Filling {
@@ -199,14 +209,17 @@ pub fn fill(s: &SessionFile) -> Option<Filling> {
     })
 }
 
-/// The adds that survive these steps, by their places; none with a `02`.
-pub fn survivors(steps: &[Step]) -> Option<Vec<usize>> {
+/// The adds that survive these steps, none of them refused, by their places and
+/// handles; none with a `02`. A `05` is the add that was quoted right before it.
+pub fn survivors(steps: &[Step]) -> Option<Vec<(usize, u32)>> {
     let mut adds = vec![];
     for (i, step) in steps.iter().enumerate() {
-        match *step {
-            Step::Add(_) => adds.push(i),
-            Step::Restore(_) => return None,
-            Step::Forget(k) => adds.truncate(k.into()),
+        match (*step, i.checked_sub(1).map(|before| steps[before])) {
+            (Step::Add(h), _) | (Step::Take, Some(Step::Quote(h))) => adds.push((i, h)),
+            (Step::Take, _) => panic!("a 05 with no quote open"),
+            (Step::Restore(_), _) => return None,
+            (Step::Forget(k), _) => adds.truncate(k.into()),
+            (Step::Quote(_), _) => (),
         }
     }
     Some(adds)

@@ -3,11 +3,11 @@
 //! the plain reader and `node_from_bytes_backrefs_old`, and read-back.
 
 use crate::generate::exhaustive;
-use crate::model::{Forget, Met};
+use crate::model::{Forget, Met, Quote};
 use crate::plain::{self, Interner};
 use crate::reading::{self, MAX_INPUT, ReadAnswer};
 use crate::rng::Rng;
-use crate::session::{self, MAX_OUTPUT, SessionAnswer, SessionFile};
+use crate::session::{self, MAX_OUTPUT, SessionAnswer, SessionFile, Step};
 use crate::{generate, model, node};
 use clvm_rs::Allocator;
 use clvm_rs::serde::node_from_bytes_backrefs_old;
@@ -15,7 +15,7 @@ use clvm_rs::serde::node_from_bytes_backrefs_old;
 #[derive(Debug, Default)]
 pub struct Counts {
     pub sessions: usize,
-    /// sessions that `03` took adds of, compared with those that survive
+    /// sessions with `03`, `04` or `05`, compared with those of the adds that survive
     pub survivors: usize,
     pub finished: usize,
     pub read_back: usize,
@@ -23,7 +23,7 @@ pub struct Counts {
     pub accepted: usize,
     pub references: usize,
     /// how often each number was given
-    pub numbers: [usize; 17],
+    pub numbers: [usize; 18],
     pub met: Met,
 }
 
@@ -71,8 +71,8 @@ pub fn check_tree(input: &[u8], counts: &mut Counts) -> Result<(), String> {
     Ok(())
 }
 
-/// With `03` and no `02` the session is that of the adds that survive, and of the
-/// step that is refused. Whether the file is such a one.
+/// With `03`, `04` or `05` and no `02` the session is that of the adds that survive, and
+/// of the step that is refused. Whether the file is such a one.
 fn check_survivors(
     s: &SessionFile,
     output_length: usize,
@@ -89,14 +89,13 @@ fn check_survivors(
     let alone = SessionFile {
         steps: adds
             .iter()
-            .map(|i| &taken[*i])
-            .chain(refused)
-            .copied()
+            .map(|(_, h)| Step::Add(*h))
+            .chain(refused.copied())
             .collect(),
         ..s.clone()
     };
     let expected = SessionAnswer {
-        words: adds.iter().map(|i| r.words[*i]).collect(),
+        words: adds.iter().map(|(i, _)| r.words[*i]).collect(),
         ..r.clone()
     };
     if session::run_parsed(&alone, output_length, true) != expected {
@@ -130,7 +129,7 @@ pub fn check_session(file: &[u8], output_length: usize, counts: &mut Counts) -> 
         return Ok(());
     };
     counts.survivors += usize::from(check_survivors(&s, output_length, &r)?);
-    if !r.is_finished() {
+    if !r.is_finished(&s) {
         return Ok(());
     }
     counts.finished += 1;
@@ -173,26 +172,69 @@ const WRONG: &[(Forget, &[&str])] = &[
     (Forget::LeavesSentinel, &["forgets-finished"]),
     (Forget::TakesMore, &["undo-mixed", "forgets-moved"]),
 ];
+/// Wrong ways of a `04` and a `05`, and the kinds made for each.
+const WRONG_QUOTES: &[(Quote, &[&str])] = &[
+    (Quote::LeavesItems, &["quotes", "quote-tests"]),
+    (
+        Quote::Back(Forget::LeavesCache),
+        &["quotes", "quote-tests", "quotes-finished"],
+    ),
+    (Quote::Back(Forget::LeavesParents), &["quotes-parents"]),
+    (Quote::Back(Forget::LeavesMoved), &["quotes-moved"]),
+    (Quote::Back(Forget::LeavesFront), &["quotes-front"]),
+    (Quote::Back(Forget::LeavesHandles), &["quotes-twins"]),
+    (Quote::Back(Forget::LeavesSentinel), &["quotes-finished"]),
+    (Quote::LeavesFinished, &["quotes-finished"]),
+    (Quote::TakesPlace, &["quotes-undo", "quotes-10"]),
+    (Quote::TakesNone, &["quotes-undo", "quotes-10"]),
+    (Quote::AsksLater, &["quotes-10"]),
+    (Quote::RefusedLeavesItems, &["quotes-12", "quotes-13"]),
+    (Quote::StaysOpen, &["quotes-17"]),
+    (Quote::KeptByAdd, &["quotes-17"]),
+    (Quote::KeptByRestore, &["quotes-17"]),
+    (Quote::KeptByForget, &["quotes-17"]),
+    (Quote::KeptByQuote, &["quotes", "quote-tests"]),
+];
 /// Files of each kind.
 const FILES: u64 = 60;
 
 /// Each wrong way gives another answer on some files of its kinds: a line for each.
 pub fn run_wrong() -> Result<String, String> {
-    let differs = |way, kind: &str, seed| {
-        let file = generate::session(seed, kind).expect("a kind");
-        model::run_with(way, &file, MAX_OUTPUT).0 != model::run(&file, MAX_OUTPUT).0
-    };
     let mut text = String::new();
     for (way, kinds) in WRONG {
-        for kind in *kinds {
-            let count = (0..FILES).filter(|s| differs(*way, kind, *s)).count();
-            if count == 0 {
-                return Err(format!("{way:?} is not noticed by {kind}"));
-            }
-            text += &format!("{way:?}: {count} of {FILES} files of {kind} notice\n");
-        }
+        let run = |file: &[u8]| model::run_with(*way, Quote::Right, file, MAX_OUTPUT).0;
+        text += &noticed(&format!("{way:?}"), kinds, &run)?;
     }
-    text += &format!("{} wrong ways of a 03, each noticed\n", WRONG.len());
+    for (way, kinds) in WRONG_QUOTES {
+        let run = |file: &[u8]| model::run_with(Forget::Right, *way, file, MAX_OUTPUT).0;
+        text += &noticed(&format!("{way:?}"), kinds, &run)?;
+    }
+    text += &format!(
+        "{} wrong ways of a 03 and {} of a 04 and a 05, each noticed\n",
+        WRONG.len(),
+        WRONG_QUOTES.len()
+    );
+    Ok(text)
+}
+
+/// How many files of each kind notice a wrong way.
+fn noticed(
+    way: &str,
+    kinds: &[&str],
+    run: &dyn Fn(&[u8]) -> SessionAnswer,
+) -> Result<String, String> {
+    let mut text = String::new();
+    for kind in kinds {
+        let differs = |seed: &u64| {
+            let file = generate::session(*seed, kind).expect("a kind");
+            run(&file) != model::run(&file, MAX_OUTPUT).0
+        };
+        let count = (0..FILES).filter(differs).count();
+        if count == 0 {
+            return Err(format!("{way} is not noticed by {kind}"));
+        }
+        text += &format!("{way}: {count} of {FILES} files of {kind} notice\n");
+    }
     Ok(text)
 }
 

@@ -1,5 +1,5 @@
 //! A session file: questions 2 to 8, and the steps on the unchanged Rust with
-//! questions 9 to 13.
+//! questions 9 to 13 and 17.
 
 use crate::node::{ATOM, INDEX_BITS, NONE, PAIR, SMALL, from_word, index, kind};
 use clvm_rs::allocator::fits_in_small_atom;
@@ -25,6 +25,10 @@ pub enum Step {
     Restore(u16),
     /// `03`: nothing stays.
     Forget(u16),
+    /// `04`: the word of an add, which isn't made.
+    Quote(u32),
+    /// `05`: the add that was quoted right before it.
+    Take,
 }
 
 #[derive(Debug, Default, Clone, PartialEq, Eq)]
@@ -126,6 +130,8 @@ pub fn parse(file: &[u8]) -> Result<SessionFile, u32> {
             1 => Step::Add(f.handle(atom_count, pair_count, false)?),
             2 => Step::Restore(f.word16()? as u16),
             3 => Step::Forget(f.word16()? as u16),
+            4 => Step::Quote(f.handle(atom_count, pair_count, false)?),
+            5 => Step::Take,
             _ => return Err(8),
         });
     }
@@ -161,6 +167,11 @@ impl SessionFile {
                     out.push(3);
                     out.extend_from_slice(&k.to_be_bytes());
                 }
+                Step::Quote(h) => {
+                    out.push(4);
+                    out.extend_from_slice(&h.to_be_bytes());
+                }
+                Step::Take => out.push(5),
             }
         }
         out
@@ -193,9 +204,11 @@ pub struct SessionAnswer {
 }
 
 impl SessionAnswer {
-    /// Whether the session is finished at the end of the run.
-    pub fn is_finished(&self) -> bool {
-        self.words.last().is_some_and(|w| w % 2 == 1)
+    /// Whether the session, of this file, is finished at the end of the run. A quote's
+    /// word says what would be, and the session before a quote is unfinished.
+    pub fn is_finished(&self, s: &SessionFile) -> bool {
+        let last = self.words.len().checked_sub(1);
+        last.is_some_and(|i| !matches!(s.steps[i], Step::Quote(_)) && self.words[i] % 2 == 1)
     }
 }
 
@@ -351,10 +364,13 @@ struct Session<'a> {
     driver: Driver<'a>,
     /// Does each step too, if the two are compared.
     serializer: Option<Serializer>,
-    /// The steps that count: after them a fresh session is this one. None is a `03`.
+    /// The steps that count: after them a fresh session is this one. Each is an add,
+    /// also for a `05`, or a `02`.
     steps: Vec<Step>,
     /// The state before add k, for each k below the adds on the present history.
     history: Vec<Before>,
+    /// The handle of the open quote.
+    quoted: Option<u32>,
 }
 
 struct Before {
@@ -378,7 +394,19 @@ impl<'a> Session<'a> {
             serializer: compare.then(|| Serializer::new(sentinel)),
             steps: vec![],
             history: vec![],
+            quoted: None,
         }
+    }
+
+    /// A fresh session that did the first `count` of the steps that count. The Rust
+    /// can't copy a `Serializer`.
+    fn again(&self, count: usize) -> Self {
+        let length = self.driver.output_length;
+        let mut again = Self::new(self.a, self.sentinel, length, self.serializer.is_some());
+        for step in &self.steps[..count] {
+            again.step(*step).expect("a step that went before");
+        }
+        again
     }
 
     /// Questions 9, 10, 12 and 13.
@@ -416,20 +444,27 @@ impl<'a> Session<'a> {
         Ok(())
     }
 
-    /// Question 11; then the whole state before add k. The Rust has no such step and
-    /// can't copy a `Serializer`: a fresh one does the steps that led there.
+    /// Question 11; then the whole state before add k. The Rust has no such step: a
+    /// fresh session does the steps that led there.
     fn forget(&mut self, k: u16) -> Result<(), u32> {
         let before = self.before(k)?;
-        let length = self.driver.output_length;
-        let mut again = Self::new(self.a, self.sentinel, length, self.serializer.is_some());
-        for step in &self.steps[..before.steps] {
-            again.step(*step).expect("a step that went before");
-        }
+        let again = self.again(before.steps);
         assert_eq!(again.history.len(), usize::from(k), "another history");
         let size = before.driver.size;
         assert_eq!(again.driver.output, self.driver.output[..size]);
         *self = again;
         Ok(())
+    }
+
+    /// Questions 9, 10, 12 and 13, and the word of the add. The Rust has no such step:
+    /// a fresh session does all steps that count and the add, and is thrown away.
+    fn quote(&mut self, h: u32) -> Result<u32, u32> {
+        let mut again = self.again(self.steps.len());
+        assert_eq!(again.history.len(), self.history.len(), "another history");
+        assert_eq!(again.driver.output, self.driver.output);
+        let word = again.step(Step::Add(h))?;
+        self.quoted = Some(h);
+        Ok(word)
     }
 
     fn before(&mut self, k: u16) -> Result<Before, u32> {
@@ -441,22 +476,24 @@ impl<'a> Session<'a> {
         Ok(self.history.pop().expect("a state for k"))
     }
 
-    /// One step, or its number.
-    fn step(&mut self, step: Step) -> Result<(), u32> {
+    /// One step: its word, or its number. Every step but a `05` drops an open quote, and
+    /// that one closes it.
+    fn step(&mut self, step: Step) -> Result<u32, u32> {
+        let quoted = self.quoted.take();
         match step {
             Step::Add(h) => self.add(h)?,
             Step::Restore(k) => self.restore(k)?,
             Step::Forget(k) => self.forget(k)?,
+            Step::Quote(h) => return self.quote(h),
+            Step::Take => self
+                .add(quoted.ok_or(17_u32)?)
+                .expect("an add that was quoted"),
         }
         if let Some(ser) = self.serializer.as_ref() {
             assert_eq!(ser.size(), self.driver.output.len() as u64, "size differs");
             assert_eq!(ser.get_ref(), &self.driver.output, "bytes differ");
         }
-        Ok(())
-    }
-
-    fn word(&self) -> u32 {
-        self.driver.output.len() as u32 * 2 + u32::from(self.driver.finished())
+        Ok(self.driver.output.len() as u32 * 2 + u32::from(self.driver.finished()))
     }
 }
 
@@ -484,15 +521,20 @@ fn run_items(s: &SessionFile, output_length: usize, compare: bool) -> (SessionAn
     let mut words = vec![];
     let mut number = 0;
     for step in &s.steps {
-        if let Err(n) = session.step(*step) {
-            number = n;
-            break;
+        let word = match session.step(*step) {
+            Ok(word) => word,
+            Err(n) => {
+                number = n;
+                break;
+            }
+        };
+        match step {
+            Step::Add(_) | Step::Quote(_) => (),
+            Step::Restore(_) | Step::Forget(_) => {
+                assert!(word.is_multiple_of(2), "an undo left a finished session");
+            }
+            Step::Take => assert_eq!(words.last(), Some(&word), "another word than quoted"),
         }
-        let word = session.word();
-        assert!(
-            matches!(step, Step::Add(_)) || word.is_multiple_of(2),
-            "an undo left a finished session"
-        );
         words.push(word);
     }
     let answer = SessionAnswer {

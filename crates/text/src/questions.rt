@@ -40,6 +40,7 @@ question 13 got no: Does the next item fit the output, of which at most 65,535 b
 question 14 got no: Are bytes whole, prefixes at most six bytes, sizes below 2^34, nothing left over?
 question 15 got no: Is each prefix shortest?
 question 16 got no: Does every path stay out of atoms?
+question 17 got no: At a 05, is a quote open?
 ",
         number as usize,
     );

@@ -10,6 +10,7 @@ pub mod inputs;
 pub mod lent;
 pub mod numbers;
 pub mod one_atom;
+pub mod quote_benchmark;
 pub mod session_benchmark;
 pub mod session_compare;
 pub mod session_inputs;

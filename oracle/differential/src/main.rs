@@ -11,7 +11,7 @@ usage: differential read COUNT SEED [MOST]     COUNT generated inputs, and at mo
        differential session COUNT SEED [MOST]  COUNT generated session files, and at most MOST of each other set
        differential benchmark                  the reading call, a table in Markdown
        differential session-benchmark          the session call, tables in Markdown
-       differential session-files FOLDER       the session files of the first two, as 1.session and so on";
+       differential session-files FOLDER       the session files of the first tables, as 1.session and so on";
 
 fn number(text: &str) -> Result<u64, String> {
     text.parse().map_err(|_| format!("not a number: {text}"))

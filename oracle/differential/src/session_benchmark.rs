@@ -2,7 +2,7 @@
 //! same sessions.
 
 use crate::times::measure;
-use crate::{cache_benchmark, undo_benchmark};
+use crate::{cache_benchmark, quote_benchmark, undo_benchmark};
 use clvm_rs::Allocator;
 use clvm_rs::serde::{Serializer, UndoState};
 use nikvoldra::call::{
@@ -217,11 +217,12 @@ fn one_add_cases() -> Vec<Case> {
     all
 }
 
-/// The files of `cases`, and then those that take back by `02` and by `03`, numbered from 1, in a folder.
+/// The files of `cases`, then those that take back by `02` and by `03`, then those that quote, numbered from 1, in a folder.
 pub fn write(folder: &str) -> std::io::Result<()> {
     std::fs::create_dir_all(folder)?;
     let mut files: Vec<Vec<u8>> = cases().into_iter().map(|c| c.file).collect();
     files.extend(undo_benchmark::cases().into_iter().flat_map(|c| c.files));
+    files.extend(quote_benchmark::cases().into_iter().flat_map(|c| c.files));
     for (i, file) in files.iter().enumerate() {
         std::fs::write(format!("{folder}/{}.session", i + 1), file)?;
     }
@@ -239,7 +240,9 @@ pub fn steps(s: &SessionFile, a: &Allocator) -> u64 {
                 undo.truncate(usize::from(k) + 1);
                 serializer.restore(undo.pop().expect("a state"));
             }
-            Step::Forget(_) => panic!("the Rust has no 03"),
+            Step::Forget(_) | Step::Quote(_) | Step::Take => {
+                panic!("the Rust has no 03, 04 and 05")
+            }
         }
     }
     serializer.size()
@@ -318,6 +321,14 @@ pub fn run() {
     undo_benchmark::heading();
     for c in undo_benchmark::cases() {
         println!("{}", undo_benchmark::row(&c, &mut port));
+    }
+    quote_benchmark::tries_heading();
+    for c in quote_benchmark::tries() {
+        println!("{}", quote_benchmark::tries_row(&c, &mut port));
+    }
+    quote_benchmark::heading();
+    for c in quote_benchmark::cases() {
+        println!("{}", quote_benchmark::row(&c, &mut port));
     }
     cache_benchmark::heading();
     for c in one_add_cases() {

@@ -26,7 +26,7 @@ pub struct Tally {
     calls: u64,
     finished: u64,
     read_back: u64,
-    kinds: BTreeMap<&'static str, Numbers<14>>,
+    kinds: BTreeMap<&'static str, Numbers<18>>,
 }
 
 impl Count for Tally {
@@ -42,7 +42,7 @@ impl Count for Tally {
 }
 
 impl Tally {
-    fn numbers(&self) -> Numbers<14> {
+    fn numbers(&self) -> Numbers<18> {
         let mut all = Numbers::default();
         for numbers in self.kinds.values() {
             all.add(numbers);
@@ -114,7 +114,9 @@ impl Comparison {
 
     /// What the Rust gives with so long an output; `full` with the longest.
     fn rust_gives(file: &[u8], full: &SessionAnswer, output: usize) -> SessionAnswer {
-        if output >= MAX_OUTPUT || full.number != 13 && output >= needed(full) {
+        // a quote that 12 refuses had bytes that no word counts
+        let other = matches!(full.number, 12 | 13) || output < needed(full);
+        if output >= MAX_OUTPUT || !other {
             full.clone()
         } else {
             session::run(file, output, true)
@@ -172,11 +174,13 @@ impl Comparison {
     /// A finished session within demand 3's premises: the bytes that the port has
     /// written, read by the Rust, are the plain filling.
     fn read_back(&mut self, file: &[u8], answer: &SessionAnswer) -> Result<(), String> {
-        if !answer.is_finished() {
+        let Ok(s) = session::parse(file) else {
+            return Ok(());
+        };
+        if !answer.is_finished(&s) {
             return Ok(());
         }
         self.tally.finished += 1;
-        let s = session::parse(file).expect("a file that was run");
         if plain::premises(&s).is_err() {
             return Ok(());
         }
@@ -277,7 +281,7 @@ mod tests {
 
     #[test]
     fn each_fault_is_noticed() {
-        let faulty: [SessionCall; 16] = [
+        let faulty: [SessionCall; 20] = [
             with_fault::<{ Fault::Number as u8 }>,
             with_fault::<{ Fault::Steps as u8 }>,
             with_fault::<{ Fault::Size as u8 }>,
@@ -294,6 +298,10 @@ mod tests {
             with_fault::<{ Fault::LongOutput as u8 }>,
             with_fault::<{ Fault::UnknownForget as u8 }>,
             with_fault::<{ Fault::ForgetRestores as u8 }>,
+            with_fault::<{ Fault::UnknownQuote as u8 }>,
+            with_fault::<{ Fault::QuoteRestores as u8 }>,
+            with_fault::<{ Fault::QuoteLeavesItems as u8 }>,
+            with_fault::<{ Fault::Number17 as u8 }>,
         ];
         for (i, call) in faulty.into_iter().enumerate() {
             assert!(verdict(call).is_err(), "fault {} is not noticed", i + 1);

@@ -2,7 +2,7 @@
 //! fault, to try the comparison itself.
 
 use nikvoldra::call::{CHECKPOINTS_LENGTH, Checkpoint, SessionAnswer, WORDS_LENGTH, WORK_LENGTH};
-use oracle::model::{self, Forget};
+use oracle::model::{self, Forget, Quote};
 use oracle::session::{self, MAX_OUTPUT, Step};
 
 #[derive(Clone, Copy, PartialEq)]
@@ -41,6 +41,14 @@ pub enum Fault {
     UnknownForget,
     /// a `03` does what a `02` does; `oracle wrong` has other wrong ones
     ForgetRestores,
+    /// 8 for a `04` or a `05`
+    UnknownQuote,
+    /// a `04` takes its add back as a `02` does; `oracle wrong` has other wrong ones
+    QuoteRestores,
+    /// a refused `04` leaves its whole items
+    QuoteLeavesItems,
+    /// 11 for 17
+    Number17,
 }
 
 struct Slices<'a> {
@@ -93,12 +101,23 @@ fn answer(fault: u8, file: &[u8], s: &mut Slices) -> SessionAnswer {
     if fault(Fault::UnknownForget) && steps.iter().any(|s| matches!(s, Step::Forget(_))) {
         return refusal(8);
     }
-    let way = if fault(Fault::ForgetRestores) {
+    let quotes = |s: &Step| matches!(s, Step::Quote(_) | Step::Take);
+    if fault(Fault::UnknownQuote) && steps.iter().any(quotes) {
+        return refusal(8);
+    }
+    let forget = if fault(Fault::ForgetRestores) {
         Forget::LeavesCache
     } else {
         Forget::Right
     };
-    let (mut r, _) = model::run_with(way, file, s.output.len());
+    let quote = if fault(Fault::QuoteRestores) {
+        Quote::Back(Forget::LeavesCache)
+    } else if fault(Fault::QuoteLeavesItems) {
+        Quote::RefusedLeavesItems
+    } else {
+        Quote::Right
+    };
+    let (mut r, _) = model::run_with(forget, quote, file, s.output.len());
     if fault(Fault::LongOutput) && r.number == 13 && s.output.len() > MAX_OUTPUT {
         r.number = 0;
     }
@@ -118,6 +137,7 @@ fn answer(fault: u8, file: &[u8], s: &mut Slices) -> SessionAnswer {
     SessionAnswer {
         number: match r.number {
             13 if fault(Fault::Number) => 12,
+            17 if fault(Fault::Number17) => 11,
             n => n,
         },
         steps: r.words.len() as u32 + u32::from(fault(Fault::Steps) && r.number != 0),

@@ -42,6 +42,25 @@ pub fn measure(
     row
 }
 
+/// The times of the call on the inputs, turn by turn, each after a call on the empty one.
+pub fn measure_in_turns<const N: usize>(
+    port: &mut dyn FnMut(&[u8]),
+    inputs: [&[u8]; N],
+    empty: &[u8],
+) -> Vec<[f64; N]> {
+    let began = Instant::now();
+    // the first turn only warms up
+    inputs.iter().for_each(|input| port(input));
+    let mut turns = vec![];
+    while turns.len() < ROUNDS * CALLS && (turns.len() < 3 || began.elapsed() <= AT_MOST) {
+        turns.push(inputs.map(|input| {
+            port(empty);
+            micros(|| port(input))
+        }));
+    }
+    turns
+}
+
 /// A row for each input, all with the times of the Rust's ways. A round is calls on an input and the empty one in turns, for each
 /// input, then calls of each of the Rust's ways.
 pub fn measure_beside<const N: usize>(

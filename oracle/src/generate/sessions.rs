@@ -1,6 +1,7 @@
 //! Session files.
 
 mod forgets;
+mod quotes;
 
 use super::{Kind, damage};
 use crate::node::{ATOM, NIL, NONE, PAIR, SMALL, handle};
@@ -35,12 +36,23 @@ pub const KINDS: &[Kind] = &[
     ("forgets-moved", 80, forgets::moved),
     ("forgets-front", 20, forgets::front),
     ("forgets-parents", 20, forgets::parents),
+    ("quotes", 200, |rng| quotes::quotes(rng, 0)),
+    ("quotes-undo", 200, |rng| quotes::quotes(rng, 30)),
+    ("quote-tests", 4, quotes::tests),
+    ("quotes-finished", 80, quotes::finished),
+    ("quotes-twins", 60, quotes::twins),
+    ("quotes-moved", 80, quotes::moved),
+    ("quotes-front", 20, quotes::front),
+    ("quotes-parents", 20, quotes::parents),
     ("deep-restores", 6, |rng| deep_undo(rng, 0)),
     ("deep-forgets", 6, |rng| deep_undo(rng, 70)),
+    ("deep-quotes", 6, quotes::deep),
     ("many-steps", 4, |rng| many_steps(rng, 0)),
     ("many-forgets", 4, |rng| many_steps(rng, 70)),
+    ("many-quotes", 4, quotes::many_steps),
     ("many-entries", 1, many_entries),
     ("many-entries-undo", 1, forgets::many_entries),
+    ("many-entries-quotes", 1, quotes::many_entries),
     ("twins", 80, twins),
     ("parents", 20, parents),
     ("parents-moved", 10, parents_moved),
@@ -53,19 +65,26 @@ pub const KINDS: &[Kind] = &[
     ("open-pairs", 2, |rng| open_pairs(rng, 0)),
     ("forgets-open", 2, |rng| open_pairs(rng, 100)),
     ("sixteen-adds", 30, sixteen_adds),
+    ("sixteen-quotes", 30, quotes::sixteen),
     ("full-output", 1, full_output),
     ("over-output", 1, over_output),
     ("keys", 20, keys),
     ("limits", 6, limits),
     ("random", 20, random_bytes),
-    ("mutated", 200, |rng| mutated(rng, 0)),
-    ("damaged", 100, |rng| damaged(rng, 0)),
-    ("truncated", 100, |rng| truncated(rng, 0)),
-    ("faults", 60, |rng| faults(rng, 0)),
-    ("forgets-mutated", 200, |rng| mutated(rng, 60)),
-    ("forgets-damaged", 60, |rng| damaged(rng, 60)),
-    ("forgets-truncated", 60, |rng| truncated(rng, 60)),
-    ("forgets-faults", 40, |rng| faults(rng, 60)),
+    ("mutated", 200, |rng| mutated(rng, Small::Any)),
+    ("damaged", 100, |rng| damaged(rng, Small::Any)),
+    ("truncated", 100, |rng| truncated(rng, Small::Any)),
+    ("faults", 60, |rng| faults(rng, Small::Any)),
+    ("forgets-mutated", 200, |rng| mutated(rng, Small::Forgets)),
+    ("forgets-damaged", 60, |rng| damaged(rng, Small::Forgets)),
+    ("forgets-truncated", 60, |rng| {
+        truncated(rng, Small::Forgets)
+    }),
+    ("forgets-faults", 40, |rng| faults(rng, Small::Forgets)),
+    ("quotes-mutated", 200, |rng| mutated(rng, Small::Quotes)),
+    ("quotes-damaged", 60, |rng| damaged(rng, Small::Quotes)),
+    ("quotes-truncated", 60, |rng| truncated(rng, Small::Quotes)),
+    ("quotes-faults", 40, |rng| faults(rng, Small::Quotes)),
     ("refused-2", 1, refused_2),
     ("refused-3", 10, refused_3),
     ("refused-4", 20, refused_4),
@@ -78,6 +97,13 @@ pub const KINDS: &[Kind] = &[
     ("refused-11", 20, refused_11),
     ("forgets-11", 40, forgets::refused_11),
     ("forgets-4", 10, forgets::refused_4),
+    ("quotes-4", 10, quotes::refused_4),
+    ("quotes-7", 10, quotes::refused_7),
+    ("quotes-9", 20, quotes::refused_9),
+    ("quotes-10", 20, quotes::refused_10),
+    ("quotes-12", 1, quotes::refused_12),
+    ("quotes-13", 1, quotes::refused_13),
+    ("quotes-17", 60, quotes::refused_17),
     ("refused-12", 1, refused_12),
     ("refused-13", 1, refused_13),
     ("short-10", 10, |rng| short_10(rng, 0)),
@@ -145,6 +171,14 @@ impl Builder {
 
     pub fn forget(&mut self, k: usize) {
         self.0.steps.push(Step::Forget(k as u16));
+    }
+
+    pub fn quote(&mut self, h: u32) {
+        self.0.steps.push(Step::Quote(h));
+    }
+
+    pub fn take(&mut self) {
+        self.0.steps.push(Step::Take);
     }
 
     /// An undo step: a `03` in `forgets` of 100, else a `02`. With 0 nothing is drawn.
@@ -1123,15 +1157,35 @@ fn random_bytes(rng: &mut Rng) -> Vec<u8> {
     out
 }
 
-/// Of the steps back so many of 100 are `03`.
-fn small_session(rng: &mut Rng, forgets: usize) -> Vec<u8> {
-    if forgets > 0 && rng.percent(80) {
-        return undo(rng, forgets);
+/// What steps a small session has.
+#[derive(Clone, Copy, PartialEq)]
+enum Small {
+    /// adds, and `02`
+    Any,
+    /// and `03`
+    Forgets,
+    /// and `04` and `05`
+    Quotes,
+}
+
+impl Small {
+    /// Of the steps back so many of 100 are `03`.
+    fn forgets(self) -> usize {
+        if self == Small::Any { 0 } else { 60 }
+    }
+}
+
+fn small_session(rng: &mut Rng, small: Small) -> Vec<u8> {
+    if small == Small::Quotes {
+        return quotes::small(rng);
+    }
+    if small == Small::Forgets && rng.percent(80) {
+        return undo(rng, small.forgets());
     }
     match rng.below(5) {
         0 => tiny(rng),
         1 => sentinel_many(rng),
-        2 => undo(rng, forgets),
+        2 => undo(rng, small.forgets()),
         3 => twins(rng),
         _ => {
             let mut b = Builder::default();
@@ -1145,8 +1199,9 @@ fn small_session(rng: &mut Rng, forgets: usize) -> Vec<u8> {
 }
 
 /// Handles and steps changed for others that are named too.
-fn mutated(rng: &mut Rng, forgets: usize) -> Vec<u8> {
-    let mut s = session::parse(&small_session(rng, forgets)).expect("a good file");
+fn mutated(rng: &mut Rng, small: Small) -> Vec<u8> {
+    let forgets = small.forgets();
+    let mut s = session::parse(&small_session(rng, small)).expect("a good file");
     let any_handle = |rng: &mut Rng, s: &SessionFile, pairs: usize| match rng.below(4) {
         0 if !s.atoms.is_empty() => handle(ATOM, rng.below(s.atoms.len()) as u32),
         1 => *rng.pick(&[
@@ -1175,6 +1230,15 @@ fn mutated(rng: &mut Rng, forgets: usize) -> Vec<u8> {
                 let at = rng.below(s.steps.len());
                 s.steps[at] = Step::Add(any_handle(rng, &s, all));
             }
+            4 if small == Small::Quotes && rng.percent(70) => {
+                let at = rng.below(s.steps.len() + 1);
+                let h = any_handle(rng, &s, all);
+                match rng.below(4) {
+                    0 => s.steps.insert(at, Step::Take),
+                    1 => s.steps.insert(at, Step::Quote(h)),
+                    _ => drop(s.steps.splice(at..at, [Step::Quote(h), Step::Take])),
+                }
+            }
             4 => {
                 let at = rng.below(s.steps.len() + 1);
                 let k = rng.below(4) as u16;
@@ -1196,22 +1260,22 @@ fn mutated(rng: &mut Rng, forgets: usize) -> Vec<u8> {
     s.to_bytes()
 }
 
-fn damaged(rng: &mut Rng, forgets: usize) -> Vec<u8> {
-    let mut file = small_session(rng, forgets);
+fn damaged(rng: &mut Rng, small: Small) -> Vec<u8> {
+    let mut file = small_session(rng, small);
     damage(rng, &mut file);
     file
 }
 
-fn truncated(rng: &mut Rng, forgets: usize) -> Vec<u8> {
-    let mut file = small_session(rng, forgets);
+fn truncated(rng: &mut Rng, small: Small) -> Vec<u8> {
+    let mut file = small_session(rng, small);
     let keep = rng.below(file.len());
     file.truncate(keep);
     file
 }
 
 /// One to three faults in different fields: the first from the left counts.
-fn faults(rng: &mut Rng, forgets: usize) -> Vec<u8> {
-    let mut s = session::parse(&small_session(rng, forgets)).expect("a good file");
+fn faults(rng: &mut Rng, small: Small) -> Vec<u8> {
+    let mut s = session::parse(&small_session(rng, small)).expect("a good file");
     let bad =
         |rng: &mut Rng| *rng.pick(&[handle(PAIR, 900), handle(ATOM, 900), handle(5, 1), NONE]);
     let mut code = None;
@@ -1247,14 +1311,14 @@ fn faults(rng: &mut Rng, forgets: usize) -> Vec<u8> {
 }
 
 fn refused_2(rng: &mut Rng) -> Vec<u8> {
-    let mut file = small_session(rng, 0);
+    let mut file = small_session(rng, Small::Any);
     let longer = *rng.pick(&[1, 1, 2, 200]);
     file.resize(MAX_FILE + longer, rng.byte());
     file
 }
 
 fn refused_3(rng: &mut Rng) -> Vec<u8> {
-    let mut file = small_session(rng, 0);
+    let mut file = small_session(rng, Small::Any);
     match rng.below(3) {
         0 => file.truncate(rng.below(5)),
         1 => file[rng.below(5)] ^= 1 << rng.below(8),
@@ -1265,7 +1329,7 @@ fn refused_3(rng: &mut Rng) -> Vec<u8> {
 
 /// Cut inside the last field: what is left of a step after its code.
 fn refused_4(rng: &mut Rng) -> Vec<u8> {
-    let mut file = small_session(rng, 0);
+    let mut file = small_session(rng, Small::Any);
     if rng.percent(50) {
         file.extend([1, 0x08, 0, 0]);
     } else {
@@ -1334,7 +1398,7 @@ fn refused_7(rng: &mut Rng) -> Vec<u8> {
 }
 
 fn refused_8(rng: &mut Rng) -> Vec<u8> {
-    let mut file = small_session(rng, 0);
+    let mut file = small_session(rng, Small::Any);
     file.push(*rng.pick(&[0, 7, 8, 0x81, 0xff]));
     if rng.percent(50) {
         file.extend(rng.bytes(4));

@@ -92,7 +92,7 @@ extern "C" {
     ) -> ReadAnswer;
 }
 
-/// Runs a session file: numbers 0 to 13. Slices that are too short get 1.
+/// Runs a session file: numbers 0 to 13 and 17. Slices that are too short get 1.
 ///
 /// ```
 /// use nikvoldra::call::{self, Checkpoint};

@@ -37,8 +37,8 @@
 //!
 //! Each question of the scope that can get no is a [`Refusal`]. That finished bytes read back as the tree handed in is proved
 //! for sessions with no [`restore`](Session::restore), in which each tree that no [`forget`](Session::forget) took back has the
-//! open place at one place at most and no pair above it occurs in a later one. The repository's `docs/AUDIT.md` has the whole
-//! claim.
+//! open place at one place at most and no pair above it occurs in a later one. A [`quote`](Session::quote) that is taken counts
+//! as an add, one that is dropped as none. The repository's `docs/AUDIT.md` has the whole claim.
 
 #![deny(missing_docs)]
 #![deny(unsafe_code)]

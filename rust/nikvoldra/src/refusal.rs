@@ -33,7 +33,7 @@ pub enum Refusal {
     UnknownHandle = 7,
     /// 8: A step's code is not known.
     UnknownStep = 8,
-    /// 9: An add comes after the session is finished.
+    /// 9: An add or a quote comes after the session is finished.
     AlreadyFinished = 9,
     /// 10: There are sixteen adds already.
     TooManyAdds = 10,
@@ -49,13 +49,15 @@ pub enum Refusal {
     LongPrefix = 15,
     /// 16: A reference's path leads into an atom.
     PathIntoAtom = 16,
+    /// 17: A quote is taken, and none is open.
+    NoQuote = 17,
 }
 
 use Refusal::*;
 
 impl Refusal {
     /// All, by number.
-    pub const ALL: [Refusal; 16] = [
+    pub const ALL: [Refusal; 17] = [
         ShortSlice,
         LongInput,
         NoMark,
@@ -72,15 +74,16 @@ impl Refusal {
         BrokenBytes,
         LongPrefix,
         PathIntoAtom,
+        NoQuote,
     ];
 
-    /// The refusal with a number, 1 to 16.
+    /// The refusal with a number, 1 to 17.
     pub fn from_number(number: u32) -> Option<Refusal> {
         let place = usize::try_from(number).ok()?.checked_sub(1)?;
         Refusal::ALL.get(place).copied()
     }
 
-    /// The question's number, 1 to 16.
+    /// The question's number, 1 to 17.
     pub fn number(self) -> u32 {
         self as u32
     }
@@ -113,6 +116,7 @@ impl Refusal {
             }
             LongPrefix => "Is each prefix shortest?",
             PathIntoAtom => "Does every path stay out of atoms?",
+            NoQuote => "At a 05, is a quote open?",
         }
     }
 
@@ -121,7 +125,7 @@ impl Refusal {
         if number == 0 {
             return None;
         }
-        Some(Refusal::from_number(number).expect("the calls answer 0 to 16"))
+        Some(Refusal::from_number(number).expect("the calls answer 0 to 17"))
     }
 }
 
@@ -145,7 +149,7 @@ mod tests {
             assert!(refusal.to_string().ends_with('?'));
         }
         assert_eq!(Refusal::from_number(0), None);
-        assert_eq!(Refusal::from_number(17), None);
+        assert_eq!(Refusal::from_number(18), None);
         assert_eq!(Refusal::of_answer(0), None);
     }
 }

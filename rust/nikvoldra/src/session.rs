@@ -46,11 +46,13 @@ enum Operation {
     Add(NodePtr),
     Restore(u16),
     Forget(u16),
+    Quote(NodePtr),
+    Take,
 }
 
 /// A session: its atoms and pairs, the handle that marks the open place, and the steps.
 ///
-/// The methods keep to the limits of the session file, so a run of it can be refused by the questions 9 to 13 only.
+/// The methods keep to the limits of the session file, so a run of it can be refused by the questions 9 to 13 and 17 only.
 ///
 /// ```
 /// use nikvoldra::Session;
@@ -221,6 +223,67 @@ impl Session {
         self.step(Operation::Forget(number))
     }
 
+    /// A step that says what [`add`](Session::add) of the tree would leave, and adds nothing: its size and whether it finishes
+    /// the session are those of the add, and session and bytes stay as they were.
+    ///
+    /// Where the add would be refused the quote is, and leaves no item of it. [`take`](Session::take) right after it makes the
+    /// add; any other step drops the quote.
+    ///
+    /// Three bundles are quoted, and the one that makes the block grow least is taken.
+    ///
+    /// ```
+    /// use nikvoldra::{NodePtr, Session, Writer};
+    ///
+    /// let (mut session, mut writer) = (Session::new(), Writer::new());
+    /// let open = session.sentinel()?;
+    /// let shared = session.atom(b"a puzzle that is known")?;
+    /// let first = session.pair(shared, open)?;
+    /// session.add(first)?;
+    ///
+    /// let mut bundles = vec![];
+    /// for puzzle in [&b"another puzzle"[..], b"a puzzle that is known", b"one more"] {
+    ///     let atom = session.atom(puzzle)?;
+    ///     let bundle = session.pair(atom, open)?;
+    ///     session.quote(bundle)?;
+    ///     bundles.push(bundle);
+    /// }
+    /// let run = writer.run(&session)?;
+    /// let sizes: Vec<usize> = run.steps().iter().map(|step| step.size).collect();
+    /// assert_eq!(sizes, [24, 40, 27, 34]);
+    /// assert_eq!(run.bytes().len(), 24);
+    ///
+    /// let (cheapest, _) = bundles.iter().zip(&sizes[1..]).min_by_key(|(_, size)| **size).unwrap();
+    /// session.quote(*cheapest)?;
+    /// session.take()?;
+    /// session.add(NodePtr::NIL)?;
+    /// let run = writer.run(&session)?;
+    /// assert_eq!(run.bytes(), b"\xff\x96a puzzle that is known\xff\xfe\x02\x80");
+    /// # Ok::<(), Box<dyn std::error::Error>>(())
+    /// ```
+    pub fn quote(&mut self, tree: NodePtr) -> Result<(), BuildError> {
+        self.known(tree)?;
+        self.step(Operation::Quote(tree))
+    }
+
+    /// A step that makes the add quoted right before it, which closes the quote. It counts as an add: [`restore`](Session::restore)
+    /// and [`forget`](Session::forget) go back before it, and read-back is promised as for an add.
+    ///
+    /// ```
+    /// use nikvoldra::{NodePtr, Refusal, Session};
+    ///
+    /// let mut session = Session::new();
+    /// session.quote(NodePtr::NIL)?;
+    /// session.take()?;
+    /// assert_eq!(session.run()?.bytes(), [0x80]);
+    ///
+    /// session.take()?; // no quote is open
+    /// assert_eq!(session.run().unwrap_err().refusal(), Refusal::NoQuote);
+    /// # Ok::<(), Box<dyn std::error::Error>>(())
+    /// ```
+    pub fn take(&mut self) -> Result<(), BuildError> {
+        self.step(Operation::Take)
+    }
+
     fn step(&mut self, step: Operation) -> Result<(), BuildError> {
         if self.steps.len() == Session::MOST_STEPS {
             return Err(BuildError::TooManySteps);
@@ -281,6 +344,11 @@ impl Session {
                     file.push(3);
                     file.extend(number.to_be_bytes());
                 }
+                Operation::Quote(tree) => {
+                    file.push(4);
+                    handle(&mut file, *tree);
+                }
+                Operation::Take => file.push(5),
             }
         }
         file

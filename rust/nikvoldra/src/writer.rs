@@ -6,7 +6,7 @@ use crate::session::Session;
 use std::error::Error;
 use std::fmt;
 
-/// What a finished step leaves.
+/// What a finished step leaves, or a quote would leave.
 #[derive(Clone, Copy, Debug, PartialEq, Eq)]
 pub struct Step {
     /// The bytes written so far.
@@ -20,10 +20,11 @@ pub struct Step {
 pub struct Run {
     steps: Vec<Step>,
     bytes: Vec<u8>,
+    finished: bool,
 }
 
 impl Run {
-    /// What each finished step left.
+    /// What each finished step left. A quote's says what its add would leave.
     pub fn steps(&self) -> &[Step] {
         &self.steps
     }
@@ -38,9 +39,9 @@ impl Run {
         self.bytes
     }
 
-    /// Whether the last finished step left no place open.
+    /// Whether no place is open at the end. A quote leaves its place open, whatever its word says.
     pub fn is_finished(&self) -> bool {
-        self.steps.last().is_some_and(|step| step.finished)
+        self.finished
     }
 }
 
@@ -148,7 +149,7 @@ impl Writer {
         self.run_file(&session.to_file())
     }
 
-    /// Runs a session file that was made elsewhere. It can be refused by the questions 2 to 13.
+    /// Runs a session file that was made elsewhere. It can be refused by the questions 2 to 13 and 17.
     pub fn run_file(&mut self, file: &[u8]) -> Result<Run, SessionError> {
         let answer = call::session(
             file,
@@ -161,14 +162,23 @@ impl Writer {
             size: (word / 2) as usize,
             finished: word % 2 == 1,
         };
+        let steps: Vec<Step> = self.words[..answer.steps as usize]
+            .iter()
+            .map(step)
+            .collect();
+        let bytes = self.output[..answer.size as usize].to_vec();
+        let refusal = Refusal::of_answer(answer.number);
+        // The word of a quote that would finish counts more bytes than are written. A step that 12 or 13 refuses had an open place.
+        let finished = steps
+            .last()
+            .is_some_and(|step| step.finished && step.size == bytes.len())
+            && !matches!(refusal, Some(Refusal::TooDeep | Refusal::OutputFull));
         let run = Run {
-            steps: self.words[..answer.steps as usize]
-                .iter()
-                .map(step)
-                .collect(),
-            bytes: self.output[..answer.size as usize].to_vec(),
+            steps,
+            bytes,
+            finished,
         };
-        match Refusal::of_answer(answer.number) {
+        match refusal {
             None => Ok(run),
             Some(refusal) => Err(SessionError { refusal, run }),
         }

@@ -44,7 +44,10 @@ fn steps_in_the_file() {
     session.add(NodePtr::NIL).unwrap();
     session.restore(2).unwrap();
     session.forget(0x102).unwrap();
-    let file = "42 52 53 00 01 00 00 00 00 ff ff ff ff 01 08 00 00 00 02 00 02 03 01 02";
+    session.quote(NodePtr::small(9).unwrap()).unwrap();
+    session.take().unwrap();
+    let file = "42 52 53 00 01 00 00 00 00 ff ff ff ff 01 08 00 00 00 02 00 02 03 01 02
+        04 08 00 00 09 05";
     assert_eq!(session.to_file(), hex(file));
 }
 
@@ -101,6 +104,62 @@ fn forget_keeps_nothing() {
     // ((C . nil) . B)
     let full = b"\xff\xff\xff\x86foobar\x80\x80\x86foobar";
     assert!(same(run.bytes(), full));
+}
+
+/// The trees of `taken_back`: adds A, quotes B, and adds C, by `take` or by an add of its own.
+#[test]
+fn a_quote_keeps_nothing() {
+    for by_taking in [false, true] {
+        let mut session = Session::new();
+        let open = session.sentinel().unwrap();
+        let b = session.atom(b"foobar").unwrap();
+        let left = session.pair(open, NodePtr::NIL).unwrap();
+        let a = session.pair(left, b).unwrap();
+        let c = session.pair(b, NodePtr::NIL).unwrap();
+        session.add(a).unwrap();
+        session.quote(b).unwrap();
+        let quoted = session.run().unwrap();
+        assert_eq!(words(&quoted), [4, 25]);
+        assert_eq!(quoted.bytes(), hex("ff ff"));
+        assert!(!quoted.is_finished());
+        let mut expected = vec![4, 25, 29];
+        if by_taking {
+            session.quote(c).unwrap();
+            session.take().unwrap();
+            expected.push(29);
+        } else {
+            session.add(c).unwrap();
+        }
+        let run = session.run().unwrap();
+        assert_eq!(words(&run), expected);
+        assert_eq!(
+            run.bytes(),
+            hex("ff ff ff 86 66 6f 6f 62 61 72 80 80 fe 08")
+        );
+        assert!(run.is_finished());
+    }
+}
+
+/// Steps back count a taking as an add and a quote as none.
+#[test]
+fn steps_back_over_quotes() {
+    for step in [Session::restore, Session::forget] {
+        let mut session = Session::new();
+        let open = session.sentinel().unwrap();
+        let foobar = session.atom(b"foobar").unwrap();
+        let tree = session.pair(foobar, open).unwrap();
+        session.quote(foobar).unwrap();
+        session.quote(tree).unwrap();
+        session.take().unwrap();
+        session.quote(foobar).unwrap();
+        session.take().unwrap();
+        step(&mut session, 1).unwrap();
+        session.quote(foobar).unwrap();
+        let run = session.run().unwrap();
+        assert_eq!(words(&run), [15, 16, 16, 21, 21, 16, 21]);
+        assert_eq!(run.bytes(), b"\xff\x86foobar");
+        assert!(!run.is_finished());
+    }
 }
 
 #[test]

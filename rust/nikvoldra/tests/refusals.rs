@@ -18,7 +18,7 @@ fn file_of(rest: &[u8]) -> Vec<u8> {
 #[test]
 fn of_a_file() {
     let none = [0xff; 4];
-    let cases: [(Refusal, Vec<u8>); 14] = [
+    let cases: [(Refusal, Vec<u8>); 17] = [
         (Refusal::LongInput, vec![0; call::INPUT_MOST + 1]),
         (Refusal::NoMark, b"BRS\x00\x02".to_vec()),
         (Refusal::NoMark, b"BRS\x00".to_vec()),
@@ -26,16 +26,19 @@ fn of_a_file() {
         (Refusal::CutField, file_with(&[1, 0])),
         (Refusal::CutField, file_with(&[3])),
         (Refusal::CutField, file_with(&[3, 0])),
+        (Refusal::CutField, file_with(&[4, 8, 0, 0])),
         (Refusal::TooMany, file_of(&[4, 1])),
         (Refusal::TooMany, file_of(&[0, 0, 4, 1])),
         (Refusal::TooMany, file_with(&[2, 0, 0].repeat(1_025))),
         (Refusal::ListedSmallAtom, file_of(&[0, 1, 0, 1, 5])),
         (Refusal::UnknownHandle, file_with(&[1, 0, 0, 0, 0])),
+        (Refusal::UnknownHandle, file_with(&[4, 0, 0, 0, 0])),
         (
             Refusal::UnknownHandle,
             file_of(&[&[0, 0, 0, 1][..], &none].concat()),
         ),
         (Refusal::UnknownStep, file_with(&[7])),
+        (Refusal::UnknownStep, file_with(&[5, 8])),
     ];
     let mut writer = Writer::new();
     for (refusal, file) in cases {
@@ -84,6 +87,65 @@ fn of_a_step() {
     assert_eq!(error.into_run().into_bytes(), [0x80]);
 }
 
+/// Sixteen adds, by taking, and a quote; a quote after a finish.
+#[test]
+fn of_a_quote() {
+    let mut session = Session::new();
+    let open = session.sentinel().unwrap();
+    for _ in 0..16 {
+        session.quote(open).unwrap();
+        session.take().unwrap();
+    }
+    session.quote(open).unwrap();
+    session.take().unwrap();
+    let error = session.run().unwrap_err();
+    assert_eq!(error.refusal(), Refusal::TooManyAdds);
+    assert_eq!(error.run().steps().len(), 32);
+    assert!(error.to_string().starts_with("at step 33, question 10"));
+
+    let mut session = Session::new();
+    session.quote(NodePtr::NIL).unwrap();
+    session.take().unwrap();
+    session.quote(NodePtr::NIL).unwrap();
+    let error = session.run().unwrap_err();
+    assert_eq!(error.refusal(), Refusal::AlreadyFinished);
+    assert!(error.run().is_finished());
+    assert_eq!(error.into_run().into_bytes(), [0x80]);
+}
+
+/// At first, twice, and after each step that drops the quote.
+#[test]
+fn of_a_taking() {
+    let between: [fn(&mut Session); 5] = [
+        |s| s.take().unwrap(),
+        |s| s.add(NodePtr::NIL).unwrap(),
+        |s| s.restore(0).unwrap(),
+        |s| s.forget(0).unwrap(),
+        |s| {
+            s.quote(NodePtr::NIL).unwrap();
+            s.take().unwrap();
+        },
+    ];
+    let mut session = Session::new();
+    session.take().unwrap();
+    let error = session.run().unwrap_err();
+    assert_eq!(error.refusal(), Refusal::NoQuote);
+    assert!(error.run().steps().is_empty() && error.run().bytes().is_empty());
+    assert!(error.to_string().starts_with("at step 1, question 17"));
+    for step in between {
+        let mut session = Session::new();
+        let open = session.sentinel().unwrap();
+        session.add(open).unwrap();
+        session.quote(NodePtr::NIL).unwrap();
+        step(&mut session);
+        let before = session.run().unwrap();
+        session.take().unwrap();
+        let error = session.run().unwrap_err();
+        assert_eq!(error.refusal(), Refusal::NoQuote);
+        assert_eq!(error.into_run(), before);
+    }
+}
+
 /// A spine of 1,000 pairs with the open place at its end, added five times.
 #[test]
 fn of_open_pairs() {
@@ -99,6 +161,21 @@ fn of_open_pairs() {
     assert_eq!(error.refusal(), Refusal::TooDeep);
     assert_eq!(error.run().steps().len(), 4);
     assert_eq!(error.run().bytes(), [0xff; 4_096]);
+
+    // a quote leaves none of its items
+    let mut quoted = Session::new();
+    let mut spine = quoted.sentinel().unwrap();
+    for _ in 0..1_000 {
+        spine = quoted.pair(spine, NodePtr::NIL).unwrap();
+    }
+    for _ in 0..5 {
+        quoted.quote(spine).unwrap();
+        quoted.take().unwrap();
+    }
+    let error = quoted.run().unwrap_err();
+    assert_eq!(error.refusal(), Refusal::TooDeep);
+    assert_eq!(error.run().steps().len(), 8);
+    assert_eq!(error.run().bytes(), [0xff; 4_000]);
 }
 
 #[test]
@@ -119,6 +196,44 @@ fn of_the_output() {
             Err(error) => assert_eq!(error.refusal(), Refusal::OutputFull),
         }
     }
+}
+
+/// A quote and an add that don't fit; the add leaves its whole items.
+#[test]
+fn of_the_output_at_a_quote() {
+    let mut session = Session::new();
+    let open = session.sentinel().unwrap();
+    let foobar = session.atom(b"foobar").unwrap();
+    let tree = session.pair(foobar, open).unwrap();
+    let pair = session.pair(foobar, foobar).unwrap();
+    session.add(tree).unwrap();
+    session.quote(foobar).unwrap();
+    session.quote(pair).unwrap();
+    for (length, steps) in [(9, 1), (10, 2), (12, 2), (13, 3)] {
+        let run = Writer::with_output_length(length).run(&session);
+        let refused = run.as_ref().err().map(|error| error.refusal());
+        assert_eq!(refused.is_some(), steps < 3, "{length}");
+        assert!(refused.is_none_or(|refusal| refusal == Refusal::OutputFull));
+        let run = run.unwrap_or_else(|error| error.into_run());
+        assert_eq!(run.steps().len(), steps, "{length}");
+        assert_eq!(run.bytes(), b"\xff\x86foobar", "{length}");
+        assert!(!run.is_finished());
+    }
+
+    // the quote would finish with 10 bytes, and the add that is refused leaves as many
+    let mut session = Session::new();
+    let open = session.sentinel().unwrap();
+    let foobar = session.atom(b"foobar").unwrap();
+    let tree = session.pair(foobar, open).unwrap();
+    let one = NodePtr::small(1).unwrap();
+    let list = session.list(&[one, foobar], open).unwrap();
+    session.add(tree).unwrap();
+    session.quote(foobar).unwrap();
+    session.add(list).unwrap();
+    let error = Writer::with_output_length(10).run(&session).unwrap_err();
+    assert_eq!(error.refusal(), Refusal::OutputFull);
+    assert_eq!(error.run().bytes(), b"\xff\x86foobar\xff\x01");
+    assert!(!error.run().is_finished());
 }
 
 #[test]
@@ -151,6 +266,8 @@ fn of_the_builder() {
     assert_eq!(session.add(node), Err(BuildError::TooManySteps));
     assert_eq!(session.restore(0), Err(BuildError::TooManySteps));
     assert_eq!(session.forget(0), Err(BuildError::TooManySteps));
+    assert_eq!(session.quote(node), Err(BuildError::TooManySteps));
+    assert_eq!(session.take(), Err(BuildError::TooManySteps));
     assert_eq!(session.atom(&[5]).unwrap().index(), 5);
     assert_eq!(session.atom(&bytes(7)).unwrap().index(), 7);
     assert_eq!(session.to_file().len(), 47_117);
@@ -158,6 +275,7 @@ fn of_the_builder() {
 
     let mut other = Session::new();
     assert_eq!(other.add(node), Err(BuildError::UnknownNode(node)));
+    assert_eq!(other.quote(node), Err(BuildError::UnknownNode(node)));
     assert_eq!(
         other.pair(NodePtr::NIL, node),
         Err(BuildError::UnknownNode(node))

@@ -1,5 +1,6 @@
-//! Sessions that keep to the premises of read-back, made by chance, with adds that are forgotten: what is read is the tree that
-//! was handed in, also when the same writer and reader are used for all of them, refused ones between.
+//! Sessions that keep to the premises of read-back, made by chance, with adds that are forgotten, quotes that are taken and quotes
+//! that are dropped: what is read is the tree that was handed in, also when the same writer and reader are used for all of them,
+//! refused ones between.
 
 use nikvoldra::{Node, NodePtr, Reader, Refusal, Session, Tree, Writer};
 use std::rc::Rc;
@@ -113,18 +114,40 @@ impl Made {
         tree
     }
 
+    /// By an add, or by a quote and its taking.
     fn add(&mut self, node: NodePtr) {
-        self.session.add(node).unwrap();
+        if self.chance.below(2) == 0 {
+            self.session.add(node).unwrap();
+            self.steps += 5;
+        } else {
+            self.session.quote(node).unwrap();
+            self.session.take().unwrap();
+            self.steps += 6;
+        }
         self.adds.push(node);
-        self.steps += 5;
+    }
+
+    /// Quotes that are dropped, also such that leave no open place.
+    fn quoted(&mut self) {
+        for _ in 0..self.chance.below(3) {
+            let tree = if self.chance.below(2) == 0 {
+                self.around_open()
+            } else {
+                self.shared()
+            };
+            self.session.quote(tree.0).unwrap();
+            self.steps += 5;
+        }
     }
 
     /// Adds that are taken back, also such that leave no open place.
     fn tried(&mut self) {
         let remain = self.adds.len();
+        self.quoted();
         for _ in 0..self.chance.below(3) {
             let tree = self.around_open();
             self.add(tree.0);
+            self.quoted();
             if self.chance.below(2) == 0 {
                 let tree = self.shared();
                 self.add(tree.0);
