@@ -10,7 +10,6 @@ use lib.Dec.{ltb}
 use lib.ListN.{length, set, take}
 use lib.Seq.{take-suc-set}
 use borrow.Author.Tests.{lt-ltb, le-ltb}
-use Rattle.words.specs.Choice.{clash}
 use Rattle.path.specs.Measure.{counted}
 use Rattle.spec_session.specs.File.{File, Step, take-quote}
 use Rattle.spec_session.specs.Unfold.{unfolded}

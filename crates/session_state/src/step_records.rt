@@ -2,15 +2,14 @@
 use crate::checkpoints::Checkpoint;
 use crate::progress::Progress;
 ghost use mathlib.Core.Path.{_≡_};
-ghost use mathlib.Core.Bool.{cond};
 ghost use Prim.Native.Nat.{_+_, _-_, _*_, _^_, _≤_, _<_, min};
-ghost use lib.Dec.{ltb};
 ghost use lib.ListN.{length, set};
 ghost use Rattle.words.specs.Words.{WORK};
 ghost use Rattle.session_state.specs.Moves.{noted-at};
 ghost use Rattle.path.specs.Bytes.{bit};
 ghost use Rattle.session_state.specs.Stored.{record-of, with-entry};
 ghost use Rattle.session_state.specs.Questions.{question-of};
+ghost use Rattle.session_state.specs.State.{low-slot};
 
 // The most adds on the present history.
 const ADDS: usize = 16;
@@ -20,7 +19,7 @@ const OUTPUT: usize = 65535;
 
 // A number of a checkpoint record, or 0.
 pub fn within(n: usize) -> usize
-    ensures { λ r. ⌜ (r < 16) × (r ≡ cond (ltb n 16) n 0) ⌝ }
+    ensures { λ r. ⌜ (r < 16) × (r ≡ low-slot n) ⌝ }
 {
     if n < ADDS {
         return n;
@@ -30,7 +29,7 @@ pub fn within(n: usize) -> usize
 
 // The checkpoint record of the last add.
 pub fn last(adds: usize) -> usize
-    ensures { λ r. ⌜ (r < 16) × (r ≡ cond (ltb (adds - 1) 16) (adds - 1) 0) ⌝ }
+    ensures { λ r. ⌜ (r < 16) × (r ≡ low-slot (adds - 1)) ⌝ }
 {
     if adds == 0 {
         return 0;

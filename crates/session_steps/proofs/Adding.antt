@@ -22,7 +22,7 @@ use Rattle.spec_session.specs.Unfold.{unfolded}
 use Rattle.spec_session.specs.Cache.{Cache, update}
 use Rattle.spec_session.specs.Writer.{Todo, Written, Session, settle}
 use Rattle.spec_session.specs.Writer as writer
-use Rattle.spec_session.specs.Extends.{Extends, update-extends}
+use Rattle.spec_session.specs.Extends.{update-extends}
 use Rattle.spec_session.specs.Steps.{room-in, add-handle, Run, after-step, run-steps}
 use Rattle.file_parts.specs.Loaded.{forgets}
 use Rattle.spec_session.specs.FindPath.{find-in}
@@ -44,7 +44,7 @@ use Rattle.session_state.specs.declared.progress.Progress.{Progress}
 use Rattle.path.specs.Bytes.{bit}
 use Rattle.session_state.specs.Stored.{record-of}
 use Rattle.session_state.specs.Moves.{noted-at, moved-to, with-quote, after-outcome, refusal-of}
-use Rattle.session_state.specs.State.{standing, whole-run, after-words, waits, Roomy, At, Before, History, Stocked, Underway, Ended, slot-for, add-of}
+use Rattle.session_state.specs.State.{standing, whole-run, after-words, waits, At, Before, History, Stocked, Underway, Ended, slot-for, add-of}
 use Rattle.session_steps.specs.Contracts.{StateSaved, Adding, Added}
 use Rattle.write_place.proofs.Frames.{places-kept, atoms-kept, whole-kept, holds-kept, unmapped-kept, all-counts-kept}
 use Rattle.session_state.proofs.Runs.{after-tried, tried, tried-went, add-settles, run-add, shows-tried, words-ended}

@@ -549,14 +549,14 @@ module _ (measure : List Bool → ℕ) (space : ℕ) (f : File) where
   -- ---- a finished session
 
   -- Nothing is left to write, and no quote is open.
-  abbrev Finished : State → Type 0
-  Finished st = (st .now .waiting ≡ none) × (st .quoted ≡ none)
+  abbrev NothingOpen : State → Type 0
+  NothingOpen st = (st .now .waiting ≡ none) × (st .quoted ≡ none)
 
   add-finished : (h : ℕ) (st : State) → st .now .waiting ≡ none → add-step measure space f h st ≡ halted 9 (st .now)
   add-finished h st w = λ i. unless-full (w i) (ltb 15 (length (st .past))) (st .now) (after-add (add-handle measure space f h (st .now)) st)
 
   -- It takes no step but an undo.
-  finished-refuses : (x : Step) (st : State) → NoUndo x → Finished st → step x st ≡ halted (number-after-finish (some x)) (st .now)
+  finished-refuses : (x : Step) (st : State) → NoUndo x → NothingOpen st → step x st ≡ halted (number-after-finish (some x)) (st .now)
   finished-refuses (add h) st u w = add-finished h st (w .0)
   finished-refuses (restore i) st u w = absurd u
   finished-refuses (forget i) st u w = absurd u
@@ -567,7 +567,7 @@ module _ (measure : List Bool → ℕ) (space : ℕ) (f : File) where
   halts-so p q = (cc, cc)
 
   -- What it refuses leaves it, and has the number of such a step.
-  finished-halts : (x : Step) (st : State) (n : ℕ) (s : Session) → Finished st → step x st ≡ halted n s → (s ≡ st .now) × (n ≡ number-after-finish (some x))
+  finished-halts : (x : Step) (st : State) (n : ℕ) (s : Session) → NothingOpen st → step x st ≡ halted n s → (s ≡ st .now) × (n ≡ number-after-finish (some x))
   finished-halts (add h) st n s w e = halts-so (finished-refuses (add h) st tt w) e
   finished-halts (restore i) st n s w e = go (nth (st .past) i) e
     where
@@ -590,7 +590,7 @@ module _ (measure : List Bool → ℕ) (space : ℕ) (f : File) where
 
   -- A step that is no quote, whose word says finished.
   finishes : (xs : List Step) (st : State) (k : ℕ) (r : Run) → IfAny NoQuote (nth xs k) → at (r .words) k % 2 ≡ 1 → (t : Taken xs st k r)
-      → Finished (t .after) × (at (r .words) k ≡ word-of (t .after .now))
+      → NothingOpen (t .after) × (at (r .words) k ≡ word-of (t .after .now))
   finishes xs st k r q odd t =
       let plain : Plain (went (t .word) (t .after)) = subst Plain (t .goes) (plain-step (t .kind) (subst (IfAny NoQuote) (t .is) q) (t .before)) in
       let word : at (r .words) k ≡ word-of (t .after .now) = t .word-is ∙ plain .0 in
@@ -610,7 +610,7 @@ module _ (measure : List Bool → ℕ) (space : ℕ) (f : File) where
       → Finish xs k (run xs at-start)
   run-finish xs k l q odd = go (run xs at-start) l odd (run-ends xs at-start) (run-taken xs at-start k (omega arith))
     where
-      ends-so : (o : Option Step) (st : State) (n : ℕ) (s : Session) → Finished st → EndsAt o st n s → (s ≡ st .now) × (n ≡ number-after-finish o)
+      ends-so : (o : Option Step) (st : State) (n : ℕ) (s : Session) → NothingOpen st → EndsAt o st n s → (s ≡ st .now) × (n ≡ number-after-finish o)
       ends-so none st n s w e = (e .1, e .0)
       ends-so (some x) st n s w e = finished-halts x st n s w e
 

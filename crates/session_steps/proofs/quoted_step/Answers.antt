@@ -3,9 +3,9 @@
 use Prim.Native.Nat.{ℕ, suc, _+_, _-_, _*_, _≤_, _<_}
 use mathlib.Core.Path.{_≡_, refl, sym, ap, subst, _∙_}
 use mathlib.Core.Bool.{Bool, true, false, not}
-use mathlib.Core.List.{List, [], _∷_, _++_}
+use mathlib.Core.List.{List, [], _∷_}
 use mathlib.Core.Logic.{_≢_}
-use mathlib.Core.Option.{Option, none, some, Option·some-injective}
+use mathlib.Core.Option.{none, Option·some-injective}
 use native.Mathlib.Omega.{arith}
 use lib.Dec.{ltb}
 use lib.ListN.{length, getD, set, take, length-append}
@@ -19,11 +19,10 @@ use Rattle.path.specs.Measure.{counted}
 use Rattle.path.specs.Bytes.{bit}
 use Rattle.spec_session.specs.File.{File, Step, take-quote}
 use Rattle.spec_session.specs.Places.{StepsAt, StepNamed}
-use Rattle.spec_session.specs.Writer.{Session}
 use Rattle.spec_session.specs.Trees.{nth, nth-end}
 use Rattle.spec_session.specs.Premises.{IfAny}
 use Rattle.spec_session.specs.StepLaws.{run-unseen}
-use Rattle.spec_session.specs.Steps.{word-of, State, Run, with-word, run-steps}
+use Rattle.spec_session.specs.Steps.{word-of, Run, with-word, run-steps}
 use Rattle.file_parts.specs.Loaded.{forgets}
 use Rattle.file_parts.specs.declared.session_file.NextStep.the-variants as next-step
 use Rattle.session_state.specs.declared.progress.Progress.{Progress}

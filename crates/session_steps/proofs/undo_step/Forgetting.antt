@@ -3,17 +3,17 @@
 -- Assumes nothing.
 use Prim.Native.Nat.{ℕ, zero, suc, _+_, _*_, _^_, _≤_, _<_}
 use mathlib.Core.Path.{_≡_, refl, sym, ap, _∙_}
-use mathlib.Core.List.{List, [], _∷_, _++_, map}
+use mathlib.Core.List.{List, _∷_, _++_, map}
 use lib.Seq.{getD-set-same, getD-set-other}
 use native.Mathlib.Omega.{arith}
-use lib.ListN.{length, set, length-append, length-map, length-set}
+use lib.ListN.{length, length-append, length-map}
 use Rattle.words.specs.Choice.{by-lt}
 use Rattle.words.specs.Words.{at, tabulate, WORK}
 use Rattle.words.proofs.Words.{tabulate-same}
 use Rattle.spec_session.specs.File.{File}
 use Rattle.spec_session.specs.Cache.{Entry, Cache}
 use Rattle.spec_session.specs.Extends.{bare, Extends}
-use Rattle.work_layout.specs.Layout.{PAIR-COUNT, OPEN, MOVED, MAPS, SENTINEL-ENTRY, USED, COUNTS, LEFT, RIGHT, LOW, HIGH, NEXT, HEADS, PARENTS, SEEN, ENTRIES, SLOTS}
+use Rattle.work_layout.specs.Layout.{PAIR-COUNT, OPEN, MOVED, MAPS, SENTINEL-ENTRY, USED, COUNTS, LEFT, RIGHT, LOW, HIGH, NEXT, HEADS, ENTRIES, SLOTS}
 use Rattle.work_layout.specs.Rows.{Row, link-at, parent-of, parents-of, length-of, row-of, rows-of, slot-at, slot-of, prev, Sound, all-counts}
 use Rattle.work_layout.specs.Parents.{link-same}
 use Rattle.work_layout.specs.Prev.{prev-same}

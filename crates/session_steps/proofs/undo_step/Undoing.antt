@@ -30,7 +30,6 @@ use Rattle.cache_stack.specs.Contracts.{Stacked}
 use Rattle.cache_stack.proofs.Stacks.{stack-same, stacked-same}
 use Rattle.cache_stack.proofs.marks.Bits.{marked-same}
 use Rattle.cache_undo.specs.undo_state.Contracts.{copied-stack}
-use Rattle.cache_undo.specs.Contracts.{Restored}
 use Rattle.cache_undo.specs.cache_copy.Contracts.{Bringable}
 use Rattle.cache_entries.specs.Contracts.{Outside}
 use Rattle.cache_entries.specs.Meaning.{Whole, Holds, entry-or-none}

@@ -1,9 +1,6 @@
 -- `session_steps::quoted_step::drop_quote` takes back the quote's add, as a forget does.
 -- Assumes nothing.
-use mathlib.Core.Path.{ap}
 use borrow.Author.Needs.{needs}
-use Rattle.session_state.specs.declared.progress.Progress.{Progress}
-use Rattle.session_state.specs.declared.progress.StepAnswer.{StepAnswer}
 use Rattle.session_steps.proofs.quoted_step.drop_quote.Statement.{statement}
 use Rattle.session_steps.proofs.quoted_step.drop_quote.Tie as tie
 

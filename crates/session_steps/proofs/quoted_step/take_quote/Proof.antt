@@ -6,7 +6,6 @@ use lib.ListN.{set}
 use borrow.Author.Needs.{needs}
 use Rattle.path.specs.Bytes.{bit}
 use Rattle.session_state.specs.declared.progress.Progress.{Progress}
-use Rattle.session_state.specs.declared.progress.StepAnswer.{StepAnswer}
 use Rattle.session_state.specs.Moves.{noted-at}
 use Rattle.session_steps.proofs.quoted_step.take_quote.Statement.{statement}
 use Rattle.session_steps.proofs.quoted_step.take_quote.Tie as tie
