@@ -41,7 +41,7 @@ usable l s = min (length (s .output)) (l .output-bytes)
 -- `blank` is the checkpoint record whose words are zero.
 module _ {C : Type 0} (blank : C) where
   -- "9 to 13 keep finished steps' words and whole items written; the rest of output and words is zero, as past the size after any run." "From question 9 on
-  -- work ends all zero, as do the checkpoint records of a session."
+  -- work ends all zero, as do the checkpoint records of a session." 02, of 17: "This and later numbers given at a session's step leave the slices as 9 does."
   abbrev pub after-run : Run → Slices C → Result C
   after-run r s =
       record {
