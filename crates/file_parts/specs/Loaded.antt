@@ -68,7 +68,7 @@ Beyond input at (next-step.Quote node next) = (at < next) × (next ≤ length in
 Beyond input at (next-step.Take next) = (at < next) × (next ≤ length input)
 Beyond input at next-step.End = Unit {0}
 
--- Whether one of the steps is a `03` or a `04`, which is taken back as a `03` does.
+-- Whether one of the steps is a `03`, or a `04`, whose add is taken back as by a `03`.
 abbrev pub forgets : List Step → Bool
 forgets [] = false
 forgets (add h ∷ ss) = forgets ss

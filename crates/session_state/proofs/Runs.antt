@@ -106,10 +106,10 @@ module _ (space : ℕ) (f : File) (past : List Session) (s : Session) where
 
 module _ (space : ℕ) (f : File) (st : State) where
   -- A taking that goes on.
-  pub run-taken : (w : ℕ) (t : State) (ss : List Step) → run-step counted space f take-quote st ≡ went w t
+  pub run-taking : (w : ℕ) (t : State) (ss : List Step) → run-step counted space f take-quote st ≡ went w t
       → run-steps counted space f (take-quote ∷ ss) st ≡ with-word w (run-steps counted space f ss t)
   unfolding run-steps
-  run-taken w t ss e = ap (λ (x : Stepped). after-step x (λ y. run-steps counted space f ss y)) e
+  run-taking w t ss e = ap (λ (x : Stepped). after-step x (λ y. run-steps counted space f ss y)) e
 
 -- ---- the words
 

@@ -70,7 +70,7 @@ pub record At (f : File) (w out : List ℕ) (opens depth size : ℕ) (finished :
 -- ---- the state before an add
 
 -- Record r and copy k hold the session u before add k. A record has the open pairs, the depth of the stack, the size, and one more than the sentinel's entry. A
--- copy has the cache too where the file has a `03`.
+-- copy has the cache too where the file has a `03` or a `04`.
 pub record Before (f : File) (w out : List ℕ) (forgetting : Bool) (steps k : ℕ) (r : Checkpoint) (u : Session) : Type 0 where
   -- The words at that time.
   pub words-then : List ℕ

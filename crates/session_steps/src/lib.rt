@@ -22,7 +22,7 @@ ghost use Rattle.session_state.specs.Steps.{Comes, Ready, Onward};
 ghost use Rattle.write_place.specs.State.{Standing};
 ghost use Rattle.session_steps.specs.Contracts.{told-add, StateSaved, Adding, Added};
 
-// The state before an add is saved: open pairs, stack and marks, and the tree cache where a step of the file forgets.
+// The state before an add is saved: open pairs, stack and marks, and the tree cache where a step of the file forgets or quotes.
 fn save_state(work: &mut [u32], p: Progress)
     requires { ⌜ (Standing (now work) (p .opens) (p .depth) 0) × (p .adds < 16) ⌝ }
     ensures { λ _. ⌜ StateSaved (now (work .entry)) (now (work .exit)) p ⌝ }

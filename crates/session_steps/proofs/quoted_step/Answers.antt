@@ -30,7 +30,7 @@ use Rattle.session_state.specs.declared.progress.StepAnswer.{StepAnswer}
 use Rattle.session_state.specs.Moves.{noted-at, with-quote, undone-at}
 use Rattle.session_state.specs.State.{standing, whole-run, after-words, Shows, Stocked, Underway, Stands, slot-for}
 use Rattle.session_state.specs.Steps.{Comes, Ready, Onward}
-use Rattle.session_state.proofs.Runs.{run-taken}
+use Rattle.session_state.proofs.Runs.{run-taking}
 use Rattle.session_state.proofs.States.{roomy-later, history-later, go-on}
 use Rattle.session_state.proofs.Answers.{stands-on}
 use Rattle.session_steps.specs.undo_step.Contracts.{Undoing, Undone}
@@ -73,7 +73,7 @@ module _ {input : List ℕ} {f : File} {w words : List ℕ} {rows : List Checkpo
           u .same
           ∙ ap (λ (ss : List Step). after-words (take (p .steps) words) (run-steps counted (length out) f ss (u .state))) e
           ∙ ap (λ (r : Run). after-words (take (p .steps) words) r)
-          (run-taken (length out) f (u .state) (word-of (u .session)) (standing (u .past) (u .session)) rest (shown .0))
+          (run-taking (length out) f (u .state) (word-of (u .session)) (standing (u .past) (u .session)) rest (shown .0))
 
   -- ---- a drop
 
