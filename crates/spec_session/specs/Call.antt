@@ -1,5 +1,5 @@
 -- The session call of 01, whole: from the file's bytes and the lent slices to the answer and to what each slice holds afterwards, for every input.
-use Prim.Native.Nat.{ℕ, min}
+use Prim.Native.Nat.{ℕ, _*_, min}
 use mathlib.Core.Bool.{Bool, cond, _&&_}
 use mathlib.Core.List.{List}
 use lib.Dec.{leb}
@@ -30,9 +30,9 @@ pub record Result (C : Type 0) : Type 0 where
 abbrev pub untouched : {C : Type 0} → ℕ → Slices C → Result C
 untouched n s = record { answer = record { number = n; steps = 0; size = 0 }; slices = s }
 
--- Question 1: are the slices long enough? There are sixteen checkpoint records.
+-- Question 1: are the slices long enough? A step has three words, and there are sixteen checkpoint records.
 abbrev pub long-enough : {C : Type 0} → Limits → Slices C → Bool
-long-enough l s = leb (l .work-words) (length (s .work)) && (leb (l .steps) (length (s .words)) && leb 16 (length (s .checkpoints)))
+long-enough l s = leb (l .work-words) (length (s .work)) && (leb (3 * l .steps) (length (s .words)) && leb 16 (length (s .checkpoints)))
 
 -- The output, "of which at most 65,535 bytes are used".
 abbrev pub usable : {C : Type 0} → Limits → Slices C → ℕ
@@ -45,7 +45,7 @@ module _ {C : Type 0} (blank : C) where
   abbrev pub after-run : Run → Slices C → Result C
   after-run r s =
       record {
-        answer = record { number = r .number; steps = length (r .words); size = size-of (r .last .written .items) };
+        answer = record { number = r .number; steps = r .steps; size = size-of (r .last .written .items) };
         slices =
             record {
               work = zeroed (s .work);

@@ -1,14 +1,16 @@
--- 01's whole case and undo example, and quotes, computed; that the whole case meets the premises; and why each premise is needed.
+-- 01's whole case and undo example, quotes, and scans, computed; that the whole case meets the premises; and why each premise is needed.
 use Prim.Native.Nat.{ℕ}
 use mathlib.Core.Path.{_≡_, refl}
-use mathlib.Core.Logic.{_⊎_, inl, inr}
+use mathlib.Core.Logic.{inl, inr}
 use mathlib.Core.List.{List, [], _∷_, map}
 use mathlib.Core.Option.{Option, none, some, bind}
 use native.Mathlib.Omega.{arith}
+use lib.ListN.{replicate}
 use Rattle.words.specs.BigEndian.{big-endian, number-after}
 use Rattle.allocator.specs.Handle.{node-of, handle-of}
 use Rattle.allocator.specs.SmallAtom.{small-bytes, len-for-value, further-bytes, fits-in-small-atom, is-small-atom}
 use Rattle.atom.specs.Prefix.{first-width, prefix-width, encode}
+use Rattle.atom.specs.Parse.{ones, size-of, parse}
 use Rattle.atom.specs.Write.{serialized-length}
 use Rattle.spec_reading.specs.Tree.{Tree, place, atom, cons}
 use Rattle.path.specs.Bytes.{path-bytes, octets}
@@ -23,8 +25,9 @@ use Rattle.spec_session.specs.Cache.{enter, update}
 use Rattle.spec_session.specs.Items.{cons-item, read-items, output}
 use Rattle.spec_session.specs.Writer.{start, write, resume}
 use Rattle.spec_session.specs.FindPath.{find-in}
-use Rattle.spec_session.specs.Steps.{Run, stop-at, with-word, at-start, run-steps}
+use Rattle.spec_session.specs.Steps.{Run, stop-at, with-words, at-start, run-steps}
 use Rattle.spec_session.specs.Call.{after-file}
+use Rattle.spec_session.specs.Scan.{pair-mark, an-atom, a-reference, scan-after, scan, scanned-references, scanned-prefixes}
 
 abbrev pub foobar : List ℕ
 foobar = 0x66 ∷ 0x6f ∷ 0x6f ∷ 0x62 ∷ 0x61 ∷ 0x72 ∷ []
@@ -70,13 +73,13 @@ whole-apart = (omega arith, ((λ h a i. i), tt), (omega arith, tt, tt))
 -- The call: number 0, two steps, ten bytes, for which there is just enough room; whatever the slices held, they hold the words and
 -- the bytes, and zero past them. (Question 1 is left out.)
 whole-call : after-file {C = ℕ} 0 version-1 counted (file version-1 whole-case)
-    (record { work = 7 ∷ 8 ∷ []; words = 1 ∷ 2 ∷ 3 ∷ []; checkpoints = 4 ∷ []; output = 5 ∷ 5 ∷ 5 ∷ 5 ∷ 5 ∷ 5 ∷ 5 ∷ 5 ∷ 5 ∷ 5 ∷ [] })
+    (record { work = 7 ∷ 8 ∷ []; words = 1 ∷ 2 ∷ 3 ∷ 4 ∷ 5 ∷ 6 ∷ 7 ∷ []; checkpoints = 4 ∷ []; output = 5 ∷ 5 ∷ 5 ∷ 5 ∷ 5 ∷ 5 ∷ 5 ∷ 5 ∷ 5 ∷ 5 ∷ [] })
     ≡ record {
       answer = record { number = 0; steps = 2; size = 10 };
       slices =
           record {
             work = 0 ∷ 0 ∷ [];
-            words = 16 ∷ 21 ∷ 0 ∷ [];
+            words = 16 ∷ 0 ∷ 1 ∷ 21 ∷ 1 ∷ 1 ∷ 0 ∷ [];
             checkpoints = 0 ∷ [];
             output = 0xff ∷ 0x86 ∷ 0x66 ∷ 0x6f ∷ 0x6f ∷ 0x62 ∷ 0x61 ∷ 0x72 ∷ 0xfe ∷ 0x02 ∷ [];
           };
@@ -116,7 +119,7 @@ undone-bytes = refl
 
 -- ((C . nil) . C), where the plain filling of A and C is ((C . nil) . B).
 undone-read : words-read undone
-    ≡ (4 ∷ 25 ∷ 4 ∷ 29 ∷ [], some (cons (cons (cons (atom foobar) (atom [])) (atom [])) (cons (atom foobar) (atom []))))
+    ≡ (4 ∷ 0 ∷ 0 ∷ 25 ∷ 1 ∷ 2 ∷ 4 ∷ 0 ∷ 0 ∷ 29 ∷ 1 ∷ 3 ∷ [], some (cons (cons (cons (atom foobar) (atom [])) (atom [])) (cons (atom foobar) (atom []))))
 unfolding undone bind run-steps unfolded enter update write resume find-in walk passes search node-of handle-of
     serialized-length encode prefix-width first-width path-bytes octets big-endian small-bytes len-for-value further-bytes
 undone-read = refl
@@ -145,18 +148,18 @@ forgotten-apart = (omega arith, (shut, tt), (omega arith, tt, tt))
     shut h (inr (inl (inr (inr a)))) i = a
     shut h (inr (inr a)) i = a
 
-forgotten-read : words-read forgotten ≡ (4 ∷ 25 ∷ 4 ∷ 29 ∷ [], some (cons (cons (cons (atom foobar) (atom [])) (atom [])) (atom foobar)))
+forgotten-read : words-read forgotten ≡ (4 ∷ 0 ∷ 0 ∷ 25 ∷ 1 ∷ 2 ∷ 4 ∷ 0 ∷ 0 ∷ 29 ∷ 1 ∷ 3 ∷ [], some (cons (cons (cons (atom foobar) (atom [])) (atom [])) (atom foobar)))
 unfolding forgotten bind run-steps unfolded enter update write resume find-in walk passes search node-of handle-of
     serialized-length encode prefix-width first-width path-bytes octets big-endian small-bytes len-for-value further-bytes
 forgotten-read = refl
 
 -- Where nil is taken back the words differ: after `02` the sentinel's parent stays with nil, so no path leads to C, and B is written in full a second time.
-nil-undone : run (taken-back 0x8000000 (restore 1)) .words ≡ 4 ∷ 23 ∷ 4 ∷ 39 ∷ []
+nil-undone : run (taken-back 0x8000000 (restore 1)) .words ≡ 4 ∷ 0 ∷ 0 ∷ 23 ∷ 0 ∷ 3 ∷ 4 ∷ 0 ∷ 0 ∷ 39 ∷ 0 ∷ 4 ∷ []
 unfolding run-steps unfolded enter update write resume find-in walk passes search node-of handle-of
     serialized-length encode prefix-width first-width path-bytes octets big-endian small-bytes len-for-value further-bytes
 nil-undone = refl
 
-nil-forgotten : run (taken-back 0x8000000 (forget 1)) .words ≡ 4 ∷ 23 ∷ 4 ∷ 29 ∷ []
+nil-forgotten : run (taken-back 0x8000000 (forget 1)) .words ≡ 4 ∷ 0 ∷ 0 ∷ 23 ∷ 0 ∷ 3 ∷ 4 ∷ 0 ∷ 0 ∷ 29 ∷ 1 ∷ 3 ∷ []
 unfolding run-steps unfolded enter update write resume find-in walk passes search node-of handle-of
     serialized-length encode prefix-width first-width path-bytes octets big-endian small-bytes len-for-value further-bytes
 nil-forgotten = refl
@@ -170,7 +173,7 @@ forget-refused = refl
 -- ---- quotes
 
 -- Nil quoted in the place of nil added and taken back: nothing that the quote entered stays, as after `03`.
-nil-quoted : run (undo-file (add 1 ∷ quote 0x8000000 ∷ add 2 ∷ [])) .words ≡ 4 ∷ 23 ∷ 29 ∷ []
+nil-quoted : run (undo-file (add 1 ∷ quote 0x8000000 ∷ add 2 ∷ [])) .words ≡ 4 ∷ 0 ∷ 0 ∷ 23 ∷ 0 ∷ 3 ∷ 29 ∷ 1 ∷ 3 ∷ []
 unfolding run-steps unfolded enter update write resume find-in walk passes search node-of handle-of
     serialized-length encode prefix-width first-width path-bytes octets big-endian small-bytes len-for-value further-bytes
 nil-quoted = refl
@@ -180,7 +183,8 @@ whole-run space steps = run-steps counted space whole-file steps at-start
 
 -- The two adds of the whole case, each quoted and then taken: it ends where their run ends. Taken twice, 17.
 whole-quoted : whole-run 65535 (quote 1 ∷ take-quote ∷ quote 0x4000000 ∷ take-quote ∷ take-quote ∷ [])
-    ≡ with-word 16 (with-word 16 (with-word 21 (with-word 21 (stop-at 17 (whole-run 65535 (whole-file .steps) .last)))))
+    ≡ with-words (16 ∷ 0 ∷ 1 ∷ [])
+    (with-words (16 ∷ 0 ∷ 1 ∷ []) (with-words (21 ∷ 1 ∷ 1 ∷ []) (with-words (21 ∷ 1 ∷ 1 ∷ []) (stop-at 17 (whole-run 65535 (whole-file .steps) .last)))))
 unfolding run-steps unfolded enter update write resume find-in walk passes search node-of handle-of
     serialized-length encode prefix-width first-width path-bytes octets big-endian
 whole-quoted = refl
@@ -200,8 +204,8 @@ unfolding run-steps unfolded enter update write resume find-in walk passes searc
     serialized-length encode prefix-width first-width path-bytes octets big-endian
 add-13 = refl
 
--- Why the last step taken may be no quote: its word says finished, and nothing is written.
-only-quoted : whole-run 65535 (quote 0x4000000 ∷ []) ≡ with-word 15 (stop-at 0 start)
+-- Why the last step taken may be no quote: its first word says finished, and nothing is written.
+only-quoted : whole-run 65535 (quote 0x4000000 ∷ []) ≡ with-words (15 ∷ 0 ∷ 1 ∷ []) (stop-at 0 start)
 unfolding run-steps unfolded enter update write resume find-in walk passes search node-of handle-of
     serialized-length encode prefix-width first-width path-bytes octets big-endian
 only-quoted = refl
@@ -223,8 +227,8 @@ again =
       steps = add 0 ∷ add 4 ∷ add 0x8000003 ∷ [];
     }
 
--- The last word says finished, and the items are turned down.
-again-read : words-read again ≡ (2 ∷ 30 ∷ 41 ∷ [], none)
+-- The last step's first word says finished, and the items are turned down.
+again-read : words-read again ≡ (2 ∷ 0 ∷ 0 ∷ 30 ∷ 0 ∷ 1 ∷ 41 ∷ 1 ∷ 3 ∷ [], none)
 unfolding again bind run-steps unfolded enter update write resume find-in walk passes search node-of handle-of
     serialized-length encode prefix-width first-width path-bytes octets big-endian small-bytes len-for-value further-bytes
 again-read = refl
@@ -253,7 +257,40 @@ two-filled : plain-filling two (1 ∷ 2 ∷ 3 ∷ []) ≡ two-tree foobar
 unfolding two plain-filling unfolded node-of handle-of small-bytes len-for-value further-bytes big-endian
 two-filled = refl
 
-two-read : words-read two ≡ (4 ∷ 22 ∷ 33 ∷ [], some (two-tree (1 ∷ [])))
+two-read : words-read two ≡ (4 ∷ 0 ∷ 0 ∷ 22 ∷ 0 ∷ 2 ∷ 33 ∷ 1 ∷ 2 ∷ [], some (two-tree (1 ∷ [])))
 unfolding two bind run-steps unfolded enter update write resume find-in walk passes search node-of handle-of
     serialized-length encode prefix-width first-width path-bytes octets big-endian small-bytes len-for-value further-bytes
 two-read = refl
+
+-- ---- scans
+
+-- ff 80 ff 83 61 62 63 ff 05 fe 02: nil, an atom of three bytes, a byte that stands for itself, a reference.
+scanned : scan (0xff ∷ 0x80 ∷ 0xff ∷ 0x83 ∷ 0x61 ∷ 0x62 ∷ 0x63 ∷ 0xff ∷ 0x05 ∷ 0xfe ∷ 0x02 ∷ [])
+    ≡ pair-mark ∷ an-atom 1 ∷ pair-mark ∷ an-atom 1 ∷ pair-mark ∷ an-atom 0 ∷ a-reference 0 ∷ []
+unfolding scan-after parse size-of ones number-after
+scanned = refl
+
+-- The references, and the prefix bytes.
+abbrev counts : (bytes : List ℕ) → ℕ × ℕ
+counts bytes = (scanned-references bytes, scanned-prefixes bytes)
+
+-- No bytes; those above; an `ff` and an `fe` in an atom, and the prefix of a path; an atom of 64 bytes.
+scanned-counts : map counts
+    ([]
+    ∷ (0xff ∷ 0x80 ∷ 0xff ∷ 0x83 ∷ 0x61 ∷ 0x62 ∷ 0x63 ∷ 0xff ∷ 0x05 ∷ 0xfe ∷ 0x02 ∷ [])
+    ∷ (0xff ∷ 0x82 ∷ 0xff ∷ 0xfe ∷ 0xfe ∷ 0x81 ∷ 0x80 ∷ [])
+    ∷ (0xc0 ∷ 0x40 ∷ replicate 64 0xfe)
+    ∷ [])
+    ≡ (0, 0) ∷ (1, 2) ∷ (1, 2) ∷ (0, 2) ∷ []
+unfolding scan-after parse size-of ones number-after
+scanned-counts = refl
+
+-- The words of a run, its number, and the counts of the output at its end.
+abbrev told : Run → List ℕ × ℕ × (ℕ × ℕ)
+told r = (r .words, r .number, counts (output (r .last .written .items)))
+
+-- Why the number may be no 13: A is added and then C, of which `ff` and foobar fit. The words are those before C.
+counts-13 : told (run-steps counted 10 (undo-file []) (add 1 ∷ add 2 ∷ []) at-start) ≡ (4 ∷ 0 ∷ 0 ∷ [], 13, (0, 1))
+unfolding scan-after parse size-of ones number-after run-steps unfolded enter update write resume find-in walk passes search node-of handle-of
+    serialized-length encode prefix-width first-width path-bytes octets big-endian small-bytes len-for-value further-bytes
+counts-13 = refl

@@ -1,5 +1,5 @@
 -- DEMAND 3 of the session call: one claim about a whole file, a refused last step included.
--- No step that was taken is a `02`; the last one taken is no `04`, and its word says finished. The adds that survive keep 01's premises. Then the reading call
+-- No step that was taken is a `02`; the last one taken is no `04`, and its first word says finished. The adds that survive keep 01's premises. Then the reading call
 -- accepts the finished bytes, which are the first `size` bytes of the output at the end of the run, and gives a root whose tree is the plain filling's whole
 -- tree; the bytes are those of the items that the writer makes of the surviving adds, so references stand exactly where 01's search rules put them (`write`
 -- puts a reference at a subtree exactly where `find-in` gives a path), and each takes at most as many bytes as its subtree in full; and the next step, where
@@ -7,21 +7,20 @@
 -- Finished is asked of the final state: a finish that a later `03` takes back is no claim about the final output. `read-back-run` is of any steps over the
 -- file, so it holds at every prefix of its own steps.
 -- Assumes nothing.
-use Prim.Native.Nat.{ℕ, zero, suc, _+_, _*_, _%_, _^_, _-_, _≤_, _<_}
+use Prim.Native.Nat.{ℕ, zero, suc, _+_, _*_, _%_, _^_, _≤_, _<_}
 use mathlib.Core.Path.{_≡_, refl, sym, ap, _∙_, subst}
-use mathlib.Core.Bool.{Bool, true, false, cond}
+use mathlib.Core.Bool.{Bool, true}
 use mathlib.Core.List.{List, [], _∷_, _++_, map, append-nil, append-assoc}
 use mathlib.Core.Option.{Option, none, some}
 use native.Mathlib.Omega.{arith}
-use lib.ListN.{length, take, replicate, List·getD-append, length-append, length-replicate}
-use lib.Seq.{take-at}
+use lib.ListN.{length, take}
 use Rattle.words.specs.Lists.{All, Bytes}
 use Rattle.words.specs.Words.{at}
 use Rattle.spec_reading.specs.Tree.{Tree}
 use Rattle.path.specs.Measure.{counted}
 use Rattle.spec_reading.specs.Call as read
 use Rattle.spec_reading.specs.Promise.{ReadAs, read-as}
-use Rattle.spec_session.specs.File.{File, Step, add, Limits, version-1, Got, got, refused, file}
+use Rattle.spec_session.specs.File.{File, Step, add, Limits, version-1, got, file}
 use Rattle.spec_session.specs.Unfold.{unfolded}
 use Rattle.spec_session.specs.Filling.{plain-filling}
 use Rattle.spec_session.specs.Survivors.{survive, survivors}
@@ -34,18 +33,19 @@ use Rattle.spec_session.specs.FindPath.{find-in}
 use Rattle.spec_session.specs.FindPathLaws.{Covers}
 use Rattle.spec_session.specs.Counted.{counted-covers}
 use Rattle.spec_session.specs.Steps.{room-in, at-start, Run, run-steps}
-use Rattle.spec_session.specs.Call.{Slices, Result, long-enough, usable, untouched, after-run, after-file, session}
+use Rattle.spec_session.specs.Call.{Slices, Result, usable, after-run, session}
+use Rattle.spec_session.specs.CallLaws.{taken, at-front, filled-length, call-is}
 use Rattle.spec_session.specs.Theorem.{filling-stays}
 use Rattle.spec_session.specs.TheoremFile.{read-back-file}
-use Rattle.spec_session.specs.StepLaws.{forget-survivors, Finish, run-finish, finish-last}
+use Rattle.spec_session.specs.StepLaws.{run-ends, forget-survivors, Finish, run-finish, finish-last}
 
 -- ---- the statement
 
--- 01: "Each finished step writes one 32-bit word: size × 2, plus 1 if finished."
+-- Of a step's three words, the first: "size × 2, plus 1 if finished".
 abbrev pub Finished : (words : List ℕ) → (step : ℕ) → Type 0
-Finished words k = at words k % 2 ≡ 1
+Finished words k = at words (3 * k) % 2 ≡ 1
 
--- What demand 3 says of a session's result r, where step k is the last one taken, its word says finished, `handles` are those of the adds that survive, and
+-- What demand 3 says of a session's result r, where step k is the last one taken, its first word says finished, `handles` are those of the adds that survive, and
 -- `next` is the step after it, if there is one.
 pub record ReadBack {C : Type 0} (measure : List Bool → ℕ) (l : Limits) (f : File) (handles : List ℕ) (k : ℕ) (next : Option Step) (r : Result C) : Type 0 where
   -- What the writer makes of these adds, on a fresh session: a reference exactly where the search gives a path that is used.
@@ -67,22 +67,9 @@ pub record ReadBack {C : Type 0} (measure : List Bool → ℕ) (l : Limits) (f :
   pub no-longer : NoLonger (made .written .items)
   -- The word has the size, this step was the last one taken, and the next one, where there is one, gets its number: 9 at an add or a quote, 11 at an undo, 17
   -- at a `05`.
-  pub word : at (r .slices .words) k ≡ r .answer .size * 2 + 1
+  pub word : at (r .slices .words) (3 * k) ≡ r .answer .size * 2 + 1
   pub last : r .answer .steps ≡ suc k
   pub number-is : r .answer .number ≡ number-after-finish next
-
--- ---- the finished bytes
-
--- What is filled in stands at the front.
-taken : (l used : List ℕ) (n : ℕ) → n ≡ length used → take n (read.filled l used) ≡ used
-taken l used n e = take-at used (replicate (length l - length used) 0) n (sym e)
-
-at-front : (l used : List ℕ) (k : ℕ) → k < length used → at (read.filled l used) k ≡ at used k
-at-front l used k h = List·getD-append used (replicate (length l - length used) 0) 0 k h
-
--- Filling in leaves the length.
-filled-length : (l used : List ℕ) → length used ≤ length l → length (read.filled l used) ≡ length l
-filled-length l used h = omega (arith, length-append used (replicate (length l - length used) 0), length-replicate {A = ℕ} (length l - length used) 0)
 
 -- ---- THE THEOREM
 
@@ -94,15 +81,15 @@ module _ {C : Type 0} (blank : C) (l : Limits) (carried : l .file-bytes < 2 ^ 34
 
   -- Any steps over a file that was read.
   pub read-back-run : (input : List ℕ) → Bytes input → (f : File) (rest : List ℕ) → file l input ≡ got f rest → (slices : Slices C) (steps : List Step) (k : ℕ)
-      → suc k ≡ length (run-in f steps slices .words) → All NoRestore (take (suc k) steps) → IfAny NoQuote (nth steps k) → Finished (run-in f steps slices .words) k
+      → suc k ≡ run-in f steps slices .steps → All NoRestore (take (suc k) steps) → IfAny NoQuote (nth steps k) → Finished (run-in f steps slices .words) k
       → Apart (map (unfolded f) (survivors (take (suc k) steps)))
       → ReadBack measure l f (survivors (take (suc k) steps)) k (nth steps (suc k)) (after-run blank (run-in f steps slices) slices)
   read-back-run input bytes f rest file-is s steps k last no-02 no-04 fin apart =
-      go (run-in f steps s) last (run-finish measure (usable l s) f steps k last no-04 fin)
+      go (run-in f steps s) last (run-ends measure (usable l s) f steps at-start .three) (run-finish measure (usable l s) f steps k last no-04 fin)
     where
-      go : (r : Run) → suc k ≡ length (r .words) → Finish measure (usable l s) f steps k r
+      go : (r : Run) → suc k ≡ r .steps → length (r .words) ≡ 3 * r .steps → Finish measure (usable l s) f steps k r
           → ReadBack measure l f (survivors (take (suc k) steps)) k (nth steps (suc k)) (after-run blank r s)
-      go r l-is m =
+      go r l-is three m =
           let adds-are : add-all (find-in measure) (room-in (usable l s)) (map (unfolded f) (survivors (take (suc k) steps))) start ≡ added (r .last) =
           forget-survivors measure (usable l s) f (take (suc k) steps) (m .reached) no-02 (m .walked) ∙ ap added (sym (m .last-is)) in
           let b =
@@ -127,27 +114,15 @@ module _ {C : Type 0} (blank : C) (l : Limits) (carried : l .file-bytes < 2 ^ 34
                 (read-as (output (r .last .written .items)) (b .stored) (b .result) (omega (arith, size-is, b .short)) (b .reads) (b .root-named));
             items-read = b .items-read;
             no-longer = b .no-longer;
-            word = at-front (s .words) (r .words) k (omega arith) ∙ m .word-is;
+            word = at-front (s .words) (r .words) (3 * k) (omega arith) ∙ m .word-is;
             last = sym l-is;
             number-is = m .number-is;
           }
 
-  -- The call is its run, if it took a step.
-  call-is : (input : List ℕ) (f : File) (rest : List ℕ) → file l input ≡ got f rest → (s : Slices C) (k : ℕ) → k < session blank l measure input s .answer .steps
-      → session blank l measure input s ≡ after-run blank (run-in f (f .steps) s) s
-  unfolding session
-  call-is input f rest file-is s k = go (long-enough l s) (file l input) file-is
-    where
-      go : (b : Bool) (g : Got File) → g ≡ got f rest → k < cond b (after-file blank l measure g s) (untouched 1 s) .answer .steps
-          → cond b (after-file blank l measure g s) (untouched 1 s) ≡ after-run blank (run-in f (f .steps) s) s
-      go false g e h = absurd (omega arith)
-      go true (refused n) e h = absurd (omega arith)
-      go true (got f′ rest′) e h =
-          let alike : f′ ≡ f = cc in
-          ap (λ (x : File). after-run blank (run-in x (x .steps) s) s) alike
-
-  finished-in-run : (r : Run) (s : Slices C) (k : ℕ) → k < length (r .words) → Finished (after-run blank r s .slices .words) k → Finished (r .words) k
-  finished-in-run r s k h fin = ap (λ (n : ℕ). n % 2) (sym (at-front (s .words) (r .words) k h)) ∙ fin
+  finished-in-run : (f : File) (steps : List Step) (s : Slices C) (k : ℕ) → k < run-in f steps s .steps → Finished (after-run blank (run-in f steps s) s .slices .words) k
+      → Finished (run-in f steps s .words) k
+  finished-in-run f steps s k h fin =
+      ap (λ (n : ℕ). n % 2) (sym (at-front (s .words) (run-in f steps s .words) (3 * k) (omega (arith, run-ends measure (usable l s) f steps at-start .three)))) ∙ fin
 
   pub read-back-session : (input : List ℕ) → Bytes input → (f : File) (rest : List ℕ) → file l input ≡ got f rest → (slices : Slices C) (k : ℕ)
       → suc k ≡ session blank l measure input slices .answer .steps
@@ -155,20 +130,20 @@ module _ {C : Type 0} (blank : C) (l : Limits) (carried : l .file-bytes < 2 ^ 34
       → Apart (map (unfolded f) (survivors (take (suc k) (f .steps))))
       → ReadBack measure l f (survivors (take (suc k) (f .steps))) k (nth (f .steps) (suc k)) (session blank l measure input slices)
   read-back-session input bytes f rest file-is s k last no-02 no-04 fin apart =
-      let is = call-is input f rest file-is s k (omega arith) in
-      let last′ : suc k ≡ length (run-in f (f .steps) s .words) = last ∙ ap (λ (r : Result C). r .answer .steps) is in
-      let fin′ = finished-in-run (run-in f (f .steps) s) s k (omega arith) (subst (λ (r : Result C). Finished (r .slices .words) k) is fin) in
+      let is = call-is blank l measure input f rest file-is s k (omega arith) in
+      let last′ : suc k ≡ run-in f (f .steps) s .steps = last ∙ ap (λ (r : Result C). r .answer .steps) is in
+      let fin′ = finished-in-run f (f .steps) s k (omega arith) (subst (λ (r : Result C). Finished (r .slices .words) k) is fin) in
       subst (λ (r : Result C). ReadBack measure l f (survivors (take (suc k) (f .steps))) k (nth (f .steps) (suc k)) r) (sym is)
       (read-back-run input bytes f rest file-is s (f .steps) k last′ no-02 no-04 fin′ apart)
 
-  -- A step that is no `04` and whose word says finished is the last one taken, where no undo comes next.
+  -- A step that is no `04` and whose first word says finished is the last one taken, where no undo comes next.
   pub finished-last : (input : List ℕ) (f : File) (rest : List ℕ) → file l input ≡ got f rest → (slices : Slices C) (k : ℕ)
       → k < session blank l measure input slices .answer .steps → IfAny NoQuote (nth (f .steps) k) → Finished (session blank l measure input slices .slices .words) k
       → IfAny NoUndo (nth (f .steps) (suc k)) → suc k ≡ session blank l measure input slices .answer .steps
   finished-last input f rest file-is s k h no-04 fin no-undo =
-      let is = call-is input f rest file-is s k h in
-      let h′ : k < length (run-in f (f .steps) s .words) = subst (λ (r : Result C). k < r .answer .steps) is h in
-      let fin′ = finished-in-run (run-in f (f .steps) s) s k h′ (subst (λ (r : Result C). Finished (r .slices .words) k) is fin) in
+      let is = call-is blank l measure input f rest file-is s k h in
+      let h′ : k < run-in f (f .steps) s .steps = subst (λ (r : Result C). k < r .answer .steps) is h in
+      let fin′ = finished-in-run f (f .steps) s k h′ (subst (λ (r : Result C). Finished (r .slices .words) k) is fin) in
       finish-last measure (usable l s) f (f .steps) k h′ no-04 fin′ no-undo ∙ sym (ap (λ (r : Result C). r .answer .steps) is)
 
 -- Demand 3, of 01's call.
@@ -200,7 +175,7 @@ nth-adds P p [] k = tt
 nth-adds P p (h ∷ hs) zero = p h
 nth-adds P p (h ∷ hs) (suc k) = nth-adds P p hs k
 
--- Here any add whose word says finished is the last one taken.
+-- Here any add whose first word says finished is the last one taken.
 pub demand-3-adds : {C : Type 0} (blank : C) (input : List ℕ) → Bytes input → (f : File) (rest : List ℕ) → file version-1 input ≡ got f rest
     → (handles : List ℕ) → f .steps ≡ map add handles → (slices : Slices C) (k : ℕ)
     → k < session blank version-1 counted input slices .answer .steps → Finished (session blank version-1 counted input slices .slices .words) k

@@ -64,9 +64,9 @@ module _ {C : Type 0} (blank : C) (slices : Slices C) (long : long-enough versio
   unfolding run-steps unfolded enter update write resume find-in walk passes search node-of handle-of serialized-length encode prefix-width first-width path-bytes octets big-endian
   answer-is = ap (λ (r : Result C). r .answer) call-is
 
-  word-1 : at (the-call .slices .words) 1 ≡ 21
+  word-1 : at (the-call .slices .words) 3 ≡ 21
   unfolding run-steps unfolded enter update write resume find-in walk passes search node-of handle-of serialized-length encode prefix-width first-width path-bytes octets big-endian
-  word-1 = ap (λ (r : Result C). at (r .slices .words) 1) call-is
+  word-1 = ap (λ (r : Result C). at (r .slices .words) 3) call-is
 
   pub bytes-are : take 10 (the-call .slices .output) ≡ finished-bytes
   unfolding run-steps unfolded enter update write resume find-in walk passes search node-of handle-of serialized-length encode prefix-width first-width path-bytes octets big-endian
@@ -91,16 +91,16 @@ module _ (work words checkpoints : ℕ) where
   abbrev pub filled-with : Slices ℕ
   filled-with = record { work = replicate work 7; words = replicate words 8; checkpoints = replicate checkpoints 9; output = replicate 12 5 }
 
-  enough : 524288 ≤ work → 1024 ≤ words → 16 ≤ checkpoints → long-enough version-1 filled-with ≡ true
+  enough : 524288 ≤ work → 3072 ≤ words → 16 ≤ checkpoints → long-enough version-1 filled-with ≡ true
   enough a b c =
       rw (
         length-replicate {A = ℕ} work 7,
         length-replicate {A = ℕ} words 8,
         length-replicate {A = ℕ} checkpoints 9,
         le-leb 524288 work a,
-        le-leb 1024 words b,
+        le-leb 3072 words b,
         le-leb 16 checkpoints c,
       ) refl
 
-pub closed-back : ReadBack counted version-1 whole-file (1 ∷ 0x4000000 ∷ []) 1 none (session 0 version-1 counted whole-case (filled-with 524288 1024 16))
-closed-back = whole-back 0 (filled-with 524288 1024 16) (enough 524288 1024 16 (omega arith) (omega arith) (omega arith)) refl
+pub closed-back : ReadBack counted version-1 whole-file (1 ∷ 0x4000000 ∷ []) 1 none (session 0 version-1 counted whole-case (filled-with 524288 3072 16))
+closed-back = whole-back 0 (filled-with 524288 3072 16) (enough 524288 3072 16 (omega arith) (omega arith) (omega arith)) refl

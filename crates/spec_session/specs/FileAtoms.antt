@@ -7,7 +7,7 @@ use native.Mathlib.Omega.{arith}
 use lib.Dec.{leb}
 use lib.ListN.{length, take, drop, length-take, length-drop}
 use Rattle.spec_session.specs.FileLaws.{by-first, asked-of, got-value, got-rest, parts-read}
-use Rattle.words.specs.Lists.{All, all-append, all-take, all-drop, all-or}
+use Rattle.words.specs.Lists.{All, all-append, all-take, all-drop, all-or, Bytes}
 use Rattle.words.specs.Choice.{by-cond}
 use Rattle.allocator.specs.Handle.{pair, node-of, node-of-kind, handle-of}
 use Rattle.allocator.specs.SmallAtom.{small-bytes, fits-in-small-atom}
@@ -43,7 +43,7 @@ module _ (f : File) (listed-are : All Atom (f .atoms)) where
       (all-append (Leaves Atom) earlier (node (handle-of (pair (length earlier))) (unfold-with f earlier (p .left)) (unfold-with f earlier (p .right)) ∷ []) a
       ((unfold-with-leaves earlier a (p .left), unfold-with-leaves earlier a (p .right)), tt))
 
-  unfolded-leaves : (h : ℕ) → Leaves Atom (unfolded f h)
+  pub unfolded-leaves : (h : ℕ) → Leaves Atom (unfolded f h)
   unfolding unfolded
   unfolded-leaves h = unfold-with-leaves (unfold-pairs f (f .pairs) []) (pairs-leaves (f .pairs) [] tt) h
 
@@ -94,3 +94,7 @@ file-atoms l input f r h e =
     let p = parts-read l input f r e in
     let rest = count-rest (l .count-bytes) (l .atoms) (drop 5 input) (p .atom-count) (p .at-atoms) (part-drop 5 input h) (p .atom-count-is) in
     atoms-parts l (p .atom-count) 0 [] (p .at-atoms) (f .atoms) (p .at-pair-count) tt rest (p .atoms-are)
+
+-- Over any limits that keep a file shorter than what a prefix can carry.
+pub read-atoms : (l : Limits) → l .file-bytes < 2 ^ 34 → (input : List ℕ) → Bytes input → (f : File) (r : List ℕ) → file l input ≡ got f r → All Atom (f .atoms)
+read-atoms l carried input bytes f r e = file-atoms l input f r (omega (arith, parts-read l input f r e .short), bytes) e

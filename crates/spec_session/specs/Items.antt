@@ -4,7 +4,7 @@ use mathlib.Core.List.{List, [], _∷_, _++_}
 use mathlib.Core.Option.{Option, none, some, bind}
 use mathlib.Core.Bool.{Bool, true}
 use Prim.Native.Nat.{ℕ, _+_, _≤_}
-use Rattle.atom.specs.Prefix.{encode}
+use Rattle.atom.specs.Prefix.{prefix-width, encode}
 use Rattle.atom.specs.Write.{serialized-length}
 use Rattle.path.specs.Bytes.{path-bytes}
 use Rattle.spec_reading.specs.Tree.{Tree, place, atom, cons, follow, as-list}
@@ -20,9 +20,39 @@ item-size cons-item = 1
 item-size (atom-item bs) = serialized-length bs
 item-size (reference-item path) = 1 + serialized-length (path-bytes (path ++ true ∷ []))
 
+-- The sum of a count.
+abbrev pub total : {A : Type 0} → (A → ℕ) → List A → ℕ
+total count [] = 0
+total count (x ∷ xs) = count x + total count xs
+
 abbrev pub size-of : List Item → ℕ
-size-of [] = 0
-size-of (i ∷ is) = item-size i + size-of is
+size-of is = total item-size is
+
+-- ---- where the bytes went
+
+abbrev pub reference-count : Item → ℕ
+reference-count cons-item = 0
+reference-count (atom-item bs) = 0
+reference-count (reference-item path) = 1
+
+-- How many items are references.
+abbrev pub references : List Item → ℕ
+references is = total reference-count is
+
+abbrev pub width-or-0 : Option ℕ → ℕ
+width-or-0 none = 0
+width-or-0 (some w) = w
+
+-- The prefix bytes of an item: of its atom, or of its path's atom. `ff`, `fe` and an atom that stands for itself have none.
+abbrev pub item-prefix : Item → ℕ
+item-prefix cons-item = 0
+item-prefix (atom-item bs) = width-or-0 (prefix-width bs)
+item-prefix (reference-item path) = width-or-0 (prefix-width (path-bytes (path ++ true ∷ [])))
+
+abbrev pub prefix-bytes : List Item → ℕ
+prefix-bytes is = total item-prefix is
+
+-- ---- a tree in full
 
 -- A tree in full: one byte for each pair, and each atom with its prefix.
 abbrev pub full-size : Tree → ℕ

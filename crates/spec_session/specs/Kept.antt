@@ -33,6 +33,10 @@ module _ (P : List ℕ → Type 0) where
   TodoLeaves (parse u) = Leaves u
   TodoLeaves (close h) = Unit {0}
 
+  abbrev pub WaitingLeaves : Option (List Todo) → Type 0
+  WaitingLeaves none = Unit {0}
+  WaitingLeaves (some k) = All TodoLeaves k
+
   -- Of an item among n.
   abbrev pub Fine : ℕ → Item → Type 0
   Fine n cons-item = Unit {0}
@@ -54,6 +58,10 @@ module _ (P : List ℕ → Type 0) where
     KeptBy (done w) = Kept Q w
     KeptBy (stopped k w) = Kept Q w × All TodoLeaves k
     KeptBy (refused n w) = Kept Q w
+
+    abbrev pub KeptAdded : Added → Type 0
+    KeptAdded (added s) = Kept Q (s .written) × WaitingLeaves (s .waiting)
+    KeptAdded (turned-down n s) = Kept Q (s .written)
 
     kept-then : (o : Outcome) (f : Written → Outcome) → KeptBy o → ((w : Written) → Kept Q w → KeptBy (f w)) → KeptBy (and-then o f)
     kept-then (done w) f h g = g w h
@@ -129,20 +137,12 @@ module _ (P : List ℕ → Type 0) where
           kept-then (write find room c u k w) (λ v. resume find room c k v) (kept-write c u k w (t .0) (t .1) h) (λ v g. kept-resume c k v (t .1) g)
       kept-resume c (close g ∷ k) w t h = kept-resume c k (close-up c g w) (t .1) (kept-close c g w h)
 
-      abbrev WaitingLeaves : Option (List Todo) → Type 0
-      WaitingLeaves none = Unit {0}
-      WaitingLeaves (some k) = All TodoLeaves k
-
-      abbrev KeptAdded : Added → Type 0
-      KeptAdded (added s) = Kept Q (s .written) × WaitingLeaves (s .waiting)
-      KeptAdded (turned-down n s) = Kept Q (s .written)
-
       kept-settle : (s : Session) (c : Cache) (o : Outcome) → KeptBy o → KeptAdded (settle s c o)
       kept-settle s c (done w) h = (h, tt)
       kept-settle s c (stopped k w) h = h
       kept-settle s c (refused n w) h = h
 
-      kept-add : (t : Unfolded) (s : Session) (o : Option (List Todo)) → Leaves t → Kept Q (s .written) → WaitingLeaves o → KeptAdded (add-at find room t s o)
+      pub kept-add : (t : Unfolded) (s : Session) (o : Option (List Todo)) → Leaves t → Kept Q (s .written) → WaitingLeaves o → KeptAdded (add-at find room t s o)
       kept-add t s none l h k = h
       kept-add t s (some k) l h f =
           kept-settle s (update t (s .cache)) (resume find room (update t (s .cache)) (parse t ∷ k) (s .written))

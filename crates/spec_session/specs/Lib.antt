@@ -27,6 +27,9 @@ pub mod Steps
 pub mod Call
 pub mod Cases
 pub mod BytesRead
+pub mod Counts
+pub mod Scan
+pub mod ScanLaws
 pub mod TheoremBytes
 pub mod Kept
 pub mod Bounds
@@ -37,6 +40,10 @@ pub mod Formed
 pub mod FileAtoms
 pub mod TheoremFile
 pub mod StepLaws
+pub mod LastWords
+pub mod ScanSteps
+pub mod CallLaws
 pub mod Demand3
+pub mod ScanCall
 pub mod Example
 pub mod Sentinel

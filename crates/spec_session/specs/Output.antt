@@ -30,10 +30,6 @@ output-size [] = refl
 output-size (i ∷ items) = ap₂ (λ (a b : ℕ). a + b) (item-size-is i) (output-size items) ∙ sym (length-append (item-bytes i) (output items))
 
 -- One item more.
-pub size-more : (items : List Item) (i : Item) → size-of (items ++ i ∷ []) ≡ size-of items + item-size i
-size-more [] i = omega arith
-size-more (x ∷ items) i = omega (arith, size-more items i)
-
 pub output-more : (items : List Item) (i : Item) → output (items ++ i ∷ []) ≡ output items ++ item-bytes i
 output-more [] i = append-nil (item-bytes i)
 output-more (x ∷ items) i = ap (λ (r : List ℕ). item-bytes x ++ r) (output-more items i) ∙ sym (append-assoc (item-bytes x) (output items) (item-bytes i))

@@ -1,4 +1,4 @@
--- What a run of steps comes to: the word of each step, quotes and their taking, how a run ends, the adds that survive, and the finish.
+-- What a run of steps comes to: the words of each step, quotes and their taking, how a run ends, the adds that survive, and the finish.
 -- Assumes nothing.
 use Prim.Native.Nat.{ℕ, zero, suc, _+_, _*_, _%_, _≤_, _<_}
 use mathlib.Core.Path.{_≡_, refl, sym, ap, _∙_, subst}
@@ -22,10 +22,21 @@ use Rattle.spec_session.specs.Writer.{Todo, Session, start, Added, added
 use Rattle.spec_session.specs.Trees.{nth, both-more, both-fewer}
 use Rattle.spec_session.specs.FindPath.{find-in}
 use Rattle.spec_session.specs.Theorem.{adds-end}
-use Rattle.spec_session.specs.Steps.{room-in, finished-bit, word-of, State, at-start, Stepped, went, halted, unless-full, after-add, after-quote}
-use Rattle.spec_session.specs.Steps.{after-restore, after-forget, add-handle, add-step, take-step, run-step, Run, with-word, after-step, run-steps}
+use Rattle.spec_session.specs.Steps.{room-in, finished-bit, word-of, words-of, State, at-start, Stepped, went, halted, unless-full, after-add, after-quote}
+use Rattle.spec_session.specs.Steps.{after-restore, after-forget, add-handle, add-step, take-step, run-step, Run, with-words, after-step, run-steps}
 
-not-went : {A : Type 0} {w : ℕ} {t : State} {n : ℕ} {s : Session} → _≡_ {A = Stepped} (halted n s) (went w t) → A
+-- Step k has the words 3 × k to 3 × k + 2.
+abbrev pub words-at : List ℕ → ℕ → List ℕ
+words-at ws k = at ws (3 * k) ∷ at ws (3 * k + 1) ∷ at ws (3 * k + 2) ∷ []
+
+-- The words of later steps stand three further on.
+words-later : (s : Session) (ws : List ℕ) (k : ℕ) → words-at (words-of s ++ ws) (suc k) ≡ words-at ws k
+words-later s ws k = cc (further (3 * suc k) (3 * k) (omega arith), further (3 * suc k + 1) (3 * k + 1) (omega arith), further (3 * suc k + 2) (3 * k + 2) (omega arith))
+  where
+    further : (i j : ℕ) → i ≡ suc (suc (suc j)) → at (words-of s ++ ws) i ≡ at ws j
+    further i j e = subst (λ (n : ℕ). at (words-of s ++ ws) n ≡ at ws j) (sym e) refl
+
+not-went : {A : Type 0} {w : List ℕ} {t : State} {n : ℕ} {s : Session} → _≡_ {A = Stepped} (halted n s) (went w t) → A
 not-went e = clash cc
 
 -- By questions 9 and 10.
@@ -44,9 +55,9 @@ module _ (measure : List Bool → ℕ) (space : ℕ) (f : File) where
 
   -- ---- one step
 
-  -- The word of a step is that of the session after it, and then no quote is open; unless it is a quote.
-  abbrev Plain : Stepped → Type 0
-  Plain (went w t) = (w ≡ word-of (t .now)) × (t .quoted ≡ none)
+  -- The words of a step are those of the session after it, and then no quote is open; unless it is a quote.
+  abbrev pub Plain : Stepped → Type 0
+  Plain (went w t) = (w ≡ words-of (t .now)) × (t .quoted ≡ none)
   Plain (halted n s) = Unit {0}
 
   plain-add : (h : ℕ) (st : State) → Plain (add-step measure space f h st)
@@ -68,7 +79,7 @@ module _ (measure : List Bool → ℕ) (space : ℕ) (f : File) where
   plain-take none st = tt
   plain-take (some h) st = plain-add h st
 
-  plain-step : (x : Step) → NoQuote x → (st : State) → Plain (step x st)
+  pub plain-step : (x : Step) → NoQuote x → (st : State) → Plain (step x st)
   plain-step (add h) q st = plain-add h st
   plain-step (restore n) q st = plain-restore (nth (st .past) n) n st
   plain-step (forget n) q st = plain-forget (nth (st .past) n) n st
@@ -77,7 +88,7 @@ module _ (measure : List Bool → ℕ) (space : ℕ) (f : File) where
 
   -- An add whose questions get yes.
   pub add-went : (h : ℕ) (st : State) (k : List Todo) (s : Session) → st .now .waiting ≡ some k → ltb 15 (length (st .past)) ≡ false
-      → add-handle measure space f h (st .now) ≡ added s → add-step measure space f h st ≡ went (word-of s) (record { now = s; past = st .past ++ st .now ∷ []; quoted = none })
+      → add-handle measure space f h (st .now) ≡ added s → add-step measure space f h st ≡ went (words-of s) (record { now = s; past = st .past ++ st .now ∷ []; quoted = none })
   add-went h st k s p q r = λ i. unless-full (p i) (q i) (st .now) (after-add (r i) st)
 
   -- ---- quotes
@@ -126,7 +137,7 @@ module _ (measure : List Bool → ℕ) (space : ℕ) (f : File) where
   as-quote h st (went w t) = went w (opened h st)
   as-quote h st (halted n s) = halted n (st .now)
 
-  -- A QUOTE BY ITS ADD. It has the word of the add or its number, and the session and the sessions before it stay as they were.
+  -- A QUOTE BY ITS ADD. It has the words of the add or its number, and the session and the sessions before it stay as they were.
   pub quote-by-add : (h : ℕ) (st : State) → step (quote h) st ≡ as-quote h st (step (add h) st)
   quote-by-add h st = go (st .now .waiting) (ltb 15 (length (st .past))) (add-handle measure space f h (st .now))
     where
@@ -146,15 +157,15 @@ module _ (measure : List Bool → ℕ) (space : ℕ) (f : File) where
       go (went w t) e = not-went (sym e)
       go (halted m t) e = (cc, (t, cc))
 
-  -- THE TAKING OF A QUOTE. A quote was answered with the word w: then its taking is never refused, has the same word, and leaves what the add would have left
+  -- THE TAKING OF A QUOTE. A quote was answered with the words w: then its taking is never refused, has the same words, and leaves what the add would have left
   -- in the place of the quote.
-  pub record Takes (h : ℕ) (st t : State) (w : ℕ) : Type 0 where
+  pub record Takes (h : ℕ) (st t : State) (w : List ℕ) : Type 0 where
     pub opens : t ≡ opened h st
     pub after : State
     pub taken : step take-quote t ≡ went w after
     pub as-added : step (add h) st ≡ went w after
 
-  pub quote-taken : (h : ℕ) (st t : State) (w : ℕ) → step (quote h) st ≡ went w t → Takes h st t w
+  pub quote-taken : (h : ℕ) (st t : State) (w : List ℕ) → step (quote h) st ≡ went w t → Takes h st t w
   quote-taken h st t w e = go (step (add h) st) refl (sym (quote-by-add h st) ∙ e)
     where
       go : (y : Stepped) → step (add h) st ≡ y → as-quote h st y ≡ went w t → Takes h st t w
@@ -166,24 +177,24 @@ module _ (measure : List Bool → ℕ) (space : ℕ) (f : File) where
           record { opens = sym state-is; after = u; taken = subst (λ (x : State). step take-quote x ≡ went w u) state-is taken; as-added = goes }
 
   -- A DROPPED QUOTE. Any step but a taking comes to what it would have come to without the quote.
-  pub quote-dropped : (x : Step) → x ≢ take-quote → (h : ℕ) (st t : State) (w : ℕ) → step (quote h) st ≡ went w t → step x t ≡ step x st
+  pub quote-dropped : (x : Step) → x ≢ take-quote → (h : ℕ) (st t : State) (w : List ℕ) → step (quote h) st ≡ went w t → step x t ≡ step x st
   quote-dropped x n h st t w e = ap (step x) (quote-taken h st t w e .opens) ∙ open-unseen x n (some h) st
 
-  -- So with all that follows. A quote and its taking are one add, after the quote's word; a quote that is not taken leaves the rest of the run as it is.
-  pub quote-take-run : (h : ℕ) (st t : State) (w : ℕ) (xs : List Step) → step (quote h) st ≡ went w t
-      → run (quote h ∷ take-quote ∷ xs) st ≡ with-word w (run (add h ∷ xs) st)
+  -- So with all that follows. A quote and its taking are one add, after the quote's words; a quote that is not taken leaves the rest of the run as it is.
+  pub quote-take-run : (h : ℕ) (st t : State) (w : List ℕ) (xs : List Step) → step (quote h) st ≡ went w t
+      → run (quote h ∷ take-quote ∷ xs) st ≡ with-words w (run (add h ∷ xs) st)
   unfolding run-steps
   quote-take-run h st t w xs e =
       let k = quote-taken h st t w e in
       ap (λ (y : Stepped). after-step y (λ u. run (take-quote ∷ xs) u)) e
-      ∙ ap (λ (y : Stepped). with-word w (after-step y (λ u. run xs u))) (k .taken ∙ sym (k .as-added))
+      ∙ ap (λ (y : Stepped). with-words w (after-step y (λ u. run xs u))) (k .taken ∙ sym (k .as-added))
 
-  pub quote-drop-run : (h : ℕ) (st t : State) (w : ℕ) (xs : List Step) → IfAny (λ x. x ≢ take-quote) (nth xs 0) → step (quote h) st ≡ went w t
-      → run (quote h ∷ xs) st ≡ with-word w (run xs st)
+  pub quote-drop-run : (h : ℕ) (st t : State) (w : List ℕ) (xs : List Step) → IfAny (λ x. x ≢ take-quote) (nth xs 0) → step (quote h) st ≡ went w t
+      → run (quote h ∷ xs) st ≡ with-words w (run xs st)
   unfolding run-steps
   quote-drop-run h st t w xs n e =
       ap (λ (y : Stepped). after-step y (λ u. run xs u)) e
-      ∙ ap (with-word w) (ap (run xs) (quote-taken h st t w e .opens) ∙ run-unseen xs n (some h) st)
+      ∙ ap (with-words w) (ap (run xs) (quote-taken h st t w e .opens) ∙ run-unseen xs n (some h) st)
 
   -- ---- how a run ends
 
@@ -200,82 +211,104 @@ module _ (measure : List Bool → ℕ) (space : ℕ) (f : File) where
   EndsAt none st n s = (n ≡ 0) × (s ≡ st .now)
   EndsAt (some x) st n s = step x st ≡ halted n s
 
-  -- The finished steps lead to a state, at which no step is left or the next one is refused. Each has one word.
+  -- The words of a step are a session's.
+  abbrev Told : Stepped → Type 0
+  Told (went w t) = (s : Session) × (w ≡ words-of s)
+  Told (halted n s) = Unit {0}
+
+  told-plain : (y : Stepped) → Plain y → Told y
+  told-plain (went w t) p = (t .now, p .0)
+  told-plain (halted n s) p = tt
+
+  told-step : (x : Step) (st : State) → Told (step x st)
+  told-step (add h) st = told-plain (step (add h) st) (plain-step (add h) tt st)
+  told-step (restore n) st = told-plain (step (restore n) st) (plain-step (restore n) tt st)
+  told-step (forget n) st = told-plain (step (forget n) st) (plain-step (forget n) tt st)
+  told-step (quote h) st = subst Told (sym (quote-by-add h st)) (go (step (add h) st) (plain-step (add h) tt st))
+    where
+      go : (y : Stepped) → Plain y → Told (as-quote h st y)
+      go (went w t) p = (t .now, p .0)
+      go (halted n s) p = tt
+  told-step take-quote st = told-plain (step take-quote st) (plain-step take-quote tt st)
+
+  -- The finished steps lead to a state, at which no step is left or the next one is refused. Each has three words.
   pub record Ends (xs : List Step) (st : State) (r : Run) : Type 0 where
     pub reached : State
-    pub few : length (r .words) ≤ length xs
-    pub walked : walk (take (length (r .words)) xs) st ≡ some reached
-    pub ends : EndsAt (nth xs (length (r .words))) reached (r .number) (r .last)
+    pub few : r .steps ≤ length xs
+    pub three : length (r .words) ≡ 3 * r .steps
+    pub walked : walk (take (r .steps) xs) st ≡ some reached
+    pub ends : EndsAt (nth xs (r .steps)) reached (r .number) (r .last)
 
   pub run-ends : (xs : List Step) (st : State) → Ends xs st (run xs st)
   unfolding run-steps
-  run-ends [] st = record { reached = st; few = omega arith; walked = refl; ends = (refl, refl) }
-  run-ends (x ∷ xs) st = go (step x st) refl (λ t. run-ends xs t)
+  run-ends [] st = record { reached = st; few = omega arith; three = omega arith; walked = refl; ends = (refl, refl) }
+  run-ends (x ∷ xs) st = go (step x st) refl (told-step x st) (λ t. run-ends xs t)
     where
-      go : (y : Stepped) → step x st ≡ y → ((t : State) → Ends xs t (run xs t)) → Ends (x ∷ xs) st (after-step y (λ t. run xs t))
-      go (went w t) e ih =
+      go : (y : Stepped) → step x st ≡ y → Told y → ((t : State) → Ends xs t (run xs t)) → Ends (x ∷ xs) st (after-step y (λ t. run xs t))
+      go (went w t) e d ih =
           let m = ih t in
           record {
             reached = m .reached;
             few = omega (arith, m .few);
-            walked = subst (λ (y : Stepped). onto y (walk (take (length (run xs t .words)) xs)) ≡ some (m .reached)) (sym e) (m .walked);
+            three = omega (arith, length-append w (run xs t .words), ap length (d .1), m .three);
+            walked = subst (λ (y : Stepped). onto y (walk (take (run xs t .steps) xs)) ≡ some (m .reached)) (sym e) (m .walked);
             ends = m .ends;
           }
-      go (halted n s) e ih = record { reached = st; few = omega arith; walked = refl; ends = e }
+      go (halted n s) e d ih = record { reached = st; few = omega arith; three = omega arith; walked = refl; ends = e }
 
-  -- A step that is finished: where it starts and where it leads to, and its word.
+  -- A step that is finished: where it starts and where it leads to, and its words.
   pub record Taken (xs : List Step) (st : State) (k : ℕ) (r : Run) : Type 0 where
     pub kind : Step
     pub is : nth xs k ≡ some kind
     pub before : State
     pub after : State
-    pub word : ℕ
-    pub goes : step kind before ≡ went word after
+    pub words : List ℕ
+    pub goes : step kind before ≡ went words after
     pub walked : walk (take k xs) st ≡ some before
     pub onward-to : walk (take (suc k) xs) st ≡ some after
-    pub word-is : at (r .words) k ≡ word
+    pub words-are : words-at (r .words) k ≡ words
 
-  pub run-taken : (xs : List Step) (st : State) (k : ℕ) → k < length (run xs st .words) → Taken xs st k (run xs st)
+  pub run-taken : (xs : List Step) (st : State) (k : ℕ) → k < run xs st .steps → Taken xs st k (run xs st)
   unfolding run-steps
   run-taken [] st k l = absurd (omega arith)
-  run-taken (x ∷ xs) st k l = go (step x st) refl k l (λ t j. run-taken xs t j)
+  run-taken (x ∷ xs) st k l = go (step x st) refl (told-step x st) k l (λ t j. run-taken xs t j)
     where
-      go : (y : Stepped) → step x st ≡ y → (k : ℕ) → k < length (after-step y (λ t. run xs t) .words)
-          → ((t : State) (j : ℕ) → j < length (run xs t .words) → Taken xs t j (run xs t)) → Taken (x ∷ xs) st k (after-step y (λ t. run xs t))
-      go (halted n s) e k l ih = absurd (omega arith)
-      go (went w t) e zero l ih =
+      go : (y : Stepped) → step x st ≡ y → Told y → (k : ℕ) → k < after-step y (λ t. run xs t) .steps
+          → ((t : State) (j : ℕ) → j < run xs t .steps → Taken xs t j (run xs t)) → Taken (x ∷ xs) st k (after-step y (λ t. run xs t))
+      go (halted n s) e d k l ih = absurd (omega arith)
+      go (went w t) e d zero l ih =
           record {
             kind = x;
             is = refl;
             before = st;
             after = t;
-            word = w;
+            words = w;
             goes = e;
             walked = refl;
             onward-to = subst (λ (y : Stepped). onto y (walk []) ≡ some t) (sym e) refl;
-            word-is = refl;
+            words-are = subst (λ (v : List ℕ). words-at (v ++ run xs t .words) 0 ≡ v) (sym (d .1)) refl;
           }
-      go (went w t) e (suc k) l ih =
+      go (went w t) e d (suc k) l ih =
           let m = ih t k (omega arith) in
           record {
             kind = m .kind;
             is = m .is;
             before = m .before;
             after = m .after;
-            word = m .word;
+            words = m .words;
             goes = m .goes;
             walked = subst (λ (y : Stepped). onto y (walk (take k xs)) ≡ some (m .before)) (sym e) (m .walked);
             onward-to = subst (λ (y : Stepped). onto y (walk (take (suc k) xs)) ≡ some (m .after)) (sym e) (m .onward-to);
-            word-is = m .word-is;
+            words-are = ap (λ (v : List ℕ). words-at (v ++ run xs t .words) (suc k)) (d .1) ∙ words-later (d .0) (run xs t .words) k ∙ m .words-are;
           }
 
   -- ---- what holds of every state that is reached
 
-  abbrev Goes : (State → Type 0) → Stepped → Type 0
+  abbrev pub Goes : (State → Type 0) → Stepped → Type 0
   Goes P (went w t) = P t
   Goes P (halted n s) = Unit {0}
 
-  walk-keeps : (P : State → Type 0) → ((x : Step) (st : State) → P st → Goes P (step x st)) → (xs : List Step) (st t : State) → P st → walk xs st ≡ some t → P t
+  pub walk-keeps : (P : State → Type 0) → ((x : Step) (st : State) → P st → Goes P (step x st)) → (xs : List Step) (st t : State) → P st → walk xs st ≡ some t → P t
   walk-keeps P g [] st t p e = subst P (Option·some-injective st t e) p
   walk-keeps P g (x ∷ xs) st t p e = go (step x st) (g x st p) e (λ u. walk-keeps P g xs u t)
     where
@@ -284,8 +317,8 @@ module _ (measure : List Bool → ℕ) (space : ℕ) (f : File) where
       go (halted n s) q e ih = absurd (Option·none-ne-some t e)
 
   -- The add of the open quote would not be refused.
-  abbrev Answered : State → Type 0
-  Answered st = (h : ℕ) → st .quoted ≡ some h → (w : ℕ) × (t : State) × (add-step measure space f h st ≡ went w t)
+  abbrev pub Answered : State → Type 0
+  Answered st = (h : ℕ) → st .quoted ≡ some h → (w : List ℕ) × (t : State) × (add-step measure space f h st ≡ went w t)
 
   none-open : (y : Stepped) → Plain y → Goes Answered y
   none-open (went w t) p = λ h q. absurd (Option·none-ne-some h (sym (p .1) ∙ q))
@@ -304,7 +337,7 @@ module _ (measure : List Bool → ℕ) (space : ℕ) (f : File) where
       go (halted n s) e = tt
   answered-step take-quote st = none-open (step take-quote st) (plain-step take-quote tt st)
 
-  reached-answered : (xs : List Step) (st : State) → walk xs at-start ≡ some st → Answered st
+  pub reached-answered : (xs : List Step) (st : State) → walk xs at-start ≡ some st → Answered st
   reached-answered xs st e = walk-keeps Answered (λ x u p. answered-step x u) xs at-start st (λ h q. absurd (Option·none-ne-some h q)) e
 
   take-refused : (st : State) (n : ℕ) (s : Session) → Answered st → step take-quote st ≡ halted n s → (n ≡ 17) × (st .quoted ≡ none) × (s ≡ st .now)
@@ -455,7 +488,7 @@ module _ (measure : List Bool → ℕ) (space : ℕ) (f : File) where
 
   -- A run of so many steps that none refuses, up to the session s.
   pub record Through (n : ℕ) (s : Session) (r : Run) : Type 0 where
-    pub steps-are : length (r .words) ≡ n
+    pub steps-are : r .steps ≡ n
     pub number-is : r .number ≡ 0
     pub last-is : r .last ≡ s
 
@@ -491,10 +524,10 @@ module _ (measure : List Bool → ℕ) (space : ℕ) (f : File) where
       adds-run (survivors xs) at-start (t .now) (h .now-is) (omega (arith, h .long, walk-keeps Few few-step xs at-start t (omega arith) e))
 
   -- A refused step leaves the session, unless it is an add that 12 or 13 refused.
-  abbrev Leaves : Step → State → ℕ → Session → Type 0
+  abbrev pub Leaves : Step → State → ℕ → Session → Type 0
   Leaves x st n s = (s ≡ st .now) ⊎ ((h : ℕ) × (x ≡ add h) × (add-handle measure space f h (st .now) ≡ turned-down n s))
 
-  refused-leaves : (x : Step) (st : State) (n : ℕ) (s : Session) → Answered st → step x st ≡ halted n s → Leaves x st n s
+  pub refused-leaves : (x : Step) (st : State) (n : ℕ) (s : Session) → Answered st → step x st ≡ halted n s → Leaves x st n s
   refused-leaves (add h) st n s a = go (st .now .waiting) (ltb 15 (length (st .past))) (add-handle measure space f h (st .now)) refl
     where
       go : (o : Option (List Todo)) (full : Bool) (b : Added) → add-handle measure space f h (st .now) ≡ b
@@ -519,32 +552,32 @@ module _ (measure : List Bool → ℕ) (space : ℕ) (f : File) where
   -- A run whose finished steps have no `02` among them ends in the session of the adds that survive them; or within the next add, which 12 or 13 refused,
   -- with the whole items written.
   pub data Survived (xs : List Step) (r : Run) : Type 0 where
-    whole : adds-of (survivors (take (length (r .words)) xs)) ≡ added (r .last) → Survived xs r
-    within : (h : ℕ) → nth xs (length (r .words)) ≡ some (add h) → adds-of (survivors (take (length (r .words)) xs) ++ h ∷ []) ≡ turned-down (r .number) (r .last)
+    whole : adds-of (survivors (take (r .steps) xs)) ≡ added (r .last) → Survived xs r
+    within : (h : ℕ) → nth xs (r .steps) ≡ some (add h) → adds-of (survivors (take (r .steps) xs) ++ h ∷ []) ≡ turned-down (r .number) (r .last)
         → Survived xs r
 
-  pub run-survives : (xs : List Step) → All NoRestore (take (length (run xs at-start .words)) xs) → Survived xs (run xs at-start)
+  pub run-survives : (xs : List Step) → All NoRestore (take (run xs at-start .steps) xs) → Survived xs (run xs at-start)
   run-survives xs n = go (run xs at-start) (run-ends xs at-start) n
     where
-      go : (r : Run) (m : Ends xs at-start r) → All NoRestore (take (length (r .words)) xs) → Survived xs r
-      go r m n = by-step (nth xs (length (r .words))) refl (m .ends)
+      go : (r : Run) (m : Ends xs at-start r) → All NoRestore (take (r .steps) xs) → Survived xs r
+      go r m n = by-step (nth xs (r .steps)) refl (m .ends)
         where
-          hist : History (survivors (take (length (r .words)) xs)) (m .reached)
-          hist = walked-history (take (length (r .words)) xs) (m .reached) n (m .walked)
+          hist : History (survivors (take (r .steps) xs)) (m .reached)
+          hist = walked-history (take (r .steps) xs) (m .reached) n (m .walked)
 
           same : r .last ≡ m .reached .now → Survived xs r
           same e = whole (hist .now-is ∙ ap added (sym e))
 
-          by-leaves : (x : Step) → nth xs (length (r .words)) ≡ some x → Leaves x (m .reached) (r .number) (r .last) → Survived xs r
+          by-leaves : (x : Step) → nth xs (r .steps) ≡ some x → Leaves x (m .reached) (r .number) (r .last) → Survived xs r
           by-leaves x q (inl e) = same e
           by-leaves x q (inr (h, e, t)) =
-              within h (q ∙ ap some e) (one-more (survivors (take (length (r .words)) xs)) h (m .reached .now) (turned-down (r .number) (r .last)) (hist .now-is) t)
+              within h (q ∙ ap some e) (one-more (survivors (take (r .steps) xs)) h (m .reached .now) (turned-down (r .number) (r .last)) (hist .now-is) t)
 
-          by-step : (o : Option Step) → nth xs (length (r .words)) ≡ o → EndsAt o (m .reached) (r .number) (r .last) → Survived xs r
+          by-step : (o : Option Step) → nth xs (r .steps) ≡ o → EndsAt o (m .reached) (r .number) (r .last) → Survived xs r
           by-step none q e = same (e .1)
           by-step (some x) q e =
               by-leaves x q
-              (refused-leaves x (m .reached) (r .number) (r .last) (reached-answered (take (length (r .words)) xs) (m .reached) (m .walked)) e)
+              (refused-leaves x (m .reached) (r .number) (r .last) (reached-answered (take (r .steps) xs) (m .reached) (m .walked)) e)
 
   -- ---- a finished session
 
@@ -588,25 +621,25 @@ module _ (measure : List Bool → ℕ) (space : ℕ) (f : File) where
       let z : finished-bit (s .waiting) ≡ 0 = ap finished-bit e in
       absurd (omega arith)
 
-  -- A step that is no quote, whose word says finished.
-  finishes : (xs : List Step) (st : State) (k : ℕ) (r : Run) → IfAny NoQuote (nth xs k) → at (r .words) k % 2 ≡ 1 → (t : Taken xs st k r)
-      → NothingOpen (t .after) × (at (r .words) k ≡ word-of (t .after .now))
+  -- A step that is no quote, whose first word says finished.
+  finishes : (xs : List Step) (st : State) (k : ℕ) (r : Run) → IfAny NoQuote (nth xs k) → at (r .words) (3 * k) % 2 ≡ 1 → (t : Taken xs st k r)
+      → NothingOpen (t .after) × (at (r .words) (3 * k) ≡ word-of (t .after .now))
   finishes xs st k r q odd t =
-      let plain : Plain (went (t .word) (t .after)) = subst Plain (t .goes) (plain-step (t .kind) (subst (IfAny NoQuote) (t .is) q) (t .before)) in
-      let word : at (r .words) k ≡ word-of (t .after .now) = t .word-is ∙ plain .0 in
+      let plain : Plain (went (t .words) (t .after)) = subst Plain (t .goes) (plain-step (t .kind) (subst (IfAny NoQuote) (t .is) q) (t .before)) in
+      let word : at (r .words) (3 * k) ≡ word-of (t .after .now) = ap (λ (l : List ℕ). at l 0) (t .words-are ∙ plain .0) in
       ((odd-waits (t .after .now) (t .after .now .waiting) refl (ap (λ (n : ℕ). n % 2) (sym word) ∙ odd), plain .1), word)
 
-  -- THE FINISH. The last step taken is no quote, and its word says finished: then the session at the end of the run is finished, the word has its size, and the
+  -- THE FINISH. The last step taken is no quote, and its first word says finished: then the session at the end of the run is finished, that word has its size, and the
   -- number is that of the next step.
   pub record Finish (xs : List Step) (k : ℕ) (r : Run) : Type 0 where
     pub reached : State
     pub walked : walk (take (suc k) xs) at-start ≡ some reached
     pub last-is : r .last ≡ reached .now
     pub is-finished : r .last .waiting ≡ none
-    pub word-is : at (r .words) k ≡ size-of (r .last .written .items) * 2 + 1
+    pub word-is : at (r .words) (3 * k) ≡ size-of (r .last .written .items) * 2 + 1
     pub number-is : r .number ≡ number-after-finish (nth xs (suc k))
 
-  pub run-finish : (xs : List Step) (k : ℕ) → suc k ≡ length (run xs at-start .words) → IfAny NoQuote (nth xs k) → at (run xs at-start .words) k % 2 ≡ 1
+  pub run-finish : (xs : List Step) (k : ℕ) → suc k ≡ run xs at-start .steps → IfAny NoQuote (nth xs k) → at (run xs at-start .words) (3 * k) % 2 ≡ 1
       → Finish xs k (run xs at-start)
   run-finish xs k l q odd = go (run xs at-start) l odd (run-ends xs at-start) (run-taken xs at-start k (omega arith))
     where
@@ -614,14 +647,14 @@ module _ (measure : List Bool → ℕ) (space : ℕ) (f : File) where
       ends-so none st n s w e = (e .1, e .0)
       ends-so (some x) st n s w e = finished-halts x st n s w e
 
-      go : (r : Run) → suc k ≡ length (r .words) → at (r .words) k % 2 ≡ 1 → Ends xs at-start r → Taken xs at-start k r → Finish xs k r
+      go : (r : Run) → suc k ≡ r .steps → at (r .words) (3 * k) % 2 ≡ 1 → Ends xs at-start r → Taken xs at-start k r → Finish xs k r
       go r l odd m t =
           let w = finishes xs at-start k r q odd t in
           let there : walk (take (suc k) xs) at-start ≡ some (m .reached) = ap (λ (n : ℕ). walk (take n xs) at-start) l ∙ m .walked in
           let same : m .reached ≡ t .after = Option·some-injective (m .reached) (t .after) (sym there ∙ t .onward-to) in
           let e = ends-so (nth xs (suc k)) (t .after) (r .number) (r .last) (w .0)
           (subst (λ (n : ℕ). EndsAt (nth xs n) (t .after) (r .number) (r .last)) (sym l)
-          (subst (λ (v : State). EndsAt (nth xs (length (r .words))) v (r .number) (r .last)) same (m .ends))) in
+          (subst (λ (v : State). EndsAt (nth xs (r .steps)) v (r .number) (r .last)) same (m .ends))) in
           let waits : r .last .waiting ≡ none = ap (λ (s : Session). s .waiting) (e .0) ∙ w .0 .0 in
           record {
             reached = t .after;
@@ -632,10 +665,10 @@ module _ (measure : List Bool → ℕ) (space : ℕ) (f : File) where
             number-is = e .1;
           }
 
-  -- Where no undo comes next, the step whose word says finished is the last one taken.
-  pub finish-last : (xs : List Step) (k : ℕ) → k < length (run xs at-start .words) → IfAny NoQuote (nth xs k) → at (run xs at-start .words) k % 2 ≡ 1
-      → IfAny NoUndo (nth xs (suc k)) → suc k ≡ length (run xs at-start .words)
-  finish-last xs k l q odd u = by-eq (suc k) (length (run xs at-start .words)) l (λ h. go (run-taken xs at-start (suc k) h))
+  -- Where no undo comes next, the step whose first word says finished is the last one taken.
+  pub finish-last : (xs : List Step) (k : ℕ) → k < run xs at-start .steps → IfAny NoQuote (nth xs k) → at (run xs at-start .words) (3 * k) % 2 ≡ 1
+      → IfAny NoUndo (nth xs (suc k)) → suc k ≡ run xs at-start .steps
+  finish-last xs k l q odd u = by-eq (suc k) (run xs at-start .steps) l (λ h. go (run-taken xs at-start (suc k) h))
     where
       by-eq : (a b : ℕ) → a ≤ b → (a < b → ⊥) → a ≡ b
       by-eq a b l n = by-lt a b (λ h. absurd (n h)) (λ h. omega arith)
@@ -646,4 +679,4 @@ module _ (measure : List Bool → ℕ) (space : ℕ) (f : File) where
           let w = finishes xs at-start k (run xs at-start) q odd t in
           let same : s .before ≡ t .after = Option·some-injective (s .before) (t .after) (sym (s .walked) ∙ t .onward-to) in
           not-went (sym (finished-refuses (s .kind) (t .after) (subst (IfAny NoUndo) (s .is) u) (w .0))
-          ∙ subst (λ (v : State). step (s .kind) v ≡ went (s .word) (s .after)) same (s .goes))
+          ∙ subst (λ (v : State). step (s .kind) v ≡ went (s .words) (s .after)) same (s .goes))

@@ -1,4 +1,4 @@
--- The steps of a session: 9 to 13 and 17, undo, quotes, and the word of each finished step.
+-- The steps of a session: 9 to 13 and 17, undo, quotes, and the words of each finished step.
 use Prim.Native.Nat.{ℕ, suc, _+_, _*_}
 use mathlib.Core.Bool.{Bool, true, false, cond}
 use mathlib.Core.List.{List, [], _∷_, _++_}
@@ -7,7 +7,7 @@ use lib.Dec.{ltb}
 use lib.ListN.{length, take}
 use Rattle.spec_session.specs.File.{File, Step, add, restore, forget, quote, take-quote}
 use Rattle.spec_session.specs.Unfold.{unfolded}
-use Rattle.spec_session.specs.Items.{Item, cons-item, atom-item, reference-item, item-size, size-of}
+use Rattle.spec_session.specs.Items.{Item, cons-item, atom-item, reference-item, item-size, size-of, references, prefix-bytes}
 use Rattle.spec_session.specs.Writer.{Todo, parse, close, Session, start, Added, added, turned-down, add-tree}
 use Rattle.spec_session.specs.Trees.{nth}
 use Rattle.spec_session.specs.FindPath.{find-in}
@@ -34,9 +34,13 @@ abbrev pub finished-bit : Option (List Todo) → ℕ
 finished-bit none = 1
 finished-bit (some k) = 0
 
--- A step's word: the size times 2, and 1 more where the session is finished.
+-- The size times 2, and 1 more where the session is finished.
 abbrev pub word-of : Session → ℕ
 word-of s = size-of (s .written .items) * 2 + finished-bit (s .waiting)
+
+-- "A step now writes three words: the old one, references written so far, and prefix bytes so far, paths included."
+abbrev pub words-of : Session → List ℕ
+words-of s = word-of s ∷ references (s .written .items) ∷ prefix-bytes (s .written .items) ∷ []
 
 -- ---- undo
 
@@ -68,8 +72,8 @@ abbrev pub at-start : State
 at-start = record { now = start; past = []; quoted = none }
 
 pub data Stepped : Type 0 where
-  -- The step is finished, with this word.
-  went : (word : ℕ) → State → Stepped
+  -- The step is finished, with these words.
+  went : (words : List ℕ) → State → Stepped
   -- It is refused, and the run ends with this session.
   halted : (number : ℕ) → Session → Stepped
 
@@ -81,18 +85,18 @@ unless-full (some k) false s x = x
 
 -- An add that 12 or 13 refuses leaves the whole items written.
 abbrev pub after-add : Added → State → Stepped
-after-add (added t) st = went (word-of t) (record { now = t; past = st .past ++ st .now ∷ []; quoted = none })
+after-add (added t) st = went (words-of t) (record { now = t; past = st .past ++ st .now ∷ []; quoted = none })
 after-add (turned-down n t) st = halted n t
 
 -- "Step `04` with a handle writes the word an add would write and leaves the session and output unchanged." "Numbers 9, 10, 12 and 13 are given at the quote,
 -- and output and size are then those before it."
 abbrev pub after-quote : (handle : ℕ) → Added → State → Stepped
-after-quote h (added t) st = went (word-of t) (record { now = st .now; past = st .past; quoted = some h })
+after-quote h (added t) st = went (words-of t) (record { now = st .now; past = st .past; quoted = some h })
 after-quote h (turned-down n t) st = halted n (st .now)
 
 -- The session b comes back, which stood before add n.
 abbrev pub back-to : Session → (n : ℕ) → State → Stepped
-back-to b n st = went (word-of b) (record { now = b; past = take n (st .past); quoted = none })
+back-to b n st = went (words-of b) (record { now = b; past = take n (st .past); quoted = none })
 
 -- Question 11: is the restore number below the count of adds on the present history?
 abbrev pub after-restore : Option Session → (n : ℕ) → State → Stepped
@@ -134,20 +138,21 @@ module _ (measure : List Bool → ℕ) (space : ℕ) (f : File) where
 
 -- ---- the steps
 
--- The words of the finished steps, the number (0 where none is refused), and the session at the end.
+-- The words of the finished steps, three for each, and how many steps they are; the number (0 where none is refused), and the session at the end.
 pub record Run : Type 0 where
   pub words : List ℕ
+  pub steps : ℕ
   pub number : ℕ
   pub last : Session
 
 abbrev pub stop-at : ℕ → Session → Run
-stop-at n s = record { words = []; number = n; last = s }
+stop-at n s = record { words = []; steps = 0; number = n; last = s }
 
-abbrev pub with-word : ℕ → Run → Run
-with-word w r = record { words = w ∷ r .words; number = r .number; last = r .last }
+abbrev pub with-words : List ℕ → Run → Run
+with-words ws r = record { words = ws ++ r .words; steps = suc (r .steps); number = r .number; last = r .last }
 
 abbrev pub after-step : Stepped → (State → Run) → Run
-after-step (went w st) next = with-word w (next st)
+after-step (went ws st) next = with-words ws (next st)
 after-step (halted n s) next = stop-at n s
 
 -- The steps from a state on.
