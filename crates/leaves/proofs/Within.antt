@@ -40,7 +40,7 @@ put-within out p (some bytes) n e = go (ltb (length out) (p + length bytes)) ref
         omega arith
 
 -- The same of the code's answer.
-pub written-within : (out out′ : List ℕ) (p : ℕ) (bytes : Option (List ℕ)) (r : WriteAtom) (n : ℕ) → r ≡ Next n
+pub written-within : (out out′ : List ℕ) (p : ℕ) (bytes : Option (List ℕ)) (r : WriteAtom) (n width : ℕ) → r ≡ Next n width
     → written r out′ ≡ put out p bytes → length out′ ≡ length out → n ≤ length out′
-written-within out out′ p bytes r n e w l =
+written-within out out′ p bytes r n width e w l =
     omega (arith, put-within out p bytes n (ap (λ (x : Written). x .answer) (sym w ∙ ap (λ (x : WriteAtom). written x out′) e)))

@@ -16,7 +16,7 @@ const MAX_WRITTEN: usize = 65538;
 fn written(payload: &[u8]) -> bool {
     let mut output = [0u8; MAX_WRITTEN];
     match atom_encode::write_atom::write_atom(&mut output, 0, payload) {
-        WriteAtom::Next(n) => {
+        WriteAtom::Next(n, _) => {
             text::hex(&output[..n]);
             true
         }

@@ -1,22 +1,22 @@
-// One item of a session's output, as incremental.rs writes it: `ff` or an atom. `output` is the usable part of the output, of which `size` bytes
+// One item of a session's output, as incremental.rs writes it: `ff` or an atom. `output` is the usable part of the output, of which `counts.size` bytes
 // are used. An item that does not fit whole leaves the output as it is (question 13).
 pub mod write_reference;
 
 use allocator::small_atom;
 use atom_encode::write_atom::WriteAtom;
+use write_counts::Counts;
 ghost use mathlib.Core.Path.{_≡_};
-ghost use mathlib.Core.Option.{some};
 ghost use Prim.Native.Nat.{_+_, _^_, _<_};
 ghost use lib.Dec.{leb};
 ghost use lib.ListN.{length};
-ghost use Rattle.atom.specs.Write.{put};
 ghost use Rattle.allocator.specs.SmallAtom.{«small-bytes»};
-ghost use Rattle.spec_session.specs.Items.{«cons-item», «atom-item», «item-bytes»};
-ghost use Rattle.write_item.specs.Answers.{written};
+ghost use Rattle.spec_session.specs.Items.{«cons-item», «atom-item»};
+ghost use Rattle.write_counts.specs.Counts.{Bounded};
+ghost use Rattle.write_item.specs.Answers.{ItemPut};
 
-// Where the next item goes; that the output has no room for the whole item.
+// What is counted with the item; that the output has no room for the whole item.
 pub enum Put {
-    Next(usize),
+    Next(Counts),
     Full,
 }
 
@@ -31,23 +31,24 @@ pub fn fits(room: usize, size: usize, count: usize) -> bool
 }
 
 // A pair's mark.
-pub fn write_cons(output: &mut [u8], size: usize) -> Put
-    ensures { λ r. ⌜ written r (now (output .exit)) ≡ put (now (output .entry)) size (some («item-bytes» «cons-item»)) ⌝ }
+pub fn write_cons(output: &mut [u8], counts: Counts) -> Put
+    ensures { λ r. ⌜ ItemPut (now (output .entry)) (now (output .exit)) counts «cons-item» r ⌝ }
 {
+    let size = counts.size;
     if !fits(output.len(), size, 1) {
         return Put::Full;
     }
     output[size] = atom::CONS_BOX_MARKER;
-    Put::Next(size + 1)
+    Put::Next(write_counts::with_cons(counts, size + 1))
 }
 
 // An atom of the file, which is a part of the file.
-pub fn write_listed(output: &mut [u8], size: usize, blob: &[u8]) -> Put
-    requires { ⌜ length (now blob) < 2 ^ 34 ⌝ }
-    ensures { λ r. ⌜ written r (now (output .exit)) ≡ put (now (output .entry)) size (some («item-bytes» («atom-item» (now (blob .entry))))) ⌝ }
+pub fn write_listed(output: &mut [u8], counts: Counts, blob: &[u8]) -> Put
+    requires { ⌜ (Bounded counts) × (length (now blob) < 2 ^ 34) ⌝ }
+    ensures { λ r. ⌜ ItemPut (now (output .entry)) (now (output .exit)) counts («atom-item» (now (blob .entry))) r ⌝ }
 {
-    match atom_encode::write_atom::write_atom(output, size, blob) {
-        WriteAtom::Next(next) => Put::Next(next),
+    match atom_encode::write_atom::write_atom(output, counts.size, blob) {
+        WriteAtom::Next(next, width) => Put::Next(write_counts::with_atom(counts, next, width)),
         WriteAtom::Full => Put::Full,
         // Never: a prefix holds the size.
         WriteAtom::TooLong => Put::Full,
@@ -55,12 +56,12 @@ pub fn write_listed(output: &mut [u8], size: usize, blob: &[u8]) -> Put
 }
 
 // A small atom, which has no bytes in the file.
-pub fn write_small(output: &mut [u8], size: usize, value: u32) -> Put
-    requires { ⌜ value < 2 ^ 26 ⌝ }
-    ensures { λ r. ⌜ written r (now (output .exit)) ≡ put (now (output .entry)) size (some («item-bytes» («atom-item» («small-bytes» value)))) ⌝ }
+pub fn write_small(output: &mut [u8], counts: Counts, value: u32) -> Put
+    requires { ⌜ (Bounded counts) × (value < 2 ^ 26) ⌝ }
+    ensures { λ r. ⌜ ItemPut (now (output .entry)) (now (output .exit)) counts («atom-item» («small-bytes» value)) r ⌝ }
 {
     let small = small_atom::small_atom_bytes(value);
     let bytes = small.bytes;
     let len = small.len;
-    write_listed(output, size, small_atom::as_ref(&bytes, len))
+    write_listed(output, counts, small_atom::as_ref(&bytes, len))
 }

@@ -1,7 +1,8 @@
 // A reference into a session's output, as incremental.rs writes it: `fe` and the path's atom. `output` is the usable part of the output, of which
-// `size` bytes are used. A reference that does not fit whole leaves the output as it is (question 13).
+// `counts.size` bytes are used. A reference that does not fit whole leaves the output as it is (question 13).
 use crate::Put;
 use atom_encode::write_prefix;
+use write_counts::Counts;
 ghost use mathlib.Core.Path.{_≡_};
 ghost use mathlib.Core.Bool.{Bool, true};
 ghost use mathlib.Core.List.{List, [], _∷_, _++_};
@@ -11,12 +12,12 @@ ghost use lib.ListN.{length, set};
 ghost use lib.Seq.{paste};
 ghost use Rattle.words.specs.Words.{WORK};
 ghost use Rattle.atom.specs.Prefix.{prefix, «prefix-width»};
-ghost use Rattle.atom.specs.Write.{put};
 ghost use Rattle.path.specs.Bytes.{«path-bytes»};
 ghost use Rattle.spec_search.specs.PathBits.{Ends};
 ghost use Rattle.search_list.specs.State.{Readable, «path-at»};
-ghost use Rattle.spec_session.specs.Items.{«reference-item», «item-bytes»};
-ghost use Rattle.write_item.specs.Answers.{written};
+ghost use Rattle.spec_session.specs.Items.{«reference-item»};
+ghost use Rattle.write_counts.specs.Counts.{Bounded};
+ghost use Rattle.write_item.specs.Answers.{ItemPut};
 
 // How many bits the path at a slot has.
 fn path_bits(work: &[u32], slot: usize) -> usize
@@ -79,12 +80,13 @@ fn put_reference(
 }
 
 // A reference to the path at a slot, whose first bit is set.
-pub fn write_reference(work: &[u32], slot: usize, output: &mut [u8], size: usize) -> Put
-    requires { ⌜ (WORK ≤ length (now work)) × (Readable (now work) slot) × (Ends («path-at» (now work) slot)) ⌝ }
+pub fn write_reference(work: &[u32], slot: usize, output: &mut [u8], counts: Counts) -> Put
+    requires { ⌜ (WORK ≤ length (now work)) × (Readable (now work) slot) × (Ends («path-at» (now work) slot)) × (Bounded counts) ⌝ }
     ensures { λ r. ⌜
         ((path : List Bool) → «path-at» (now (work .entry)) slot ≡ path ++ true ∷ []
-        → written r (now (output .exit)) ≡ put (now (output .entry)) size (some («item-bytes» («reference-item» path)))) ⌝ }
+        → ItemPut (now (output .entry)) (now (output .exit)) counts («reference-item» path) r) ⌝ }
 {
+    let size = counts.size;
     let bits = path_bits(work, slot);
     let width = path_width(bits);
     let count = (bits + 7) / 8;
@@ -93,5 +95,5 @@ pub fn write_reference(work: &[u32], slot: usize, output: &mut [u8], size: usize
         return Put::Full;
     }
     put_reference(work, slot, output, size, width, count);
-    Put::Next(size + total)
+    Put::Next(write_counts::with_reference(counts, size + total, width))
 }

@@ -2,16 +2,14 @@
 use Prim.Native.Nat.{ℕ, _+_, _-_, _*_, _^_, _≤_, _<_}
 use mathlib.Core.Path.{_≡_}
 use mathlib.Core.List.{List, _∷_}
-use mathlib.Core.Option.{some}
 use lib.ListN.{length, take}
 use Rattle.words.specs.Words.{at}
-use Rattle.atom.specs.Write.{put}
 use Rattle.path.specs.Measure.{counted}
 use Rattle.allocator.specs.Handle.{node-of}
 use Rattle.spec_session.specs.File.{File}
 use Rattle.spec_session.specs.Unfold.{unfolded}
 use Rattle.spec_session.specs.Cache.{Cache}
-use Rattle.spec_session.specs.Items.{atom-item, item-bytes}
+use Rattle.spec_session.specs.Items.{atom-item}
 use Rattle.spec_session.specs.Writer as session
 use Rattle.spec_session.specs.Writer.{Todo, parse, Written, resume}
 use Rattle.spec_session.specs.Steps.{room-in}
@@ -19,9 +17,10 @@ use Rattle.spec_session.specs.FindPath.{find-in}
 use Rattle.work_layout.specs.Layout.{PAIR-COUNT, SENTINEL}
 use Rattle.search_find.specs.declared.find_path.Path.{Path}
 use Rattle.cache_stack.specs.Contracts.{PushedMarked, PoppedTwo}
+use Rattle.write_counts.specs.declared.Counts.{Counts}
 use Rattle.write_item.specs.declared.Put.{Put}
 use Rattle.write_item.specs.declared.Put.the-variants as put-variants
-use Rattle.write_item.specs.Answers.{written}
+use Rattle.write_item.specs.Answers.{ItemPut}
 use Rattle.cache_entries.specs.Meaning.{bytes-named, Tables, Names}
 use Rattle.cache_entries.specs.lookup.Contracts.{PairEntry, EntryOf}
 use Rattle.search_find.specs.Contracts.{LengthOf, FindsIn}
@@ -43,7 +42,7 @@ place-of (Refused n p) = p
 
 -- The words are sound at a place.
 abbrev pub Runs : (w out : List ℕ) → Place → (values : ℕ) → Type 0
-Runs w out p v = Running w out (p .opens) (p .depth) (p .size) v
+Runs w out p v = Running w out (p .opens) (p .depth) (p .counts) v
 
 -- A node comes next, or a value was written and is on the stack. At the end no pair is open.
 abbrev pub Fine : (w out : List ℕ) → Next → Type 0
@@ -70,23 +69,23 @@ comes-to f c space w (Refused n p) s = session.refused n s
 -- What is written is now this, and the outcome is that of what comes next.
 pub record Leads (f : File) (c : Cache) (space : ℕ) (w out : List ℕ) (r : Next) (o : session.Outcome) : Type 0 where
   pub last : Written
-  pub writes : Writes f w out (place-of r .depth) (place-of r .size) c last
+  pub writes : Writes f w out (place-of r .depth) (place-of r .counts) c last
   pub same : o ≡ comes-to f c space w r last
 
 -- From b on, r comes next.
 pub record Turns (file w w′ out out′ : List ℕ) (b r : Next) : Type 0 where
   pub fine : Fine w′ out′ r
   pub only : WriterOnly w w′
-  pub grows : place-of b .size ≤ place-of r .size
+  pub grows : place-of b .counts .size ≤ place-of r .counts .size
   -- The bytes written before stay.
-  pub before : take (place-of b .size) out′ ≡ take (place-of b .size) out
-  pub leads : (f : File) (c : Cache) (s : Written) → Tables f w → AtomsThere file f w → Writes f w out (place-of b .depth) (place-of b .size) c s
+  pub before : take (place-of b .counts .size) out′ ≡ take (place-of b .counts .size) out
+  pub leads : (f : File) (c : Cache) (s : Written) → Tables f w → AtomsThere file f w → Writes f w out (place-of b .depth) (place-of b .counts) c s
       → Leads f c (length out) w′ out′ r (comes-to f c (length out) w b s)
 
 -- How far the loop is from its end: a byte at least is written for each node, and 4,096 pairs at most are closed after it.
 abbrev pub ahead : (space : ℕ) → Next → ℕ
-ahead space (Parse p h) = (space - p .size) * 4098 + 1
-ahead space (Close p) = (space - p .size) * 4098 + p .opens + 2
+ahead space (Parse p h) = (space - p .counts .size) * 4098 + 1
+ahead space (Close p) = (space - p .counts .size) * 4098 + p .opens + 2
 ahead space (Done p) = 0
 ahead space (Stopped p) = 0
 ahead space (Refused n p) = 0
@@ -105,11 +104,11 @@ pub record Found (w out : List ℕ) (p : Place) (h e : ℕ) (path : Path) : Type
   pub finds : FindsIn w w (p .depth) h e path
 
 -- The bytes of the atom h were put into the output.
-pub record AtomPut (file w : List ℕ) (h : ℕ) (out out′ : List ℕ) (size : ℕ) (r : Put) : Type 0 where
+pub record AtomPut (file w : List ℕ) (h : ℕ) (out out′ : List ℕ) (counts : Counts) (r : Put) : Type 0 where
   pub bytes : List ℕ
   pub short : length bytes < 2 ^ 34
   pub are : (f : File) → Tables f w → AtomsThere file f w → bytes-named f (node-of h) ≡ bytes
-  pub answer : written r out′ ≡ put out size (some (item-bytes (atom-item bytes)))
+  pub answer : ItemPut out out′ counts (atom-item bytes) r
 
 -- Entry e goes on the stack, and is marked written where its length is at least 4.
 pub record Stacks (w w′ : List ℕ) (d e : ℕ) : Type 0 where
@@ -119,7 +118,7 @@ pub record Stacks (w w′ : List ℕ) (d e : ℕ) : Type 0 where
 
 -- After an item for a whole subtree of entry e: the entry goes on the stack, or question 13 gets no.
 abbrev pub Pushes : (w w′ : List ℕ) → Place → (e : ℕ) → Put → Next → Type 0
-Pushes w w′ p e (put-variants.Next n) r = (r ≡ Close (record { opens = p .opens; depth = p .depth + 1; size = n })) × Stacks w w′ (p .depth) e
+Pushes w w′ p e (put-variants.Next n) r = (r ≡ Close (record { opens = p .opens; depth = p .depth + 1; counts = n })) × Stacks w w′ (p .depth) e
 Pushes w w′ p e put-variants.Full r = (r ≡ Refused 13 p) × (w′ ≡ w)
 
 -- The two topmost entries go, and that of pair i comes.

@@ -37,7 +37,7 @@ fn write_full(
     if node.is_pair() {
         return open_pairs::open_pair(work, output, place, node, e);
     }
-    let item = write_turn::write_atom(work, file, output, place.size, node);
+    let item = write_turn::write_atom(work, file, output, place.counts, node);
     write_turn::push_value(work, place, e, item)
 }
 

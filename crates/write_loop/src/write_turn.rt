@@ -6,24 +6,23 @@ use allocator::NodePtr;
 use file_tables::listed_atoms;
 use words::wide;
 use work_layout::EntryIndex;
+use write_counts::Counts;
 use write_item::Put;
 use write_item::write_reference;
-use write_place::Outcome;
 use write_place::Place;
 ghost use mathlib.Core.Path.{_≡_};
 ghost use mathlib.Core.Bool.{true};
 ghost use mathlib.Core.List.{List};
-ghost use mathlib.Core.Option.{some};
 ghost use Prim.Native.Nat.{ℕ, _<_};
 ghost use lib.ListN.{length};
 ghost use Rattle.words.specs.Words.{at};
-ghost use Rattle.atom.specs.Write.{put};
 ghost use Rattle.allocator.specs.Handle.{node-of, is-atom};
-ghost use Rattle.spec_session.specs.Items.{atom-item, item-bytes};
+ghost use Rattle.spec_session.specs.Items.{atom-item};
 ghost use Rattle.work_layout.specs.Layout.{ATOM-COUNT, PAIR-COUNT, ENTRIES, DEPTH};
 ghost use Rattle.cache_stack.specs.Contracts.{Stacked};
 ghost use Rattle.search_find.specs.declared.find_path.Path.the-variants.{At};
-ghost use Rattle.write_item.specs.Answers.{written};
+ghost use Rattle.write_counts.specs.Counts.{Bounded};
+ghost use Rattle.write_item.specs.Answers.{ItemPut};
 ghost use Rattle.cache_entries.specs.Meaning.{Names, Whole};
 ghost use Rattle.write_loop.specs.declared.write_turn.Next.the-variants.{Parse};
 ghost use Rattle.work_layout.specs.Rows.{atom-bytes};
@@ -42,31 +41,37 @@ pub enum Next {
 }
 
 // Listed atom i, from where it lies in the file.
-fn write_listed(work: &[u32], file: &[u8], output: &mut [u8], size: usize, i: usize) -> Put
-    requires { ⌜ (Whole (now work)) × (AtomPlaces (now file) (now work)) × (i < at (now work) ATOM-COUNT) ⌝ }
+fn write_listed(work: &[u32], file: &[u8], output: &mut [u8], counts: Counts, i: usize) -> Put
+    requires { ⌜ (Bounded counts) × (Whole (now work)) × (AtomPlaces (now file) (now work)) × (i < at (now work) ATOM-COUNT) ⌝ }
     ensures { λ r. ⌜
-        written r (now (output .exit))
-        ≡ put (now (output .entry)) size
-        (some (item-bytes (atom-item (atom-bytes (now (file .entry)) (now (work .entry)) i)))) ⌝ }
+        ItemPut (now (output .entry)) (now (output .exit)) counts
+        (atom-item (atom-bytes (now (file .entry)) (now (work .entry)) i)) r ⌝ }
 {
     let start = listed_atoms::start_of(work, i);
     let end = listed_atoms::end_of(work, i);
-    write_item::write_listed(output, size, &file[start..end])
+    write_item::write_listed(output, counts, &file[start..end])
 }
 
 // An atom in full.
-pub fn write_atom(work: &[u32], file: &[u8], output: &mut [u8], size: usize, node: NodePtr) -> Put
+pub fn write_atom(
+    work: &[u32],
+    file: &[u8],
+    output: &mut [u8],
+    counts: Counts,
+    node: NodePtr,
+) -> Put
     requires { ⌜
-        (Whole (now work))
+        (Bounded counts)
+        × (Whole (now work))
         × (AtomPlaces (now file) (now work))
         × (Names (now work) (at (now work) PAIR-COUNT) (node .0))
         × (is-atom (node-of (node .0)) ≡ true) ⌝ }
-    ensures { λ r. ⌜ AtomPut (now (file .entry)) (now (work .entry)) (node .0) (now (output .entry)) (now (output .exit)) size r ⌝ }
+    ensures { λ r. ⌜ AtomPut (now (file .entry)) (now (work .entry)) (node .0) (now (output .entry)) (now (output .exit)) counts r ⌝ }
 {
     if cache_entries::is_listed(node) {
-        return write_listed(work, file, output, size, wide(node.index()));
+        return write_listed(work, file, output, counts, wide(node.index()));
     }
-    write_item::write_small(output, size, node.index())
+    write_item::write_small(output, counts, node.index())
 }
 
 // After an item for a whole subtree of entry e: the entry goes on the stack.
@@ -75,13 +80,13 @@ pub fn push_value(work: &mut [u32], place: Place, e: EntryIndex, item: Put) -> N
     ensures { λ r. ⌜ Pushes (now (work .entry)) (now (work .exit)) place (e .0) item r ⌝ }
 {
     match item {
-        Put::Next(size) => {
+        Put::Next(counts) => {
             let len = search_find::length_at(work, e);
             cache_stack::push_marked(work, place.depth, e, len);
             Next::Close(Place {
                 opens: place.opens,
                 depth: place.depth + 1,
-                size,
+                counts,
             })
         }
         Put::Full => Next::Refused(13, place),
@@ -103,6 +108,6 @@ pub fn refer(
         → (Turns file (now (work .entry)) (now (work .exit)) (now (output .entry)) (now (output .exit)) (Parse place node) r)
         × (Falls (length (now (output .entry))) (Parse place node) r)) ⌝ }
 {
-    let item = write_reference::write_reference(work, slot, output, place.size);
+    let item = write_reference::write_reference(work, slot, output, place.counts);
     push_value(work, place, e, item)
 }

@@ -1,5 +1,5 @@
 -- What work and the output hold between two turns of the writer's loop, and what they mean: a session of the definitions.
-use Prim.Native.Nat.{ℕ, zero, suc, _+_, _-_, _*_, _/_, _%_, _≤_, _<_}
+use Prim.Native.Nat.{ℕ, zero, suc, _+_, _*_, _/_, _%_, _≤_, _<_}
 use mathlib.Core.Path.{_≡_}
 use mathlib.Core.Bool.{cond}
 use mathlib.Core.List.{List, [], _∷_}
@@ -10,13 +10,15 @@ use Rattle.spec_search.specs.Search.{member}
 use Rattle.spec_session.specs.File.{File}
 use Rattle.spec_session.specs.Unfold.{unfolded}
 use Rattle.spec_session.specs.Cache.{Cache}
-use Rattle.spec_session.specs.Items.{size-of, output}
+use Rattle.spec_session.specs.Items.{output}
 use Rattle.spec_session.specs.Writer.{Todo, parse, close, Written}
 use Rattle.work_layout.specs.Layout.{PAIRS, ATOM-COUNT, PAIR-COUNT, OPEN, MOVED, SEEN, COPIES, ENTRIES}
 use Rattle.work_layout.specs.Rows.{start-of, end-of, atom-bytes, stack-of, all-counts}
 use Rattle.cache_stack.specs.marks.Contracts.{marked-at}
 use Rattle.cache_stack.specs.Contracts.{Stacked}
 use Rattle.cache_entries.specs.Meaning.{Holds, Whole}
+use Rattle.write_counts.specs.declared.Counts.{Counts}
+use Rattle.write_counts.specs.Counts.{counts-of, Bounded}
 
 -- ---- the file's atoms lie in the file
 
@@ -56,20 +58,21 @@ pub record Standing (w : List ℕ) (opens depth values : ℕ) : Type 0 where
   -- Each open pair has its left value on the stack, or its right side still to come.
   pub balance : depth + rights-left w opens ≡ opens + values
 
--- .. with `size` bytes in the output.
-pub record Running (w out : List ℕ) (opens depth size values : ℕ) : Type 0 where
+-- .. with so many bytes in the output.
+pub record Running (w out : List ℕ) (opens depth : ℕ) (counts : Counts) (values : ℕ) : Type 0 where
   pub stands : Standing w opens depth values
-  pub fits : size ≤ length out
+  pub fits : counts .size ≤ length out
+  pub bounded : Bounded counts
   pub short : length out ≤ 65535
 
 -- ---- what they mean
 
-pub record Writes (f : File) (w out : List ℕ) (depth size : ℕ) (c : Cache) (s : Written) : Type 0 where
+pub record Writes (f : File) (w out : List ℕ) (depth : ℕ) (counts : Counts) (c : Cache) (s : Written) : Type 0 where
   pub cache : Holds f w c
   pub stack : s .stack ≡ stack-of w depth
   pub marks : (e : ℕ) → e < ENTRIES → member e (s .marked) ≡ marked-at w e
-  pub size-is : size ≡ size-of (s .items)
-  pub bytes-are : take size out ≡ output (s .items)
+  pub counts-are : counts ≡ counts-of (s .items)
+  pub bytes-are : take (counts .size) out ≡ output (s .items)
 
 -- Nothing is touched but the open pairs, the stack, the marks and the search's words.
 pub record WriterOnly (w w′ : List ℕ) : Type 0 where

@@ -1,15 +1,14 @@
 -- `write_item::write_small` meets its contract.
 -- Assumes nothing.
 use Prim.Native.Nat.{ℕ}
-use mathlib.Core.Option.{some}
 use mathlib.Core.List.{List}
-use mathlib.Core.Path.{ap, _∙_}
+use mathlib.Core.Path.{ap, subst, _∙_}
 use native.Mathlib.Omega.{arith}
 use lib.ListN.{length}
 use borrow.Author.Needs.{needs}
-use Rattle.atom.specs.Write.{put}
 use Rattle.allocator.specs.SmallAtomLaws.{length-small-bytes}
-use Rattle.spec_session.specs.Items.{atom-item, item-bytes}
+use Rattle.spec_session.specs.Items.{atom-item}
+use Rattle.write_item.specs.Answers.{ItemPut}
 use Rattle.write_item.proofs.write_small.Statement.{statement}
 use Rattle.write_item.proofs.write_small.Tie as tie
 
@@ -20,17 +19,21 @@ as-ref-requires : tie.Need-as-ref-requires
 as-ref-requires c κs = search needs
 
 write-listed-requires : tie.Need-write-listed-requires
-write-listed-requires c κs = let s = c .before .before .before .before .small-atom-bytes in
-    let e = c .as-ref .ensures ∙ s .ensures .last in
-    omega (arith, ap length e, length-small-bytes (c .before .before .before .before .before .before .args .value), s .ensures .size, s .ensures .short)
+write-listed-requires c κs =
+    let s = c .before .before .before .before in
+    let small = s .small-atom-bytes .ensures in
+    let e = c .as-ref .ensures ∙ small .last in
+    (s .before .before .pre .0, omega (arith, ap length e, length-small-bytes (s .before .before .args .value), small .size, small .short))
 
 same-length : tie.Need-same-length
 same-length c = search needs
 
 returns : tie.Need-returns
-returns c = let a = c .before .before .before .before .before .before .before .before .before .args in
+returns c =
+    let a = c .before .before .before .before .before .before .before .before .before .args in
     let e = c .before .before .before .as-ref .ensures ∙ c .before .before .before .before .before .before .before .small-atom-bytes .ensures .last in
-    c .before .before .write-listed .ensures ∙ ap (λ (l : List ℕ). put (a .output .now) (a .size) (some (item-bytes (atom-item l)))) e
+    let put = c .before .before .write-listed in
+    subst (λ (l : List ℕ). ItemPut (a .output .now) (put .last .0) (a .counts) (atom-item l) (put .result)) e (put .ensures)
 
 pub write-small-spec : {M : Type 1} → statement M
 write-small-spec =

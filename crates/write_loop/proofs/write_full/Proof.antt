@@ -29,7 +29,10 @@ returns : tie.Need-returns
 returns c = let opened = c .before .before .before .before in opened .open-pair .ensures (opened .before .before .before .before .before .before .before .before .args .file .now)
 
 write-atom-requires : tie.Need-write-atom-requires
-write-atom-requires c κs = let s = c .before .before .before .before .before .before .before in (s .pre .1 .running .stands .whole, s .pre .0, s .pre .1 .names, atom (c .before .before))
+write-atom-requires c κs =
+    let s = c .before .before .before .before .before .before .before in
+    let run = s .pre .1 .running in
+    (run .bounded, run .stands .whole, s .pre .0, s .pre .1 .names, atom (c .before .before))
 
 push-value-requires : tie.Need-push-value-requires
 push-value-requires c κs = search needs

@@ -4,20 +4,18 @@ use Prim.Native.Nat.{ℕ, _-_, _^_, _≤_, _<_}
 use mathlib.Core.Path.{_≡_, refl, sym, ap, _∙_}
 use mathlib.Core.Bool.{true, false, false≢true}
 use mathlib.Core.List.{List}
-use mathlib.Core.Option.{some}
 use native.Mathlib.Omega.{arith}
 use lib.ListN.{length, take, drop, length-take, length-drop}
 use Rattle.words.specs.Words.{at}
-use Rattle.atom.specs.Write as atom
-use Rattle.atom.specs.Write.{put}
 use Rattle.allocator.specs.Handle.{Node, pair, listed-atom, small-atom, unknown, node-of, index-of, is-atom, is-pair}
 use Rattle.allocator.specs.SmallAtom.{small-bytes}
 use Rattle.allocator.specs.SmallAtomLaws.{len-at-most, length-small-bytes}
 use Rattle.spec_session.specs.File.{named}
-use Rattle.spec_session.specs.Items.{atom-item, item-bytes}
+use Rattle.spec_session.specs.Items.{atom-item}
 use Rattle.work_layout.specs.Layout.{PAIR-COUNT}
+use Rattle.write_counts.specs.declared.Counts.{Counts}
 use Rattle.write_item.specs.declared.Put.{Put}
-use Rattle.write_item.specs.Answers.{written}
+use Rattle.write_item.specs.Answers.{ItemPut}
 use Rattle.cache_entries.specs.Meaning.{bytes-named, Names, Whole}
 use Rattle.cache_entries.specs.Contracts.{is-listed}
 use Rattle.cache_entries.proofs.Atoms.{listed-is, small-is, index-low, listed-low}
@@ -37,16 +35,14 @@ pub part-short : (file : List ℕ) (a n : ℕ) → length file ≤ 65535 → len
 part-short file a n h = simp (length-take, length-drop) (omega arith)
 
 -- The part that starts and ends where the words say.
-pub part-is : (file w : List ℕ) (i a b : ℕ) (x : atom.Written) (out : List ℕ) (size : ℕ) → a ≡ start-of w i → b ≡ end-of w i
-    → x ≡ put out size (some (item-bytes (atom-item (take (b - a) (drop a file)))))
-    → x ≡ put out size (some (item-bytes (atom-item (atom-bytes file w i))))
+pub part-is : (file w : List ℕ) (i a b : ℕ) → a ≡ start-of w i → b ≡ end-of w i → take (b - a) (drop a file) ≡ atom-bytes file w i
 unfolding atom-bytes
-part-is file w i a b x out size p q e = rw (p, q) at e
+part-is file w i a b p q = rw (p, q)
 
-module _ {file w : List ℕ} {h : ℕ} {out out′ : List ℕ} {size : ℕ} {r : Put} (wh : Whole w) (n : Names w (at w PAIR-COUNT) h) where
+module _ {file w : List ℕ} {h : ℕ} {out out′ : List ℕ} {counts : Counts} {r : Put} (wh : Whole w) (n : Names w (at w PAIR-COUNT) h) where
   -- A listed atom, of number x.
   pub listed-put : (x : ℕ) → AtomPlaces file w → is-listed (node-of h) ≡ true → x ≡ index-of (node-of h)
-      → written r out′ ≡ put out size (some (item-bytes (atom-item (atom-bytes file w x)))) → AtomPut file w h out out′ size r
+      → ItemPut out out′ counts (atom-item (atom-bytes file w x)) r → AtomPut file w h out out′ counts r
   unfolding atom-bytes
   listed-put x places l q a =
       record {
@@ -59,7 +55,7 @@ module _ {file w : List ℕ} {h : ℕ} {out out′ : List ℕ} {size : ℕ} {r :
       }
 
   pub small-put : (v : ℕ) → is-listed (node-of h) ≡ false → is-atom (node-of h) ≡ true → v ≡ index-of (node-of h)
-      → written r out′ ≡ put out size (some (item-bytes (atom-item (small-bytes v)))) → AtomPut file w h out out′ size r
+      → ItemPut out out′ counts (atom-item (small-bytes v)) r → AtomPut file w h out out′ counts r
   small-put v l b q a =
       record {
         bytes = small-bytes v;

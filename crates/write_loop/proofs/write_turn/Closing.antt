@@ -124,14 +124,14 @@ module _ (w : List ℕ) (p : Place) (st : Standing w (p .opens) (p .depth) 1) (n
     unfolding w′ v
     right-turns file out run = (
       record {
-        fine = (record { stands = right-standing; fits = run .fits; short = run .short }, right-names);
+        fine = (record { stands = right-standing; fits = run .fits; bounded = run .bounded; short = run .short }, right-names);
         only = store-only w n (v - 1) few (st .whole);
         grows = omega arith;
         before = refl;
         leads = λ f c s t th wr.
             record {
               last = s;
-              writes = store-writes w n (v - 1) few (st .whole) f c out (p .depth) (p .size) s (st .stacked) t wr;
+              writes = store-writes w n (v - 1) few (st .whole) f c out (p .depth) (p .counts) s (st .stacked) t wr;
               same =
                   ap (λ (k : List Todo). goes-on c (length out) k s) (todo-is f ∙ left-odd f w v (todo-of f w n) odd)
                   ∙ ap (λ (k : List Todo). goes-on c (length out) (parse (unfolded f (at w (PAIRS + 2 * (v / 2) + 1))) ∷ k) s) (sym (right-todo f))
@@ -191,8 +191,8 @@ module _ (w : List ℕ) (p : Place) (st : Standing w (p .opens) (p .depth) 1) (n
       close-stack s q =
           ap {B = List ℕ} (λ r. cl .entry ∷ pop2 r) (q ∙ cl .popped .stack) ∙ sym (cl .stacks .pushed .stack) ∙ ap (stack-of w′) one-less
 
-      close-writes : (f : File) (c : Cache) (out : List ℕ) (s : Written) → Tables f w → Writes f w out (p .depth) (p .size) c s
-          → Writes f w′ out (p .depth - 1) (p .size) c (closed c s)
+      close-writes : (f : File) (c : Cache) (out : List ℕ) (s : Written) → Tables f w → Writes f w out (p .depth) (p .counts) c s
+          → Writes f w′ out (p .depth - 1) (p .counts) c (closed c s)
       unfolding mid
       close-writes f c out s t wr =
           record {
@@ -201,7 +201,7 @@ module _ (w : List ℕ) (p : Place) (st : Standing w (p .opens) (p .depth) 1) (n
             marks =
                 push-marks f c mid w′ (p .depth - 2) (cl .entry) (s .marked) (holds-mid f c t (wr .cache)) (cl .stacks)
                 (λ x l. wr .marks x l ∙ sym (marked-same w mid x l (λ j h. cl .popped .only .high (WRITTEN + j) (omega arith))));
-            size-is = wr .size-is;
+            counts-are = wr .counts-are;
             bytes-are = wr .bytes-are;
           }
 
@@ -216,7 +216,7 @@ module _ (w : List ℕ) (p : Place) (st : Standing w (p .opens) (p .depth) 1) (n
       close-standing =
           standing-stays w w′ both n (p .depth) 2 outer-two (p .depth - 1) 1 (rw one-less at (cl .stacks .pushed .stacked)) (omega (arith, two-there))
 
-      close-same : (f : File) (c : Cache) (out : List ℕ) (s : Written) → Tables f w → Writes f w out (p .depth) (p .size) c s
+      close-same : (f : File) (c : Cache) (out : List ℕ) (s : Written) → Tables f w → Writes f w out (p .depth) (p .counts) c s
           → goes-on c (length out) (todo-of f w (p .opens)) s ≡ goes-on c (length out) (todo-of f w′ n) (closed c s)
       unfolding mid i
       close-same f c out s t wr =
@@ -228,11 +228,11 @@ module _ (w : List ℕ) (p : Place) (st : Standing w (p .opens) (p .depth) 1) (n
           ∙ ap (λ (j : List Todo). goes-on c (length out) j (closed c s)) (sym (todo-stays w w′ both n (p .depth) 2 outer-two f))
 
       pub close-turns : (file out : List ℕ) → Runs w out p 1
-          → (Turns file w w′ out out (Close p) (Close (record { opens = n; depth = p .depth - 1; size = p .size })))
-          × Falls (length out) (Close p) (Close (record { opens = n; depth = p .depth - 1; size = p .size }))
+          → (Turns file w w′ out out (Close p) (Close (record { opens = n; depth = p .depth - 1; counts = p .counts })))
+          × Falls (length out) (Close p) (Close (record { opens = n; depth = p .depth - 1; counts = p .counts }))
       close-turns file out run = (
         record {
-          fine = record { stands = close-standing; fits = run .fits; short = run .short };
+          fine = record { stands = close-standing; fits = run .fits; bounded = run .bounded; short = run .short };
           only = beside-only w w′ both;
           grows = omega arith;
           before = refl;
@@ -282,8 +282,8 @@ module _ {w : List ℕ} {p : Place} {v i : ℕ} (o : Innermost w p v i) where
     values-there = two-there w p (o .stands) (p .opens - 1) more not-odd
 
     pub closes-one : {w′ : List ℕ} → length w′ ≡ length w → Closes w w′ (p .depth) i → (file out : List ℕ) → Runs w out p 1
-        → (Turns file w w′ out out (Close p) (Close (record { opens = p .opens - 1; depth = p .depth - 1; size = p .size })))
-        × Falls (length out) (Close p) (Close (record { opens = p .opens - 1; depth = p .depth - 1; size = p .size }))
+        → (Turns file w w′ out out (Close p) (Close (record { opens = p .opens - 1; depth = p .depth - 1; counts = p .counts })))
+        × Falls (length out) (Close p) (Close (record { opens = p .opens - 1; depth = p .depth - 1; counts = p .counts }))
     closes-one {w′} len cl file out run =
         close-turns w p (o .stands) (p .opens - 1) more not-odd w′ len
         (subst (λ (x : ℕ). Closes w w′ (p .depth) x) (sym number-is) cl) file out run

@@ -1,71 +1,64 @@
 -- One item more in the output.
 -- Assumes nothing.
 use Prim.Native.Nat.{ℕ, _+_, _≤_, _<_}
-use mathlib.Core.Path.{_≡_, refl, sym, ap, _∙_}
+use mathlib.Core.Path.{_≡_, refl, sym, ap, _∙_, subst}
 use mathlib.Core.Bool.{false}
-use mathlib.Core.List.{List, _++_}
-use mathlib.Core.Option.{some}
+use mathlib.Core.List.{List, [], _∷_, _++_}
 use native.Mathlib.Omega.{arith}
 use lib.ListN.{length, take}
-use lib.Seq.{paste, take-take, take-at, take-length, take-paste, length-take-le, length-paste}
+use lib.Seq.{take-take, take-at, take-length, take-paste, length-take-le, length-paste}
 use borrow.Author.Tests.{lt-ltb, le-ltb}
-use Rattle.words.specs.Choice.{by-lt, clash}
-use Rattle.atom.specs.Write as atom
-use Rattle.atom.specs.Write.{put}
-use Rattle.atom.specs.WriteLaws.{put-full, put-room}
 use Rattle.spec_session.specs.Items.{Item, cons-item, atom-item, reference-item, item-size, size-of, item-bytes, output}
-use Rattle.spec_session.specs.Output.{item-size-is}
-use Rattle.spec_session.specs.Writer.{Todo, Written}
+use Rattle.spec_session.specs.Output.{item-size-is, output-more}
+use Rattle.spec_session.specs.Writer.{Todo}
 use Rattle.spec_session.specs.Steps.{too-deep, room-in}
-use Rattle.write_item.specs.declared.Put.the-variants.{Next, Full}
-use Rattle.write_item.specs.Answers.{written}
+use Rattle.write_counts.specs.declared.Counts.{Counts}
+use Rattle.write_counts.specs.Counts.{counts-of, with-item, Bounded}
+use Rattle.write_counts.specs.CountLaws.{counts-more, bounded-more}
+use Rattle.write_item.specs.declared.Put.the-variants.{Next}
+use Rattle.write_item.specs.Answers.{ItemPut}
+use Rattle.write_item.proofs.Counting.{PutNext, put-next}
+use Rattle.write_place.specs.State.{Standing, Running}
 
--- ---- bytes that fit, and bytes that do not
+-- ---- an item that was put there
 
-pub record PutNext (out out′ : List ℕ) (p : ℕ) (bytes : List ℕ) (m : ℕ) : Type 0 where
-  pub end : m ≡ p + length bytes
-  pub fits : p + length bytes ≤ length out
-  pub is : out′ ≡ paste out p bytes (length bytes)
+module _ {out out′ : List ℕ} {c : Counts} {i : Item} {m : Counts} (a : ItemPut out out′ c i (Next m)) where
+  pub put-there : PutNext out out′ (c .size) (item-bytes i) (m .size)
+  put-there = put-next out out′ (c .size) (item-bytes i) (m .size) (a .bytes)
 
-not-both : (m : ℕ) → atom.next m ≡ atom.full → ⊥
-not-both m q = clash cc
+  taken-all : take (m .size) out′ ≡ take (c .size) out ++ item-bytes i
+  taken-all =
+      let q = put-there in
+      ap (λ (k : ℕ). take k out′) (q .end) ∙ ap (take (c .size + length (item-bytes i))) (q .is)
+      ∙ take-paste out (c .size) (item-bytes i) (length (item-bytes i)) (omega (arith, q .fits)) (omega arith)
+      ∙ ap (λ (x : List ℕ). take (c .size) out ++ x) (take-length (item-bytes i))
 
-next-is : (m n : ℕ) → atom.next m ≡ atom.next n → m ≡ n
-next-is m n q = cc
+  pub taken-before : take (c .size) out′ ≡ take (c .size) out
+  taken-before =
+      let q = put-there in
+      sym (take-take (c .size) (m .size) out′ (omega (arith, q .end))) ∙ ap (take (c .size)) taken-all
+      ∙ take-at (take (c .size) out) (item-bytes i) (c .size) (length-take-le (c .size) out (omega (arith, q .fits)))
 
-module _ (out out′ : List ℕ) (p : ℕ) (bytes : List ℕ) where
-  pub put-next : (m : ℕ) → written (Next m) out′ ≡ put out p (some bytes) → PutNext out out′ p bytes m
-  put-next m q =
-      by-lt (length out) (p + length bytes)
-      (λ h. absurd (not-both m (ap (λ (x : atom.Written). x .answer) (q ∙ put-full out p bytes h))))
-      (λ h.
-      let r = q ∙ put-room out p bytes h in
+  length-stays : length out′ ≡ length out
+  length-stays = let q = put-there in ap length (q .is) ∙ length-paste out (c .size) (item-bytes i) (length (item-bytes i)) (q .fits) (omega arith)
+
+  -- The words are sound, with the counts after it.
+  pub running-more : {w w′ : List ℕ} {o d v o′ d′ v′ : ℕ} → Running w out o d c v → Standing w′ o′ d′ v′ → Running w′ out′ o′ d′ m v′
+  running-more run st =
+      let q = put-there in
       record {
-        end = next-is m (p + length bytes) (ap (λ (x : atom.Written). x .answer) r);
-        fits = h;
-        is = ap (λ (x : atom.Written). x .output) r;
-      })
+        stands = st;
+        fits = omega (arith, q .fits, q .end, length-stays);
+        bounded = subst Bounded (sym (a .counted)) (bounded-more c i (run .bounded));
+        short = omega (arith, run .short, length-stays);
+      }
 
-  pub put-none : written Full out′ ≡ put out p (some bytes) → (length out < p + length bytes) × (out′ ≡ out)
-  put-none q =
-      by-lt (length out) (p + length bytes)
-      (λ h. (h, ap (λ (x : atom.Written). x .output) (q ∙ put-full out p bytes h)))
-      (λ h. absurd (not-both (p + length bytes) (sym (ap (λ (x : atom.Written). x .answer) (q ∙ put-room out p bytes h)))))
+  module _ (items : List Item) where
+    pub counts-written : c ≡ counts-of items → m ≡ counts-of (items ++ i ∷ [])
+    counts-written e = a .counted ∙ ap (λ (x : Counts). with-item x i) e ∙ sym (counts-more items i)
 
-  module _ (m : ℕ) (q : PutNext out out′ p bytes m) where
-    pub taken-all : take m out′ ≡ take p out ++ bytes
-    taken-all =
-        ap (λ (k : ℕ). take k out′) (q .end) ∙ ap (take (p + length bytes)) (q .is)
-        ∙ take-paste out p bytes (length bytes) (omega (arith, q .fits)) (omega arith)
-        ∙ ap (λ (x : List ℕ). take p out ++ x) (take-length bytes)
-
-    pub taken-before : take p out′ ≡ take p out
-    taken-before =
-        sym (take-take p m out′ (omega (arith, q .end))) ∙ ap (take p) taken-all
-        ∙ take-at (take p out) bytes p (length-take-le p out (omega (arith, q .fits)))
-
-    pub length-stays : length out′ ≡ length out
-    length-stays = ap length (q .is) ∙ length-paste out p bytes (length bytes) (q .fits) (omega arith)
+    pub bytes-written : take (c .size) out ≡ output items → take (m .size) out′ ≡ output (items ++ i ∷ [])
+    bytes-written e = taken-all ∙ ap (λ (x : List ℕ). x ++ item-bytes i) e ∙ sym (output-more items i)
 
 -- ---- the questions: 12 is asked of a pair's mark alone
 

@@ -4,17 +4,14 @@ use Prim.Native.Nat.{ℕ, zero, suc, _+_, _*_, _/_, _%_, _≤_, _<_}
 use mathlib.Core.Path.{_≡_, refl, sym, ap, _∙_, subst}
 use mathlib.Core.Bool.{true, false}
 use mathlib.Core.List.{List, [], _∷_, _++_}
-use mathlib.Core.Option.{some}
 use native.Mathlib.Omega.{arith}
 use native.Mathlib.Numerals.{add-one}
 use lib.ListN.{length, set, length-set}
 use lib.Dec.{eqb}
 use borrow.Author.Tests.{lt-ltb, le-ltb}
-use Rattle.spec_session.specs.Output.{size-more, output-more}
 use Rattle.allocator.specs.HandleLaws.{is-pair-handle, pair-of-index}
 use Rattle.words.specs.Choice.{by-cond}
 use Rattle.words.specs.Words.{at}
-use Rattle.atom.specs.Write.{put}
 use Rattle.path.specs.Measure.{counted}
 use Rattle.allocator.specs.declared.NodePtr.{NodePtr}
 use Rattle.allocator.specs.Handle.{pair, node-of, index-of, is-pair}
@@ -28,17 +25,20 @@ use Rattle.spec_session.specs.Steps.{open-pairs, too-deep, room-in}
 use Rattle.spec_session.specs.Loop.{turn-pair}
 use Rattle.work_layout.specs.Layout.{PAIRS, PAIR-COUNT, OPEN}
 use Rattle.search_find.specs.declared.find_path.Path.the-variants.{NoPath}
+use Rattle.write_counts.specs.declared.Counts.{Counts}
 use Rattle.write_item.specs.declared.Put.the-variants as item
-use Rattle.write_item.specs.Answers.{written}
+use Rattle.write_item.specs.Answers.{ItemPut}
+use Rattle.write_item.proofs.Counting.{put-none}
 use Rattle.cache_entries.specs.Meaning.{Tables, Names}
 use Rattle.cache_entries.proofs.Entering.{names-grow, pair-low, is-node}
 use Rattle.write_place.specs.declared.Place.{Place}
 use Rattle.write_loop.specs.declared.write_turn.Next.{Next}
 use Rattle.write_loop.specs.declared.write_turn.Next.the-variants.{Parse, Refused}
 use Rattle.write_place.specs.State.{todo-of, Standing, Writes}
+use Rattle.write_place.proofs.Sizes.{size-written}
 use Rattle.write_loop.specs.Contracts.{goes-on, Turns, Falls, Found}
 use Rattle.write_loop.proofs.write_turn.Frames.{only-same, pairs-stay, names-stay, pairs-few}
-use Rattle.write_loop.proofs.write_turn.Items.{PutNext, put-next, put-none, taken-all, taken-before, length-stays, room-there, room-gone}
+use Rattle.write_loop.proofs.write_turn.Items.{put-there, taken-before, running-more, counts-written, bytes-written, room-there, room-gone}
 use Rattle.write_loop.proofs.write_turn.Values.{found-is, pair-is}
 use Rattle.write_loop.proofs.write_turn.Storing.{left-odd, store-only, store-standing, store-todo, store-writes}
 
@@ -73,7 +73,7 @@ module _ {w out : List ℕ} {p : Place} (h : NodePtr) {e : ℕ} (fo : Found w ou
   sides f k = parse (unfolded f (at w (PAIRS + 2 * number))) ∷ parse (unfolded f (at w (PAIRS + 2 * number + 1))) ∷ close number ∷ k
 
   -- The equation of a pair in full.
-  in-full : (f : File) (c : Cache) (s : Written) → Tables f w → Writes f w out (p .depth) (p .size) c s → (k : List Todo)
+  in-full : (f : File) (c : Cache) (s : Written) → Tables f w → Writes f w out (p .depth) (p .counts) c s → (k : List Todo)
       → goes-on c (length out) (parse (unfolded f (h .0)) ∷ k) s
       ≡ and-then (put-if (room-in (length out) k (s .items) cons-item) cons-item s) (goes-on c (length out) (sides f k))
   unfolding number
@@ -84,7 +84,7 @@ module _ {w out : List ℕ} {p : Place} (h : NodePtr) {e : ℕ} (fo : Found w ou
       (ap (λ (g : ℕ). find-in counted c (s .marked) (s .stack) g (pair-entry c i)) (sym (is-pair-handle (h .0) i is-number))
       ∙ found-is fo t wr (pair-is fo t wr i is-number))
 
-  refused : (file : List ℕ) (n : ℕ) → ((f : File) (c : Cache) (s : Written) → Writes f w out (p .depth) (p .size) c s
+  refused : (file : List ℕ) (n : ℕ) → ((f : File) (c : Cache) (s : Written) → Writes f w out (p .depth) (p .counts) c s
       → room-in (length out) (todo-of f w (p .opens)) (s .items) cons-item ≡ suc n) → Turns file w w out out (Parse p h) (Refused (suc n) p)
   refused file n room =
       record {
@@ -113,21 +113,21 @@ module _ {w out : List ℕ} {p : Place} (h : NodePtr) {e : ℕ} (fo : Found w ou
     not-deep f = rw (open-count f w (p .opens), le-ltb 4095 (p .opens) (omega arith))
 
     -- Question 13.
-    pub lacks-turns : written item.Full out′ ≡ put out (p .size) (some (item-bytes cons-item)) → (file : List ℕ)
+    pub lacks-turns : ItemPut out out′ (p .counts) cons-item item.Full → (file : List ℕ)
         → (Turns file w w out out′ (Parse p h) (Refused 13 p)) × Falls (length out) (Parse p h) (Refused 13 p)
     lacks-turns a file =
-        let n = put-none out out′ (p .size) (item-bytes cons-item) a in (
+        let n = put-none out out′ (p .counts .size) (item-bytes cons-item) (a .bytes) in (
           subst (λ (x : List ℕ). Turns file w w out x (Parse p h) (Refused 13 p)) (sym (n .1))
-              (refused file 12 (λ f c s wr. room-gone (length out) (todo-of f w (p .opens)) (s .items) cons-item (not-deep f) (omega (arith, n .0, wr .size-is)))),
+              (refused file 12 (λ f c s wr. room-gone (length out) (todo-of f w (p .opens)) (s .items) cons-item (not-deep f) (omega (arith, n .0, size-written wr)))),
           omega arith,
         )
 
-    module _ (m : ℕ) (l : NodePtr) (left : l .0 ≡ at w (PAIRS + 2 * index-of (node-of (h .0)))) (q : PutNext out out′ (p .size) (item-bytes cons-item) m) where
+    module _ (m : Counts) (l : NodePtr) (left : l .0 ≡ at w (PAIRS + 2 * index-of (node-of (h .0)))) (a : ItemPut out out′ (p .counts) cons-item (item.Next m)) where
       w′ : List ℕ
       w′ = set w (OPEN + p .opens) (number * 2 + 1)
 
       after : Place
-      after = record { opens = p .opens + 1; depth = p .depth; size = m }
+      after = record { opens = p .opens + 1; depth = p .depth; counts = m }
 
       abbrev with-mark : Written → Written
       with-mark s = record { stack = s .stack; marked = s .marked; items = s .items ++ cons-item ∷ [] }
@@ -149,22 +149,20 @@ module _ {w out : List ℕ} {p : Place} (h : NodePtr) {e : ℕ} (fo : Found w ou
           ∙ ap (λ (x : ℕ). parse (unfolded f x) ∷ close number ∷ k)
           (store-only w (p .opens) v shallow (fo .running .stands .whole) .low (PAIRS + 2 * number + 1) (omega arith))
 
-      opened-writes : (f : File) (c : Cache) (s : Written) → Tables f w → Writes f w out (p .depth) (p .size) c s → Writes f w′ out′ (p .depth) m c (with-mark s)
+      opened-writes : (f : File) (c : Cache) (s : Written) → Tables f w → Writes f w out (p .depth) (p .counts) c s → Writes f w′ out′ (p .depth) m c (with-mark s)
       unfolding w′
       opened-writes f c s t wr =
           let y =
-          store-writes w (p .opens) (number * 2 + 1) shallow (fo .running .stands .whole) f c out (p .depth) (p .size) s (fo .running .stands .stacked) t wr in
+          store-writes w (p .opens) (number * 2 + 1) shallow (fo .running .stands .whole) f c out (p .depth) (p .counts) s (fo .running .stands .stacked) t wr in
           record {
             cache = y .cache;
             stack = y .stack;
             marks = y .marks;
-            size-is = omega (arith, q .end, wr .size-is, size-more (s .items) cons-item);
-            bytes-are =
-                taken-all out out′ (p .size) (item-bytes cons-item) m q ∙ ap (λ (x : List ℕ). x ++ item-bytes cons-item) (wr .bytes-are)
-                ∙ sym (output-more (s .items) cons-item);
+            counts-are = counts-written a (s .items) (wr .counts-are);
+            bytes-are = bytes-written a (s .items) (wr .bytes-are);
           }
 
-      opened-same : (f : File) (c : Cache) (s : Written) → Tables f w → Writes f w out (p .depth) (p .size) c s
+      opened-same : (f : File) (c : Cache) (s : Written) → Tables f w → Writes f w out (p .depth) (p .counts) c s
           → goes-on c (length out) (parse (unfolded f (h .0)) ∷ todo-of f w (p .opens)) s
           ≡ goes-on c (length out) (parse (unfolded f (l .0)) ∷ todo-of f w′ (p .opens + 1)) (with-mark s)
       unfolding number
@@ -172,7 +170,7 @@ module _ {w out : List ℕ} {p : Place} (h : NodePtr) {e : ℕ} (fo : Found w ou
           let k = todo-of f w (p .opens) in
           in-full f c s t wr k
           ∙ ap (λ (x : ℕ). and-then (put-if x cons-item s) (goes-on c (length out) (sides f k)))
-          (room-there (length out) k (s .items) cons-item (not-deep f) (omega (arith, q .fits, wr .size-is)))
+          (room-there (length out) k (s .items) cons-item (not-deep f) (omega (arith, put-there a .fits, size-written wr)))
           ∙ ap (λ (j : List Todo). goes-on c (length out) (parse (unfolded f (at w (PAIRS + 2 * number))) ∷ j) (with-mark s)) (sym (opened-todo f))
           ∙ ap (λ (x : ℕ). goes-on c (length out) (parse (unfolded f x) ∷ todo-of f w′ (p .opens + 1)) (with-mark s)) (sym left)
 
@@ -198,30 +196,21 @@ module _ {w out : List ℕ} {p : Place} (h : NodePtr) {e : ℕ} (fo : Found w ou
       unfolding after w′
       opened-turns file =
           record {
-            fine = (
-              record {
-                stands = opened-standing;
-                fits = omega (arith, q .fits, q .end, length-stays out out′ (p .size) (item-bytes cons-item) m q);
-                short = omega (arith, fo .running .short, length-stays out out′ (p .size) (item-bytes cons-item) m q);
-              },
-              left-names,
-            );
+            fine = (running-more a (fo .running) opened-standing, left-names);
             only = store-only w (p .opens) (number * 2 + 1) shallow (fo .running .stands .whole);
-            grows = omega (arith, q .end);
-            before = taken-before out out′ (p .size) (item-bytes cons-item) m q;
+            grows = omega (arith, put-there a .end);
+            before = taken-before a;
             leads = λ f c s t th wr. record { last = with-mark s; writes = opened-writes f c s t wr; same = opened-same f c s t wr };
           }
 
       opened-falls : Falls (length out) (Parse p h) (Parse after l)
       unfolding after
-      opened-falls = omega (arith, q .end, q .fits)
+      opened-falls = omega (arith, put-there a .end, put-there a .fits)
 
     -- The `ff` is written, and the pair's word stored, at a number x that is the pair's.
-    pub opens-turns : (m x : ℕ) (l : NodePtr) → x ≡ index-of (node-of (h .0)) → l .0 ≡ at w (PAIRS + 2 * index-of (node-of (h .0)))
-        → written (item.Next m) out′ ≡ put out (p .size) (some (item-bytes cons-item)) → (file : List ℕ)
-        → (Turns file w (set w (OPEN + p .opens) (x * 2 + 1)) out out′ (Parse p h) (Parse (record { opens = p .opens + 1; depth = p .depth; size = m }) l))
-        × Falls (length out) (Parse p h) (Parse (record { opens = p .opens + 1; depth = p .depth; size = m }) l)
+    pub opens-turns : (m : Counts) (x : ℕ) (l : NodePtr) → x ≡ index-of (node-of (h .0)) → l .0 ≡ at w (PAIRS + 2 * index-of (node-of (h .0)))
+        → ItemPut out out′ (p .counts) cons-item (item.Next m) → (file : List ℕ)
+        → (Turns file w (set w (OPEN + p .opens) (x * 2 + 1)) out out′ (Parse p h) (Parse (record { opens = p .opens + 1; depth = p .depth; counts = m }) l))
+        × Falls (length out) (Parse p h) (Parse (record { opens = p .opens + 1; depth = p .depth; counts = m }) l)
     unfolding w′ after number
-    opens-turns m x l e left a file =
-        let q = put-next out out′ (p .size) (item-bytes cons-item) m a in
-        rw e (opened-turns m l left q file, opened-falls m l left q)
+    opens-turns m x l e left a file = rw e (opened-turns m l left a file, opened-falls m l left a)

@@ -18,6 +18,7 @@ use Rattle.cache_stack.specs.Contracts.{Stacked}
 use Rattle.cache_stack.proofs.Stacks.{stacked-same, stack-same}
 use Rattle.cache_stack.proofs.marks.Bits.{marked-same}
 use Rattle.cache_entries.specs.Meaning.{Tables, Whole}
+use Rattle.write_counts.specs.declared.Counts.{Counts}
 use Rattle.write_place.specs.State.{left-to-write, todo-of, rights-left, Standing, Writes, WriterOnly}
 use Rattle.write_loop.proofs.write_turn.Frames.{whole-stays, counts-stay, holds-stay, pairs-stay, todo-same, rights-same, rights-more}
 
@@ -90,12 +91,13 @@ module _ (w : List ℕ) (n v : ℕ) (few : n < 4096) (wh : Whole w) where
       ∙ ap (λ (k : List Todo). left-to-write f stored v k) (todo-same f w stored n (store-only .low) store-older low)
 
   -- Stack and marks stay.
-  pub store-writes : (f : File) (c : Cache) (out : List ℕ) (d size : ℕ) (s : Written) → Stacked w d → Tables f w → Writes f w out d size c s → Writes f stored out d size c s
-  store-writes f c out d size s st t wr =
+  pub store-writes : (f : File) (c : Cache) (out : List ℕ) (d : ℕ) (counts : Counts) (s : Written) → Stacked w d → Tables f w → Writes f w out d counts c s
+      → Writes f stored out d counts c s
+  store-writes f c out d counts s st t wr =
       record {
         cache = holds-stay w stored store-length store-only wh f c t (wr .cache);
         stack = wr .stack ∙ sym (stack-same w stored d (λ i h. store-other (STACK + i) (λ q. omega arith)));
         marks = λ e l. wr .marks e l ∙ sym (marked-same w stored e l (λ i h. store-other (WRITTEN + i) (λ q. omega arith)));
-        size-is = wr .size-is;
+        counts-are = wr .counts-are;
         bytes-are = wr .bytes-are;
       }

@@ -38,7 +38,7 @@ use Rattle.write_loop.proofs.write_turn.Frames.{only-both, only-same, h
 
 module _ {file w w₁ w₂ out out₁ out₂ : List ℕ} {a b r : Next} (wh : Whole w) (lw : length w₁ ≡ length w) (lo : length out₁ ≡ length out)
     (x : Turns file w w₁ out out₁ a b) (y : Turns file w₁ w₂ out₁ out₂ b r) where
-  then-leads : (f : File) (c : Cache) (s : Written) → Tables f w → AtomsThere file f w → Writes f w out (place-of a .depth) (place-of a .size) c s
+  then-leads : (f : File) (c : Cache) (s : Written) → Tables f w → AtomsThere file f w → Writes f w out (place-of a .depth) (place-of a .counts) c s
       → Leads f c (length out) w₂ out₂ r (comes-to f c (length out) w a s)
   then-leads f c s t th wr =
       let l = x .leads f c s t th wr in
@@ -55,8 +55,8 @@ module _ {file w w₁ w₂ out out₁ out₂ : List ℕ} {a b r : Next} (wh : Wh
         only = only-both w w₁ w₂ (x .only) (y .only);
         grows = omega (arith, x .grows, y .grows);
         before =
-            sym (take-take (place-of a .size) (place-of b .size) out₂ (x .grows)) ∙ ap (take (place-of a .size)) (y .before)
-            ∙ take-take (place-of a .size) (place-of b .size) out₁ (x .grows) ∙ x .before;
+            sym (take-take (place-of a .counts .size) (place-of b .counts .size) out₂ (x .grows)) ∙ ap (take (place-of a .counts .size)) (y .before)
+            ∙ take-take (place-of a .counts .size) (place-of b .counts .size) out₁ (x .grows) ∙ x .before;
         leads = then-leads;
       }
 
@@ -115,19 +115,20 @@ module _ {w w₁ : List ℕ} (len : length w₁ ≡ length w) (k : Kept w w₁) 
               standing-stays w w₁ search-beside (p .opens) (p .depth) 0 (run .stands) (p .depth) 0
               (stacked-same w w₁ (p .depth) (run .stands .stacked) (λ j h l. k .low j (omega arith))) refl;
           fits = run .fits;
+          bounded = run .bounded;
           short = run .short;
         }
 
     pub search-places : {file : List ℕ} → AtomPlaces file w → AtomPlaces file w₁
     search-places {file} a = places-stay w w₁ len search-only (run .stands .whole) file a
 
-    writes-stay : (f : File) (c : Cache) (s : Written) → Tables f w → Writes f w out (p .depth) (p .size) c s → Writes f w₁ out (p .depth) (p .size) c s
+    writes-stay : (f : File) (c : Cache) (s : Written) → Tables f w → Writes f w out (p .depth) (p .counts) c s → Writes f w₁ out (p .depth) (p .counts) c s
     writes-stay f c s t wr =
         record {
           cache = holds-stay w w₁ len search-only (run .stands .whole) f c t (wr .cache);
           stack = wr .stack ∙ sym stack-stays;
           marks = λ e l. wr .marks e l ∙ sym (marked-same w w₁ e l (λ i h. k .low (WRITTEN + i) (omega arith)));
-          size-is = wr .size-is;
+          counts-are = wr .counts-are;
           bytes-are = wr .bytes-are;
         }
 

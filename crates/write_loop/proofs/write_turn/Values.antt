@@ -12,7 +12,6 @@ use Rattle.spec_session.specs.Formed.{atom-byte}
 use Rattle.spec_session.specs.FindPathLaws.{without-end}
 use Rattle.allocator.specs.HandleLaws.{is-pair-handle}
 use Rattle.words.specs.Words.{at}
-use Rattle.atom.specs.Write.{put}
 use Rattle.path.specs.Measure.{counted}
 use Rattle.allocator.specs.declared.NodePtr.{NodePtr}
 use Rattle.allocator.specs.Handle.{pair, node-of, index-of, is-atom}
@@ -22,7 +21,6 @@ use Rattle.spec_session.specs.File.{File}
 use Rattle.spec_session.specs.Unfold.{Unfolded, leaf, unfolded}
 use Rattle.spec_session.specs.Cache.{Cache, length-at}
 use Rattle.spec_session.specs.Items.{Item, atom-item, reference-item, item-bytes}
-use Rattle.spec_session.specs.Output.{item-size-is, size-more, output-more}
 use Rattle.spec_session.specs.Writer as session
 use Rattle.spec_session.specs.Writer.{Todo, parse, Written, done, and-then, atom-entry, pair-entry, push, put-if, put-whole}
 use Rattle.spec_session.specs.FindPath.{without-terminator, find-in}
@@ -34,9 +32,11 @@ use Rattle.search_find.specs.declared.find_path.Path.the-variants.{At, NoPath}
 use Rattle.search_list.specs.State.{path-at}
 use Rattle.cache_stack.specs.marks.Contracts.{marked-at}
 use Rattle.cache_stack.specs.Contracts.{PushedMarked}
+use Rattle.write_counts.specs.declared.Counts.{Counts}
 use Rattle.write_item.specs.declared.Put.{Put}
 use Rattle.write_item.specs.declared.Put.the-variants as item
-use Rattle.write_item.specs.Answers.{written}
+use Rattle.write_item.specs.Answers.{ItemPut}
+use Rattle.write_item.proofs.Counting.{put-none}
 use Rattle.cache_entries.specs.Meaning.{bytes-named, Tables, Holds}
 use Rattle.cache_entries.proofs.Entering.{names-pair, is-leaf, is-node}
 use Rattle.search_find.specs.Contracts.{LengthOf, steps-of}
@@ -44,9 +44,10 @@ use Rattle.write_place.specs.declared.Place.{Place}
 use Rattle.write_loop.specs.declared.write_turn.Next.{Next}
 use Rattle.write_loop.specs.declared.write_turn.Next.the-variants.{Parse, Close, Refused}
 use Rattle.write_place.specs.State.{AtomsThere, todo-of, Writes}
+use Rattle.write_place.proofs.Sizes.{size-written}
 use Rattle.write_loop.specs.Contracts.{Runs, goes-on, Turns, Falls, Found, AtomPut, Stacks, Pushes}
 use Rattle.write_loop.proofs.write_turn.Frames.{only-same, holds-stay, Beside, beside-only, todo-stays, standing-stays}
-use Rattle.write_loop.proofs.write_turn.Items.{PutNext, put-next, put-none, taken-all, taken-before, length-stays, WholeItem, whole-fits, whole-lacks}
+use Rattle.write_loop.proofs.write_turn.Items.{put-there, taken-before, running-more, counts-written, bytes-written, WholeItem, whole-fits, whole-lacks}
 
 -- ---- an entry goes on the stack
 
@@ -75,64 +76,60 @@ push-marks f c w w′ d e m ho st mk x l =
 -- The item stands for the whole subtree of the node h, of entry e.
 abbrev pub StandsFor : (file w out : List ℕ) → Place → (h e : ℕ) → Item → Type 0
 StandsFor file w out p h e i =
-    (f : File) (c : Cache) (s : Written) → Tables f w → AtomsThere file f w → Writes f w out (p .depth) (p .size) c s → (k : List Todo)
+    (f : File) (c : Cache) (s : Written) → Tables f w → AtomsThere file f w → Writes f w out (p .depth) (p .counts) c s → (k : List Todo)
     → goes-on c (length out) (parse (unfolded f h) ∷ k) s
     ≡ and-then (put-whole (find-in counted) (room-in (length out)) c k e i s) (goes-on c (length out) k)
 
 module _ (file w w′ out out′ : List ℕ) (p : Place) (h : NodePtr) (e : ℕ) (i : Item) (run : Runs w out p 0) (whole : WholeItem i)
     (some-bytes : 1 ≤ length (item-bytes i)) (stands : StandsFor file w out p (h .0) e i) (len : length w′ ≡ length w) where
   -- What is written with the item.
-  abbrev with-item : Cache → Written → Written
-  with-item c s = push c e (record { stack = s .stack; marked = s .marked; items = s .items ++ i ∷ [] })
+  abbrev with-value : Cache → Written → Written
+  with-value c s = push c e (record { stack = s .stack; marked = s .marked; items = s .items ++ i ∷ [] })
 
-  module _ (m : ℕ) (q : PutNext out out′ (p .size) (item-bytes i) m) (st : Stacks w w′ (p .depth) e) where
+  module _ (m : Counts) (a : ItemPut out out′ (p .counts) i (item.Next m)) (st : Stacks w w′ (p .depth) e) where
     after : Place
-    after = record { opens = p .opens; depth = p .depth + 1; size = m }
+    after = record { opens = p .opens; depth = p .depth + 1; counts = m }
 
     beside : Beside w w′
     beside = push-beside w w′ (p .depth) e len st
 
-    value-writes : (f : File) (c : Cache) (s : Written) → Tables f w → Writes f w out (p .depth) (p .size) c s → Writes f w′ out′ (p .depth + 1) m c (with-item c s)
+    value-writes : (f : File) (c : Cache) (s : Written) → Tables f w → Writes f w out (p .depth) (p .counts) c s → Writes f w′ out′ (p .depth + 1) m c (with-value c s)
     value-writes f c s t wr =
         record {
           cache = holds-stay w w′ len (beside-only w w′ beside) (run .stands .whole) f c t (wr .cache);
           stack = ap {B = List ℕ} (λ r. e ∷ r) (wr .stack) ∙ sym (st .pushed .stack);
           marks = push-marks f c w w′ (p .depth) e (s .marked) (wr .cache) st (wr .marks);
-          size-is = omega (arith, q .end, wr .size-is, size-more (s .items) i, item-size-is i);
-          bytes-are =
-              taken-all out out′ (p .size) (item-bytes i) m q ∙ ap (λ (x : List ℕ). x ++ item-bytes i) (wr .bytes-are) ∙ sym (output-more (s .items) i);
+          counts-are = counts-written a (s .items) (wr .counts-are);
+          bytes-are = bytes-written a (s .items) (wr .bytes-are);
         }
 
-    value-same : (f : File) (c : Cache) (s : Written) → Tables f w → AtomsThere file f w → Writes f w out (p .depth) (p .size) c s
-        → goes-on c (length out) (parse (unfolded f (h .0)) ∷ todo-of f w (p .opens)) s ≡ goes-on c (length out) (todo-of f w′ (p .opens)) (with-item c s)
+    value-same : (f : File) (c : Cache) (s : Written) → Tables f w → AtomsThere file f w → Writes f w out (p .depth) (p .counts) c s
+        → goes-on c (length out) (parse (unfolded f (h .0)) ∷ todo-of f w (p .opens)) s ≡ goes-on c (length out) (todo-of f w′ (p .opens)) (with-value c s)
     value-same f c s t th wr =
         let k = todo-of f w (p .opens) in
         stands f c s t th wr k
         ∙ ap (λ (n : ℕ). and-then (and-then (put-if n i s) (λ v. done (push c e v))) (goes-on c (length out) k))
-        (whole-fits (length out) k (s .items) i whole (omega (arith, q .fits, wr .size-is)))
-        ∙ ap (λ (j : List Todo). goes-on c (length out) j (with-item c s)) (sym (todo-stays w w′ beside (p .opens) (p .depth) 0 (run .stands) f))
+        (whole-fits (length out) k (s .items) i whole (omega (arith, put-there a .fits, size-written wr)))
+        ∙ ap (λ (j : List Todo). goes-on c (length out) j (with-value c s)) (sym (todo-stays w w′ beside (p .opens) (p .depth) 0 (run .stands) f))
 
     value-turns : Turns file w w′ out out′ (Parse p h) (Close after)
     unfolding after
     value-turns =
         record {
           fine =
-              record {
-                stands = standing-stays w w′ beside (p .opens) (p .depth) 0 (run .stands) (p .depth + 1) 1 (st .pushed .stacked) (omega arith);
-                fits = omega (arith, q .fits, q .end, length-stays out out′ (p .size) (item-bytes i) m q);
-                short = omega (arith, run .short, length-stays out out′ (p .size) (item-bytes i) m q);
-              };
+              running-more a run
+              (standing-stays w w′ beside (p .opens) (p .depth) 0 (run .stands) (p .depth + 1) 1 (st .pushed .stacked) (omega arith));
           only = beside-only w w′ beside;
-          grows = omega (arith, q .end);
-          before = taken-before out out′ (p .size) (item-bytes i) m q;
-          leads = λ f c s t th wr. record { last = with-item c s; writes = value-writes f c s t wr; same = value-same f c s t th wr };
+          grows = omega (arith, put-there a .end);
+          before = taken-before a;
+          leads = λ f c s t th wr. record { last = with-value c s; writes = value-writes f c s t wr; same = value-same f c s t th wr };
         }
 
     value-falls : Falls (length out) (Parse p h) (Close after)
     unfolding after
-    value-falls = omega (arith, q .end, q .fits, run .stands .few-opens)
+    value-falls = omega (arith, put-there a .end, put-there a .fits, run .stands .few-opens)
 
-  lacks-turns : length out < p .size + length (item-bytes i) → Turns file w w out out (Parse p h) (Refused 13 p)
+  lacks-turns : length out < p .counts .size + length (item-bytes i) → Turns file w w out out (Parse p h) (Refused 13 p)
   lacks-turns q =
       record {
         fine = run;
@@ -147,19 +144,18 @@ module _ (file w w′ out out′ : List ℕ) (p : Place) (h : NodePtr) (e : ℕ)
               same =
                   stands f c s t th wr k
                   ∙ ap (λ (n : ℕ). and-then (and-then (put-if n i s) (λ v. done (push c e v))) (goes-on c (length out) k))
-                  (whole-lacks (length out) k (s .items) i whole (omega (arith, wr .size-is)));
+                  (whole-lacks (length out) k (s .items) i whole (omega (arith, size-written wr)));
             };
       }
 
-  pub value-after : (x : Put) (r : Next) → written x out′ ≡ put out (p .size) (some (item-bytes i)) → Pushes w w′ p e x r
+  pub value-after : (x : Put) (r : Next) → ItemPut out out′ (p .counts) i x → Pushes w w′ p e x r
       → (Turns file w w′ out out′ (Parse p h) r) × Falls (length out) (Parse p h) r
   unfolding after
   value-after (item.Next m) r a q =
-      let n = put-next out out′ (p .size) (item-bytes i) m a in
       subst (λ (y : Next). (Turns file w w′ out out′ (Parse p h) y) × Falls (length out) (Parse p h) y) (sym (q .0))
-      (value-turns m n (q .1), value-falls m n (q .1))
+      (value-turns m a (q .1), value-falls m a (q .1))
   value-after item.Full r a q =
-      let n = put-none out out′ (p .size) (item-bytes i) a in
+      let n = put-none out out′ (p .counts .size) (item-bytes i) (a .bytes) in
       subst (λ (y : Next). (Turns file w w′ out out′ (Parse p h) y) × Falls (length out) (Parse p h) y) (sym (q .0)) (
         subst (λ (x : List ℕ). Turns file w x out out′ (Parse p h) (Refused 13 p)) (sym (q .1))
             (subst (λ (x : List ℕ). Turns file w w out x (Parse p h) (Refused 13 p)) (sym (n .1)) (lacks-turns (n .0))),
@@ -169,7 +165,7 @@ module _ (file w w′ out out′ : List ℕ) (p : Place) (h : NodePtr) (e : ℕ)
 -- ---- which item: what was found
 
 module _ {w out : List ℕ} {p : Place} {h e : ℕ} {path : Path} (fo : Found w out p h e path) {f : File} {c : Cache} {s : Written}
-    (t : Tables f w) (wr : Writes f w out (p .depth) (p .size) c s) where
+    (t : Tables f w) (wr : Writes f w out (p .depth) (p .counts) c s) where
   -- The search of the definitions gives what was found.
   pub found-is : {x : ℕ} → x ≡ e → find-in counted c (s .marked) (s .stack) h x ≡ steps-of w path
   found-is q =
@@ -232,13 +228,13 @@ module _ (file : List ℕ) {w out : List ℕ} {p : Place} {h e : ℕ} (fo : Foun
 
 module _ {w w′ out out′ : List ℕ} {p : Place} {h : NodePtr} {e : ℕ} (len : length w′ ≡ length w) (x : Put) {r : Next} (pu : Pushes w w′ p e x r) where
   pub refer-turns : {slot : ℕ} (fo : Found w out p (h .0) e (At slot)) → Ends (path-at w slot)
-      → ((path : List Bool) → path-at w slot ≡ path ++ true ∷ [] → written x out′ ≡ put out (p .size) (some (item-bytes (reference-item path))))
+      → ((path : List Bool) → path-at w slot ≡ path ++ true ∷ [] → ItemPut out out′ (p .counts) (reference-item path) x)
       → (file : List ℕ) → (Turns file w w′ out out′ (Parse p h) r) × Falls (length out) (Parse p h) r
   refer-turns fo en a file =
       value-after file w w′ out out′ p h e (reference-item (en .steps)) (fo .running) tt (omega arith)
       (reference-stands file fo (en .steps) (en .ends)) len x r (a (en .steps) (en .ends)) pu
 
-  pub atom-turns : {file : List ℕ} (fo : Found w out p (h .0) e NoPath) → is-atom (node-of (h .0)) ≡ true → AtomPut file w (h .0) out out′ (p .size) x
+  pub atom-turns : {file : List ℕ} (fo : Found w out p (h .0) e NoPath) → is-atom (node-of (h .0)) ≡ true → AtomPut file w (h .0) out out′ (p .counts) x
       → (Turns file w w′ out out′ (Parse p h) r) × Falls (length out) (Parse p h) r
   atom-turns {file} fo a b =
       value-after file w w′ out out′ p h e (atom-item (b .bytes)) (fo .running) tt (atom-byte (b .bytes) (b .short))
@@ -246,10 +242,10 @@ module _ {w w′ out out′ : List ℕ} {p : Place} {h : NodePtr} {e : ℕ} (len
 
 -- ---- what `push_value` leaves
 
-pub pushes-next : {w w′ : List ℕ} (p : Place) {e n m : ℕ} {x : Put} → x ≡ item.Next m → LengthOf w e n → PushedMarked w w′ (p .depth) e n
-    → Pushes w w′ p e x (Close (record { opens = p .opens; depth = p .depth + 1; size = m }))
+pub pushes-next : {w w′ : List ℕ} (p : Place) {e n : ℕ} {m : Counts} {x : Put} → x ≡ item.Next m → LengthOf w e n → PushedMarked w w′ (p .depth) e n
+    → Pushes w w′ p e x (Close (record { opens = p .opens; depth = p .depth + 1; counts = m }))
 pushes-next {w} {w′} p {e} {n} {m} {x} q l pu =
-    subst (λ (y : Put). Pushes w w′ p e y (Close (record { opens = p .opens; depth = p .depth + 1; size = m }))) (sym q)
+    subst (λ (y : Put). Pushes w w′ p e y (Close (record { opens = p .opens; depth = p .depth + 1; counts = m }))) (sym q)
     (refl, record { len = n; length-is = l; pushed = pu })
 
 pub pushes-full : (w : List ℕ) (p : Place) (e : ℕ) (x : Put) → x ≡ item.Full → Pushes w w p e x (Refused 13 p)

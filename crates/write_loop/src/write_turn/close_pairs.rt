@@ -12,7 +12,7 @@ ghost use Rattle.words.specs.Words.{at, WORK};
 ghost use Rattle.work_layout.specs.Layout.{OPEN, PAIR-COUNT};
 ghost use Rattle.cache_stack.specs.Contracts.{Stacked};
 ghost use Rattle.cache_entries.specs.Meaning.{Whole};
-ghost use Rattle.write_loop.specs.declared.write_turn.Next.the-variants.{Parse, Close};
+ghost use Rattle.write_loop.specs.declared.write_turn.Next.the-variants.{Close};
 ghost use Rattle.write_place.specs.State.{Standing};
 ghost use Rattle.write_loop.specs.Contracts.{Runs, Turns, Falls, Closes};
 
@@ -55,9 +55,10 @@ pub fn close_up(work: &mut [u32], place: Place) -> Next
         return Next::Parse(place, right);
     }
     close_pair(work, place.depth, i);
+    let counts = place.counts;
     Next::Close(Place {
         opens: opens - 1,
         depth: place.depth - 1,
-        size: place.size,
+        counts,
     })
 }

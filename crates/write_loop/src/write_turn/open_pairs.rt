@@ -36,15 +36,15 @@ pub fn open_pair(
     if opens >= MAX_OPEN {
         return Next::Refused(12, place);
     }
-    match write_item::write_cons(output, place.size) {
-        Put::Next(size) => {
+    match write_item::write_cons(output, place.counts) {
+        Put::Next(counts) => {
             let left = cache_entries::left_of(work, wide(node.index()));
             work[work_layout::OPEN + opens] = node.index() * 2 + 1;
             Next::Parse(
                 Place {
                     opens: opens + 1,
                     depth: place.depth,
-                    size,
+                    counts,
                 },
                 left,
             )

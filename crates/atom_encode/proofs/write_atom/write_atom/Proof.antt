@@ -27,7 +27,7 @@ enum-told c = search needs
 returns : tie.Need-returns
 returns c =
     let a = c .before .before .before .before .before .args in
-    put-too-long (a .output .now) (a .position) (a .atom .now) (sym (c .before .before .prefix-width .ensures) ∙ ap width-of (c .enum-told .given .1))
+    (put-too-long (a .output .now) (a .position) (a .atom .now) (sym (c .before .before .prefix-width .ensures) ∙ ap width-of (c .enum-told .given .1)), tt)
 
 add-total : tie.Need-add-total
 add-total c =
@@ -36,7 +36,7 @@ add-total c =
 returns-2 : tie.Need-returns-2
 returns-2 c =
     let a = c .before .before .before .before .before .before .before .args in
-    put-no-room (a .output .now) (a .position) (a .atom .now) _ (width-known (c .before .before)) (omega arith)
+    (put-no-room (a .output .now) (a .position) (a .atom .now) _ (width-known (c .before .before)) (omega arith), tt)
 
 sub-if2 : tie.Need-sub-if2
 sub-if2 c = search needs
@@ -44,7 +44,7 @@ sub-if2 c = search needs
 returns-3 : tie.Need-returns-3
 returns-3 c =
     let a = c .before .before .before .before .before .before .before .before .args in
-    put-no-room (a .output .now) (a .position) (a .atom .now) _ (width-known (c .before .before .before)) (omega arith)
+    (put-no-room (a .output .now) (a .position) (a .atom .now) _ (width-known (c .before .before .before)) (omega arith), tt)
 
 write-prefix-requires : tie.Need-write-prefix-requires
 write-prefix-requires c κs =
@@ -68,9 +68,11 @@ returns-4 c =
     let copied = c .before .before .copy-bytes in
     let prefix = c .before .before .before .before .before .before in
     let known = prefix .before .before .before .before .before in
-    let a = known .before .before .before .before .before .args in
-    put-prefixed (a .output .now) (a .position) (a .atom .now) _ (prefix .write-prefix .last .0) (copied .last .1 .0)
-    (width-known known) (omega arith) (prefix .write-prefix .ensures) (copied .ensures)
+    let a = known .before .before .before .before .before .args in (
+      put-prefixed (a .output .now) (a .position) (a .atom .now) _ (prefix .write-prefix .last .0) (copied .last .1 .0)
+          (width-known known) (omega arith) (prefix .write-prefix .ensures) (copied .ensures),
+      width-known known,
+    )
 
 pub write-atom-spec : {M : Type 1} → statement M
 write-atom-spec =

@@ -21,12 +21,12 @@ enum-known-n c = search needs
 array-share-prefix-output : tie.Need-array-share-prefix-output
 array-share-prefix-output c =
     let w = c .before .before .before .before .write-atom in
-    written-within _ (w .last .0) _ _ _ _ (c .before .n .given .1) (w .ensures) (w .kept .0)
+    written-within _ (w .last .0) _ _ _ _ _ (c .before .n .given .1) (w .ensures .0) (w .kept .0)
 
 slice-aggregate-hex : tie.Need-slice-aggregate-hex
 slice-aggregate-hex c =
     let w = c .before .before .before .before .before .write-atom in
-    counted _ _ (written-within _ (w .last .0) _ _ _ _ (c .before .before .n .given .1) (w .ensures) (w .kept .0))
+    counted _ _ (written-within _ (w .last .0) _ _ _ _ _ (c .before .before .n .given .1) (w .ensures .0) (w .kept .0))
 
 hex-requires : tie.Need-hex-requires
 hex-requires c κs = search needs

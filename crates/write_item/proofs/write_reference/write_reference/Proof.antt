@@ -1,12 +1,14 @@
 -- `write_item::write_reference::write_reference` meets its contract.
 -- Assumes nothing.
 use Prim.Native.Nat.{ℕ, _+_, _/_}
-use mathlib.Core.Path.{ap}
+use mathlib.Core.Path.{ap, _∙_}
 use native.Mathlib.Omega.{arith}
 use lib.ListN.{length}
 use borrow.Author.Needs.{needs}
 use Rattle.search_list.specs.State.{path-at}
+use Rattle.spec_session.specs.Items.{width-or-0, reference-item}
 use Rattle.write_item.proofs.Puts.{no-room, has-room}
+use Rattle.write_item.proofs.Counting.{put-counted}
 use Rattle.write_item.proofs.write_reference.References.{reference-full, reference-next}
 use Rattle.write_item.proofs.write_reference.write_reference.Statement.{statement}
 use Rattle.write_item.proofs.write_reference.write_reference.Tie as tie
@@ -34,8 +36,13 @@ returns c =
     let w = c .before .before in
     let b = w .before .path-bits in
     let a = w .before .before .before .before .args in
-    λ path e. reference-full (a .output .now) (a .size) (b .result) (w .path-width .result) (path-at (a .work .now) (a .slot)) path e (b .ensures .0)
-    (w .path-width .ensures .1) (no-room _ _ _ (c .before .fits2 .ensures) (c .if1 .taken))
+    λ path e.
+    record {
+      bytes =
+          reference-full (a .output .now) (a .counts .size) (b .result) (w .path-width .result) (path-at (a .work .now) (a .slot)) path e (b .ensures .0)
+          (w .path-width .ensures .1) (no-room _ _ _ (c .before .fits2 .ensures) (c .if1 .taken));
+      counted = tt;
+    }
 
 put-reference-requires : tie.Need-put-reference-requires
 put-reference-requires c κs =
@@ -46,26 +53,34 @@ put-reference-requires c κs =
       (w .path-width .ensures .0, has-room _ _ _ (c .before .before .fits2 .ensures) (c .before .if1 .left)),
     )
 
-add-t9 : tie.Need-add-t9
-add-t9 c =
+add-with-reference : tie.Need-add-with-reference
+add-with-reference c =
     let t = c .before .before .before .before in
     let w = t .before .before in
     let a = w .before .before .before .before .args in
     let total = 1 + (w .path-width .result + (w .before .path-bits .result + 7) / 8) in
-    record { fits = omega (arith, has-room (length (a .output .now)) (a .size + total) _ (t .before .fits2 .ensures) (t .if1 .left)) }
+    record { fits = omega (arith, has-room (length (a .output .now)) (a .counts .size + total) _ (t .before .fits2 .ensures) (t .if1 .left)) }
+
+with-reference-requires : tie.Need-with-reference-requires
+with-reference-requires c κs =
+    let s = c .before .before .before .before .before .before .before .before .before .before in
+    (omega (arith, s .pre .3 .references), omega (arith, s .pre .3 .prefixes))
 
 same-length : tie.Need-same-length
 same-length c = search needs
 
 returns-2 : tie.Need-returns-2
 returns-2 c =
-    let t = c .before .before .before .before in
+    let t = c .before .before .before .before .before in
     let w = t .before .before in
     let b = w .before .path-bits in
     let a = w .before .before .before .before .args in
-    let r = c .before .before .put-reference in
-    λ path e. reference-next (a .output .now) (a .size) (b .result) (w .path-width .result) (path-at (a .work .now) (a .slot)) path e (b .ensures .0)
-    (w .path-width .ensures .1) (r .last .1 .1 .0) (has-room _ _ _ (t .before .fits2 .ensures) (t .if1 .left)) (r .ensures)
+    let r = c .before .before .before .put-reference in
+    λ path e.
+    put-counted (a .output .now) _ (a .counts) (reference-item path) _ _
+    (reference-next (a .output .now) (a .counts .size) (b .result) (w .path-width .result) (path-at (a .work .now) (a .slot)) path e (b .ensures .0)
+    (w .path-width .ensures .1) (r .last .1 .1 .0) (has-room _ _ _ (t .before .fits2 .ensures) (t .if1 .left)) (r .ensures))
+    (ap width-or-0 (w .path-width .ensures .1 path (b .ensures .0 ∙ ap length e))) _ (c .with-reference .ensures)
 
 pub write-reference-spec : {M : Type 1} → statement M
 write-reference-spec =
@@ -79,6 +94,7 @@ write-reference-spec =
     fits-requires
     returns
     put-reference-requires
-    add-t9
+    add-with-reference
+    with-reference-requires
     same-length
     returns-2)

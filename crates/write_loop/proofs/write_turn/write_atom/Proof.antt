@@ -27,8 +27,8 @@ wide-requires c κs = search needs
 write-listed-requires : tie.Need-write-listed-requires
 write-listed-requires c κs =
     let s = c .before .before .before .before .before .before .before .before in
-    let low = listed-low (s .args .work .now) (s .args .node .0) (s .pre .0) (s .pre .2) (listed c) in
-    (s .pre .0, s .pre .1, omega (arith, c .wide .ensures, c .before .index .ensures, low))
+    let low = listed-low (s .args .work .now) (s .args .node .0) (s .pre .1) (s .pre .3) (listed c) in
+    (s .pre .0, s .pre .1, s .pre .2, omega (arith, c .wide .ensures, c .before .index .ensures, low))
 
 same-length : tie.Need-same-length
 same-length c = search needs
@@ -37,13 +37,13 @@ returns : tie.Need-returns
 returns c =
     let x = c .before .before .before in
     let s = x .before .before .before .before .before .before .before .before in
-    listed-put (s .pre .0) (s .pre .2) (x .wide .result) (s .pre .1) (listed x) (x .wide .ensures ∙ x .before .index .ensures) (c .before .before .write-listed .ensures)
+    listed-put (s .pre .1) (s .pre .3) (x .wide .result) (s .pre .2) (listed x) (x .wide .ensures ∙ x .before .index .ensures) (c .before .before .write-listed .ensures)
 
 index-requires-2 : tie.Need-index-requires-2
 index-requires-2 c κs = search needs
 
 write-small-requires : tie.Need-write-small-requires
-write-small-requires c κs = let s = c .before .before .before .before .before .before .before in omega (arith, c .index2 .ensures, index-low (s .args .node .0))
+write-small-requires c κs = let s = c .before .before .before .before .before .before .before in (s .pre .0, omega (arith, c .index2 .ensures, index-low (s .args .node .0)))
 
 same-length-2 : tie.Need-same-length-2
 same-length-2 c = search needs
@@ -52,7 +52,7 @@ returns-2 : tie.Need-returns-2
 returns-2 c =
     let x = c .before .before .before in
     let s = x .before .before .before .before .before .before .before in
-    small-put (s .pre .0) (s .pre .2) (x .index2 .result) (sym (x .before .before .before .is-listed .ensures) ∙ x .before .before .if1 .left) (s .pre .3) (x .index2 .ensures)
+    small-put (s .pre .1) (s .pre .3) (x .index2 .result) (sym (x .before .before .before .is-listed .ensures) ∙ x .before .before .if1 .left) (s .pre .4) (x .index2 .ensures)
     (c .before .before .write-small .ensures)
 
 pub write-atom-spec : {M : Type 1} → statement M

@@ -52,19 +52,22 @@ close-pair-requires c κs =
     let o = inner (c .before .before) in
     (s .pre .whole, s .pre .stacked, values-there o (c .before .if2 .left), pair-low o)
 
-sub-t21 : tie.Need-sub-t21
-sub-t21 c = search needs
-
 sub-t22 : tie.Need-sub-t22
-sub-t22 c = omega (arith, values-there (inner (c .before .before .before .before .before .before)) (c .before .before .before .before .before .if2 .left))
+sub-t22 c = search needs
+
+sub-t23 : tie.Need-sub-t23
+sub-t23 c =
+    let complete = c .before .before .before .before .before .before in
+    omega (arith, values-there (inner (complete .before)) (complete .if2 .left))
 
 same-length-2 : tie.Need-same-length-2
 same-length-2 c = search needs
 
 returns-3 : tie.Need-returns-3
 returns-3 c =
-    let closed = c .before .before .before .close-pair in
-    closes-one (inner (c .before .before .before .before .before .before)) (c .before .before .before .before .before .if2 .left) (closed .kept .0) (closed .ensures)
+    let closed = c .before .before .before .before in
+    let complete = closed .before .before in
+    closes-one (inner (complete .before)) (complete .if2 .left) (closed .close-pair .kept .0) (closed .close-pair .ensures)
 
 pub close-up-spec : {M : Type 1} → statement M
 close-up-spec =
@@ -82,7 +85,7 @@ close-up-spec =
     same-length
     returns-2
     close-pair-requires
-    sub-t21
     sub-t22
+    sub-t23
     same-length-2
     returns-3)

@@ -21,8 +21,8 @@ returns c = let s = c .before .before .before in deep-turns (s .args .node) (s .
 write-cons-requires : tie.Need-write-cons-requires
 write-cons-requires c κs = search needs
 
-enum-known-size : tie.Need-enum-known-size
-enum-known-size c = search needs
+enum-known-counts : tie.Need-enum-known-counts
+enum-known-counts c = search needs
 
 index-requires : tie.Need-index-requires
 index-requires c κs = search needs
@@ -74,11 +74,11 @@ returns-2 : tie.Need-returns-2
 returns-2 c =
     let written = c .before .before .before .before .before .before .before .before .before .before in
     let s = written .before .before .before .before .before in
-    let size = c .before .before .before .before .before .before .size in
-    opens-turns (s .args .node) (s .pre .0) (s .pre .1) (written .before .before .if1 .left) (written .write-cons .last .0) (size .given .0 .0) (c .index2 .result)
+    let counts = c .before .before .before .before .before .before .counts in
+    opens-turns (s .args .node) (s .pre .0) (s .pre .1) (written .before .before .if1 .left) (written .write-cons .last .0) (counts .given .0 .0) (c .index2 .result)
     (c .before .left-of .result) (c .index2 .ensures)
     (c .before .left-of .ensures ∙ ap (λ (k : ℕ). at (s .args .work .now) (PAIRS + 2 * k)) (c .before .before .wide .ensures ∙ c .before .before .before .index .ensures))
-    (rw (size .given .1) at (written .write-cons .ensures))
+    (rw (counts .given .1) at (written .write-cons .ensures))
 
 same-length-3 : tie.Need-same-length-3
 same-length-3 c = search needs
@@ -96,7 +96,7 @@ open-pair-spec =
     (tie.spec
     returns
     write-cons-requires
-    enum-known-size
+    enum-known-counts
     index-requires
     wide-requires
     left-of-requires
