@@ -11,13 +11,11 @@ HEAD='''-- `session::run` is safe and ends: a walk of its MIR. It knows of `nikv
 USES='''use Rattle.session_answer.specs.declared.SessionAnswer.{SessionAnswer}
 use Rattle.session_answer.proofs.SessionAnswer as R
 use Rattle.session_answer.proofs.SessionAnswer.Laws as R′
+use Rattle.session_state.proofs.checkpoints.Rows.{blank-is}
 use Rattle.session_call.proofs.Lending.{twice}
 use Rattle.session.proofs.Lent.{lends-array, array-back}
 '''
-MACH='''blank-is : Is T.the-row blank (LL.vals T.the-type T′.the-laws blank)
-blank-is = LL.owes T.the-type T′.the-laws blank ((refl, lit< tt), ((refl, lit< tt), ((refl, lit< tt), ((refl, lit< tt), tt))))
-
-room : Room T.the-row 16
+MACH='''room : Room T.the-row 16
 room = (lit< tt, lit< tt)
 
 -- The sixteen records, and what they are in the machine.
@@ -59,7 +57,7 @@ w=Walk(f,['toks','owns'])
 w.enter(15)
 w.comment('The sixteen records.')
 ARRAY='Array T.the-row 16'
-w.assign('agg ! '+w.ops(['(lit ! tt)']*4),6,RECORD.typed('blank','blank-is'))
+w.assign('agg ! '+w.ops(['(lit ! tt)']*6),6,RECORD.typed('blank','blank-is'))
 w.e(RECORD.owned('blank','blank-is')+' $ use1 W (‵ (%s .own blanks (zeros ∷ [])))'%ARRAY)
 w.e('(array-repeat 𝓤 H A W T.the-row (LL.copy T.the-type T′.the-copy 𝓤 H A W) 16 blank (LL.val T.the-type T′.the-laws blank)) $')
 w.ctx=['array']+w.ctx

@@ -145,7 +145,7 @@ FITS='record { fits = byte-fits room₀ (in-k k go ek) }'
 def place(p,how):   # The place of record k, to local p.
     on.assign('bin ! %s (lit ! tt) (%s)'%(on.ld(8),FITS),12,'(tt, %s)'%FITS,how)
     on.assign('bin ! %s %s tt'%(on.part(1,0),on.ld(12)),p,'(tt, tt)')
-    on.e('rewrite ! %d (λ (p : ℕ). ‵ (fat fullShare tyPtr l%s 0 (vptr b p))) (sym (place-is 16 o k)) refl $'%(on.at('_%d'%p),sub(p)))
+    on.e('rewrite ! %d (λ (p : ℕ). ‵ (fat fullShare tyPtr l%s 0 (vptr b p))) (sym (place-is 24 o k)) refl $'%(on.at('_%d'%p),sub(p)))
 def out(is_):   # Record k out of the row.
     on.move('row')
     on.e('elem-out ! T.the-row (Is T.the-row) (shows 𝓤 H A T.the-row) the-vals the-tells fullShare (m .rows) k blank b o (in-row k go ek) (λ %s.'%is_)

@@ -1,9 +1,16 @@
-// Runs session files: those that its arguments name, or standard input. After the argument --items the output is printed item by item.
+// Runs session files: those that its arguments name, or standard input. After the argument --items the output is printed item by item, after --counts each
+// step's references and prefix bytes too.
 use libc::STDIN_FILENO;
 use session_answer::SessionAnswer;
 use session_state::Checkpoint;
 use text::session_text::items;
 use text::session_text::print;
+
+// What the arguments ask for: the output item by item, each step's counts.
+pub struct Options {
+    pub items: bool,
+    pub counts: bool,
+}
 
 // The session call with sixteen checkpoint records of its own.
 fn run(file: &[u8], work: &mut [u32], words: &mut [u32], output: &mut [u8]) -> SessionAnswer {
@@ -11,6 +18,8 @@ fn run(file: &[u8], work: &mut [u32], words: &mut [u32], output: &mut [u8]) -> S
         opens: 0,
         depth: 0,
         size: 0,
+        references: 0,
+        prefix_bytes: 0,
         sentinel: 0,
     }; 16];
     session_call::nikvoldra_session(file, work, words, &mut checkpoints, output)
@@ -21,26 +30,34 @@ fn run(file: &[u8], work: &mut [u32], words: &mut [u32], output: &mut [u8]) -> S
 fn report_with(
     file: &[u8],
     by_items: bool,
+    counts: bool,
     work: &mut [u32; words::WORK],
-    words: &mut [u32; 1024],
+    words: &mut [u32; 3072],
     output: &mut [u8; 65535],
 ) {
     let a = run(file, work, words, output);
-    print::steps(words, a.steps);
+    print::steps(words, a.steps, counts);
     items::output(output, a.size, by_items);
     print::refusal(a.number);
 }
 
 // The same, with arrays of its own.
-fn report(file: &[u8], by_items: bool) {
+fn report(file: &[u8], options: Options) {
     let mut work = [0u32; words::WORK];
-    let mut words = [0u32; 1024];
+    let mut words = [0u32; 3072];
     let mut output = [0u8; 65535];
-    report_with(file, by_items, &mut work, &mut words, &mut output);
+    report_with(
+        file,
+        options.items,
+        options.counts,
+        &mut work,
+        &mut words,
+        &mut output,
+    );
 }
 
 // A read of no bytes first, which fails where nothing can be read, as from a directory.
-fn read_from(fd: i32, name: &[u8], by_items: bool) {
+fn read_from(fd: i32, name: &[u8], options: Options) {
     let mut nothing = [0u8; 1];
     if libc::read(fd, &mut nothing[..0]) < 0 {
         os::fail(name);
@@ -48,41 +65,51 @@ fn read_from(fd: i32, name: &[u8], by_items: bool) {
     }
     let mut file = io::large_buffer();
     let n = io::read_full(fd, &mut file);
-    report(&file[..n], by_items);
+    report(&file[..n], options);
 }
 
-// A file that an argument names. The argument --items names none; whether it, or one before it, is that one.
-fn read_named(i: usize, by_items: bool) -> bool {
+// A file that an argument names. The arguments --items and --counts name none: what is asked for after it.
+fn read_named(i: usize, options: Options) -> Options {
     let mut path = io::buffer();
     let length = os::arg(i, &mut path);
     if os::errno() != 0 {
         os::fail(b"argument");
-        return by_items;
+        return options;
     }
     if words::same_bytes(&path[..length], b"--items") {
-        return true;
+        let mut asked = options;
+        asked.items = true;
+        return asked;
+    }
+    if words::same_bytes(&path[..length], b"--counts") {
+        let mut asked = options;
+        asked.counts = true;
+        return asked;
     }
     let fd = os::open_read(&path[..length]);
     if fd < 0 {
         os::fail(&path[..length]);
         print::usage();
-        return by_items;
+        return options;
     }
-    read_from(fd, &path[..length], by_items);
+    read_from(fd, &path[..length], options);
     libc::close(fd);
-    by_items
+    options
 }
 
 fn main() {
+    let mut options = Options {
+        items: false,
+        counts: false,
+    };
     let count = os::arg_count();
     if count < 2 {
-        read_from(STDIN_FILENO, b"standard input", false);
+        read_from(STDIN_FILENO, b"standard input", options);
         return;
     }
-    let mut by_items = false;
     let mut i = 1;
     while i < count {
-        by_items = read_named(i, by_items);
+        options = read_named(i, options);
         i += 1;
     }
 }

@@ -1,6 +1,6 @@
 -- What is left after a run is cleared: the words and bytes past the finished ones are zero, and with 1 to 8 nothing changes.
 -- Assumes nothing.
-use Prim.Native.Nat.{ℕ, _-_, _≤_}
+use Prim.Native.Nat.{ℕ, _*_, _-_, _≤_}
 use mathlib.Core.Path.{_≡_, refl, sym, ap, subst, _∙_}
 use mathlib.Core.Bool.{Bool, true, false}
 use mathlib.Core.List.{List, [], _++_, append-nil}
@@ -30,6 +30,6 @@ tail-cleared l r n le e =
 pub cleared-none : (p : Progress) (w ws o : List ℕ) (over : Bool) → over ≡ true → Cleared p w ws o w ws o over
 cleared-none p w ws o over e = subst (Cleared p w ws o w ws o) (sym e) (refl, refl, refl)
 
-pub cleared-all : (p : Progress) (w ws o w′ ws′ o′ : List ℕ) (over : Bool) → over ≡ false → w′ ≡ zeroed w → ws′ ≡ filled ws (take (p .steps) ws)
-    → o′ ≡ filled o (take (p .size) o) → Cleared p w ws o w′ ws′ o′ over
+pub cleared-all : (p : Progress) (w ws o w′ ws′ o′ : List ℕ) (over : Bool) → over ≡ false → w′ ≡ zeroed w → ws′ ≡ filled ws (take (3 * p .steps) ws)
+    → o′ ≡ filled o (take (p .counts .size) o) → Cleared p w ws o w′ ws′ o′ over
 cleared-all p w ws o w′ ws′ o′ over e a b c = subst (Cleared p w ws o w′ ws′ o′) (sym e) (a, b, c)

@@ -2,7 +2,7 @@
 use session_state::progress::Progress;
 use words::slices;
 ghost use mathlib.Core.Path.{_≡_};
-ghost use Prim.Native.Nat.{_≤_};
+ghost use Prim.Native.Nat.{_*_, _≤_};
 ghost use lib.ListN.{length};
 ghost use Rattle.session_answer.specs.Answer.{answer-of, answer-at, Cleared};
 
@@ -16,7 +16,7 @@ pub struct SessionAnswer {
 
 // What is left is cleared: work, the words past the finished steps, and the output past the size. With 1 to 8 no slice is touched.
 fn clear_rest(work: &mut [u32], words: &mut [u32], output: &mut [u8], refused: bool, p: Progress)
-    requires { ⌜ (p .steps ≤ length (now words)) × (p .size ≤ length (now output)) ⌝ }
+    requires { ⌜ (3 * p .steps ≤ length (now words)) × (p .counts .size ≤ length (now output)) ⌝ }
     ensures { λ _. ⌜
         Cleared p (now (work .entry)) (now (words .entry)) (now (output .entry)) (now (work .exit)) (now (words .exit))
         (now (output .exit)) refused ⌝ }
@@ -24,10 +24,10 @@ fn clear_rest(work: &mut [u32], words: &mut [u32], output: &mut [u8], refused: b
     if refused {
         return;
     }
-    let steps = p.steps;
-    let size = p.size;
+    let told = 3 * p.steps;
+    let size = p.counts.size;
     slices::clear(work);
-    slices::clear(&mut words[steps..]);
+    slices::clear(&mut words[told..]);
     slices::clear_bytes(&mut output[size..]);
 }
 
@@ -39,7 +39,11 @@ pub fn finish(
     refused: bool,
     p: Progress,
 ) -> SessionAnswer
-    requires { ⌜ (p .steps ≤ 1024) × (p .steps ≤ length (now words)) × (p .size ≤ 65535) × (p .size ≤ length (now output)) ⌝ }
+    requires { ⌜
+        (p .steps ≤ 1024)
+        × (3 * p .steps ≤ length (now words))
+        × (p .counts .size ≤ 65535)
+        × (p .counts .size ≤ length (now output)) ⌝ }
     ensures { λ r. ⌜
         (answer-of r ≡ answer-at p)
         × (Cleared p (now (work .entry)) (now (words .entry)) (now (output .entry)) (now (work .exit))
@@ -49,6 +53,6 @@ pub fn finish(
     SessionAnswer {
         number: p.number,
         steps: p.steps as u32,
-        size: p.size as u32,
+        size: p.counts.size as u32,
     }
 }

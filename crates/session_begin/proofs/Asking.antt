@@ -28,14 +28,14 @@ use Rattle.session_begin.proofs.Starting.{starts}
 -- What question 1 was answered by.
 pub record Long (w ws cs : ℕ) : Type 0 where
   pub work : WORK ≤ w
-  pub words : 1024 ≤ ws
+  pub words : 3072 ≤ ws
   pub records : 16 ≤ cs
 
 pub lengths : (w ws cs : ℕ) → are-long w ws cs ≡ true → Long w ws cs
-lengths w ws cs e = go (leb WORK w) refl (leb 1024 ws) refl e
+lengths w ws cs e = go (leb WORK w) refl (leb 3072 ws) refl e
   where
-    go : (a : Bool) → leb WORK w ≡ a → (b : Bool) → leb 1024 ws ≡ b → a && (b && leb 16 cs) ≡ true → Long w ws cs
-    go true p true q r = record { work = leb-true WORK w p; words = leb-true 1024 ws q; records = leb-true 16 cs r }
+    go : (a : Bool) → leb WORK w ≡ a → (b : Bool) → leb 3072 ws ≡ b → a && (b && leb 16 cs) ≡ true → Long w ws cs
+    go true p true q r = record { work = leb-true WORK w p; words = leb-true 3072 ws q; records = leb-true 16 cs r }
     go true p false q r = clash cc
     go false p b q r = clash cc
 

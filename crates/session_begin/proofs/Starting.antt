@@ -18,7 +18,8 @@ use Rattle.file_parts.specs.Checked.{Passed, Contents}
 use Rattle.file_parts.specs.CheckedLaws.{pair-named}
 use Rattle.file_parts.specs.declared.session_file.Checked.{Checked}
 use Rattle.spec_session.specs.Writer.{start}
-use Rattle.spec_session.specs.Steps.{at-start}
+use Rattle.path.specs.Measure.{counted}
+use Rattle.spec_session.specs.Steps.{at-start, Run, run-steps}
 use Rattle.work_layout.specs.Layout.{TOPS, WRITTEN, MAPS, PARENTS, ENTRIES}
 use Rattle.work_layout.specs.Rows.{stack-of}
 use Rattle.cache_stack.specs.marks.Contracts.{marked-at}
@@ -28,6 +29,7 @@ use Rattle.cache_entries.proofs.Fresh.{Sorted, tables-handles, fresh-whole, fre
 use Rattle.write_place.specs.State.{todo-of, rights-left}
 use Rattle.session_state.specs.declared.checkpoints.Checkpoint.{Checkpoint}
 use Rattle.session_state.specs.State.{whole-run, At, Underway}
+use Rattle.write_counts.specs.Counts.{no-items}
 use Rattle.session_begin.specs.Opened.{Opened, start-at}
 
 -- Questions 5 and 7 were answered.
@@ -51,7 +53,7 @@ no-mark k = ap odd (zero-div (2 ^ k))
 
 module _ (input : List ℕ) (f : File) (c : Checked) (p : Passed input f c) (flag : Bool)
     (known : (ss : List Step) → StepsAt input (c .«steps_at») ss → flag ≡ forgets ss) (w words : List ℕ) (rows : List Checkpoint) (out : List ℕ) (o : Opened input f w)
-    (long : WORK ≤ length w) (many-words : 1024 ≤ length words) (many-rows : 16 ≤ length rows) (short : length out ≤ 65535) where
+    (long : WORK ≤ length w) (many-words : 3072 ≤ length words) (many-rows : 16 ≤ length rows) (short : length out ≤ 65535) where
   handles : Handles w
   handles = tables-handles f w (sorted f (p .contents)) (o .tables)
 
@@ -62,7 +64,7 @@ module _ (input : List ℕ) (f : File) (c : Checked) (p : Passed input f c) (fla
   unfolding marked-at
   no-marks e l = sym (ap (λ (x : ℕ). odd (x / 2 ^ (e % 32))) (o .zeros (WRITTEN + e / 32) (omega arith) (omega arith)) ∙ no-mark (e % 32))
 
-  present : At f w out 0 0 0 false start
+  present : At f w out 0 0 no-items false start
   unfolding todo-of rights-left stack-of
   present =
       record {
@@ -78,9 +80,10 @@ module _ (input : List ℕ) (f : File) (c : Checked) (p : Passed input f c) (fla
                     balance = refl;
                   };
               fits = omega arith;
+              bounded = record { references = omega arith; prefixes = omega arith };
               short = short;
             };
-        writes = record { cache = fresh-holds w long handles cache-zeros f (o .tables); stack = refl; marks = no-marks; size-is = refl; bytes-are = refl };
+        writes = record { cache = fresh-holds w long handles cache-zeros f (o .tables); stack = refl; marks = no-marks; counts-are = refl; bytes-are = refl };
         waiting = refl;
       }
 
@@ -119,5 +122,11 @@ module _ (input : List ℕ) (f : File) (c : Checked) (p : Passed input f c) (fla
         quote-saved = λ e. clash cc;
         state = at-start;
         shown = refl;
-        same = refl;
+        same = λ i. record { words = r .words; steps = none-before i; number = r .number; last = r .last };
       }
+    where
+      r : Run
+      r = run-steps counted (length out) f (f .steps) at-start
+
+      none-before : r .steps ≡ 0 + r .steps
+      none-before = omega arith

@@ -6,6 +6,7 @@ use mathlib.Core.List.{List}
 use lib.ListN.{length}
 use Rattle.spec_session.specs.File.{File, Got, got, refused, version-1, file}
 use Rattle.session_state.specs.declared.checkpoints.Checkpoint.{Checkpoint}
+use Rattle.write_counts.specs.Counts.{no-items}
 use Rattle.session_state.specs.declared.progress.Progress.{Progress}
 use Rattle.session_state.specs.State.{the-file, Underway}
 use Rattle.session_begin.specs.Lengths.{are-long}
@@ -17,15 +18,15 @@ asked input work words records = cond (are-long work words records) (file versio
 
 -- A run that is over before it starts.
 abbrev pub refused-with : ℕ → Progress
-refused-with n = record { at = 0; steps = 0; adds = 0; opens = 0; depth = 0; size = 0; finished = false; number = n; done = true; forgets = false; quoted = false }
+refused-with n = record { at = 0; steps = 0; adds = 0; opens = 0; depth = 0; counts = no-items; finished = false; number = n; done = true; forgets = false; quoted = false }
 
 -- The run can start, with work as it is. All records are to be cleared.
 pub record Starts (input w : List ℕ) (words records : ℕ) (b : Begun) : Type 0 where
-  pub many-words : 1024 ≤ words
+  pub many-words : 3072 ≤ words
   pub many-rows : 16 ≤ records
   pub all-records : b .records ≡ records
   pub goes : b .start .done ≡ false
-  pub ready : (ws : List ℕ) (rows : List Checkpoint) (out : List ℕ) → 1024 ≤ length ws → 16 ≤ length rows → length out ≤ 65535 → Underway input (the-file input) w ws rows out (b .start)
+  pub ready : (ws : List ℕ) (rows : List Checkpoint) (out : List ℕ) → 3072 ≤ length ws → 16 ≤ length rows → length out ≤ 65535 → Underway input (the-file input) w ws rows out (b .start)
 
 -- With a number of 1 to 8 work is as it was.
 abbrev pub Begins : (input w : List ℕ) (words records : ℕ) (w′ : List ℕ) (b : Begun) → Got File → Type 0

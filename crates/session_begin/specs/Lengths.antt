@@ -6,4 +6,4 @@ use Rattle.words.specs.Words.{WORK}
 
 -- Question 1, of the lengths of work, words and checkpoint records.
 abbrev pub are-long : (work words records : ℕ) → Bool
-are-long work words records = leb WORK work && (leb 1024 words && leb 16 records)
+are-long work words records = leb WORK work && (leb 3072 words && leb 16 records)

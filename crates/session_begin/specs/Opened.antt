@@ -10,6 +10,7 @@ use Rattle.file_parts.specs.Loaded.{AtomPlace, pair-of}
 use Rattle.work_layout.specs.Layout.{ATOMS, PAIRS, ATOM-HEADS, ATOM-NEXT, TOPS, PARENTS}
 use Rattle.cache_entries.specs.Meaning.{Tables}
 use Rattle.write_place.specs.State.{AtomPlaces, AtomsThere}
+use Rattle.write_counts.specs.Counts.{no-items}
 use Rattle.session_state.specs.declared.progress.Progress.{Progress}
 
 -- The words from a up to b became zero, and no other changed.
@@ -38,4 +39,4 @@ pub record Opened (input : List ℕ) (f : File) (w : List ℕ) : Type 0 where
 
 -- The first step comes next; nothing is added, open or written.
 abbrev pub start-at : (place : ℕ) → (forgets : Bool) → Progress
-start-at place b = record { at = place; steps = 0; adds = 0; opens = 0; depth = 0; size = 0; finished = false; number = 0; done = false; forgets = b; quoted = false }
+start-at place b = record { at = place; steps = 0; adds = 0; opens = 0; depth = 0; counts = no-items; finished = false; number = 0; done = false; forgets = b; quoted = false }

@@ -72,13 +72,14 @@ fn open(file: &[u8], work: &mut [u32], checked: Checked)
 fn start_at(at: usize, forgets: bool) -> Progress
     ensures { λ r. ⌜ r ≡ start-at at forgets ⌝ }
 {
+    let counts = write_counts::none();
     Progress {
         at,
         steps: 0,
         adds: 0,
         opens: 0,
         depth: 0,
-        size: 0,
+        counts,
         finished: false,
         number: 0,
         done: false,

@@ -9,7 +9,7 @@ pub fn long_enough(work: usize, words: usize, records: usize) -> bool
     if work < words::WORK {
         return false;
     }
-    if words < 1024 {
+    if words < 3072 {
         return false;
     }
     16 <= records

@@ -1,12 +1,12 @@
 -- The session call: what its calls give together is what the definition says, and demand 3 follows.
 -- Assumes nothing.
-use Prim.Native.Nat.{ℕ, _-_, _≤_, min}
+use Prim.Native.Nat.{ℕ, _*_, _-_, _≤_, min}
 use mathlib.Core.Path.{_≡_, refl, sym, ap, subst, _∙_}
 use mathlib.Core.Bool.{Bool, true, false, cond}
 use mathlib.Core.List.{List, _++_, append-nil}
 use native.Mathlib.Omega.{arith}
 use lib.ListN.{length, take, drop, replicate, length-take, drop-of-length-le}
-use lib.Seq.{length-take-le, take-take}
+use lib.Seq.{take-take}
 use Rattle.words.specs.Choice.{clash}
 use Rattle.words.specs.Lists.{Bytes}
 use Rattle.path.specs.Measure.{counted}
@@ -35,38 +35,35 @@ module _ (f : File) (words out : List ℕ) (p : Progress) (e : Ended f words (ta
   abbrev items : List Item
   items = e .session .written .items
 
-  size-low : p .size ≤ length (take 65535 out)
+  size-low : p .counts .size ≤ length (take 65535 out)
   size-low =
-      omega (arith, e .size-is, output-size items, ap length (e .bytes-are), length-take (p .size) (take 65535 out))
+      omega (arith, e .size-is, output-size items, ap length (e .bytes-are), length-take (p .counts .size) (take 65535 out))
 
-  pub ended-asks : (p .steps ≤ 1024) × (p .steps ≤ length words) × (p .size ≤ 65535) × (p .size ≤ length out)
+  pub ended-asks : (p .steps ≤ 1024) × (3 * p .steps ≤ length words) × (p .counts .size ≤ 65535) × (p .counts .size ≤ length out)
   ended-asks =
       (e .few-steps, omega (arith, e .few-steps, e .many-words), omega (arith, size-low, length-take 65535 out), omega (arith, size-low, length-take 65535 out))
 
   -- The answer and the slices are those of the whole run.
   pub run-result : (r : SessionAnswer) (w words′ : List ℕ) (cs : List Checkpoint) (out′ w₀ words₀ : List ℕ) (cs₀ : List Checkpoint) (out₀ : List ℕ) → answer-of r ≡ answer-at p
-      → w ≡ replicate (length w₀) 0 → words′ ≡ filled words (take (p .steps) words) → cs ≡ replicate (length cs₀) blank → out′ ≡ filled out (take (p .size) out)
+      → w ≡ replicate (length w₀) 0 → words′ ≡ filled words (take (3 * p .steps) words) → cs ≡ replicate (length cs₀) blank → out′ ≡ filled out (take (p .counts .size) out)
       → length words ≡ length words₀ → length out ≡ length out₀
       → result-of r w words′ cs out′ ≡ after-run blank (whole-run f (min (length out₀) 65535)) (slices w₀ words₀ cs₀ out₀)
   run-result r w words′ cs out′ w₀ words₀ cs₀ out₀ ea ew ews ecs eo lws lo =
       (λ i. record { answer = ea i; slices = record { work = ew i; words = ews i; checkpoints = ecs i; output = eo i } })
       ∙ (λ i. record {
-        answer = record { number = p .number; steps = steps i; size = e .size-is i };
+        answer = record { number = p .number; steps = p .steps; size = e .size-is i };
         slices =
             record {
               work = zeroed w₀;
-              words = take (p .steps) words ++ replicate (lws i - length (take (p .steps) words)) 0;
+              words = take (3 * p .steps) words ++ replicate (lws i - length (take (3 * p .steps) words)) 0;
               checkpoints = replicate (length cs₀) blank;
               output = bytes i ++ replicate (lo i - length (bytes i)) 0;
             };
       })
       ∙ ap (λ (x : Run). after-run blank x (slices w₀ words₀ cs₀ out₀)) (sym (e .same) ∙ ap (whole-run f) space)
     where
-      steps : p .steps ≡ length (take (p .steps) words)
-      steps = sym (length-take-le (p .steps) words (omega (arith, e .few-steps, e .many-words)))
-
-      bytes : take (p .size) out ≡ output items
-      bytes = sym (take-take (p .size) 65535 out (omega (arith, size-low, length-take 65535 out))) ∙ e .bytes-are
+      bytes : take (p .counts .size) out ≡ output items
+      bytes = sym (take-take (p .counts .size) 65535 out (omega (arith, size-low, length-take 65535 out))) ∙ e .bytes-are
 
       space : length (take 65535 out) ≡ min (length out₀) 65535
       space = length-take 65535 out ∙ omega (arith, lo)
@@ -135,16 +132,16 @@ module _ (input w ws : List ℕ) (cs : List Checkpoint) (o : List ℕ) where
 
       -- What `finish` asks.
       abbrev Asks : Type 0
-      Asks = (p .steps ≤ 1024) × (p .steps ≤ length ws₂) × (p .size ≤ 65535) × (p .size ≤ length o₂)
+      Asks = (p .steps ≤ 1024) × (3 * p .steps ≤ length ws₂) × (p .counts .size ≤ 65535) × (p .counts .size ≤ length o₂)
 
       pub finish-asks : Asks
       finish-asks = go the-asked begins
         where
-          none : p .steps ≡ 0 → p .size ≡ 0 → Asks
+          none : p .steps ≡ 0 → p .counts .size ≡ 0 → Asks
           none e f = (omega arith, omega arith, omega arith, omega arith)
 
           go : (g : Got File) → Begins input w (length ws) (length cs) w₁ b g → Asks
-          go (refused n) h = let q = stays n (h .0) .4 in none (ap (λ (x : Progress). x .steps) q) (ap (λ (x : Progress). x .size) q)
+          go (refused n) h = let q = stays n (h .0) .4 in none (ap (λ (x : Progress). x .steps) q) (ap (λ (x : Progress). x .counts .size) q)
           go (got f rest) h = ended-asks (the-file input) ws₂ o₂ p (ends (h .goes))
 
       -- The answer and the slices are those of the definition.
@@ -165,7 +162,7 @@ module _ (input w ws : List ℕ) (cs : List Checkpoint) (o : List ℕ) where
               (λ i. record { answer = a i; slices = record { work = work i; words = words i; checkpoints = rows i; output = out i } })
               ∙ ap (λ (x : Got File). after-file blank version-1 counted x s) (sym is)
           go (got f rest) is h =
-              let c : (w₃ ≡ zeroed w₂) × (ws₃ ≡ filled ws₂ (take (p .steps) ws₂)) × (o₃ ≡ filled o₂ (take (p .size) o₂)) =
+              let c : (w₃ ≡ zeroed w₂) × (ws₃ ≡ filled ws₂ (take (3 * p .steps) ws₂)) × (o₃ ≡ filled o₂ (take (p .counts .size) o₂)) =
               subst (λ (x : Bool). Cleared p w₂ ws₂ o₂ w₃ ws₃ o₃ x) (h .goes) (e .1) in
               run-result (the-file input) ws₂ o₂ p (ends (h .goes)) r w₃ ws₃ cs₃ o₃ w ws cs o (e .0) (c .0 ∙ ap (λ (n : ℕ). replicate n 0) (lw ∙ same-work)) (c .1)
               (rows (h .all-records)) (c .2) lws lo

@@ -24,8 +24,8 @@ abbrev pub result-of : SessionAnswer → (work words : List ℕ) (checkpoints : 
 result-of r w ws cs o = record { answer = answer-of r; slices = slices w ws cs o }
 
 -- Where demand 3 makes a claim of the result r of a session of the file f: of the adds that count, of the step k that finishes, and of the step after it, if
--- there is one. First, of files whose finished steps have no `02` among them: step k is the last finished one and no quote, its word says finished,
--- and the adds that survive keep 01's premises. Second, of files with add steps only: the word of add k says finished, and the adds up to it keep 01's premises.
+-- there is one. First, of files whose finished steps have no `02` among them: step k is the last finished one and no quote, its first word says finished,
+-- and the adds that survive keep 01's premises. Second, of files with add steps only: the first word of add k says finished, and the adds up to it keep 01's premises.
 abbrev pub Claimed : (f : File) → Result Checkpoint → ((handles : List ℕ) → (k : ℕ) → (next : Option Step) → Type 0) → Type 0
 Claimed f r P =
     ((k : ℕ) → suc k ≡ r .answer .steps → All NoRestore (take (suc k) (f .steps)) → IfAny NoQuote (nth (f .steps) k)

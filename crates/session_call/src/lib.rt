@@ -10,7 +10,7 @@ ghost use Rattle.spec_session.specs.Call.{session};
 ghost use Rattle.session_state.specs.Records.{blank};
 ghost use Rattle.session_call.specs.Outcome.{slices, result-of, ReadsBack};
 
-// A session file is run. The slices are lent: work, a word for each step, sixteen checkpoint records, and the output.
+// A session file is run. The slices are lent: work, three words for each step, sixteen checkpoint records, and the output.
 #[no_mangle]
 pub extern "C" fn nikvoldra_session(
     file: &[u8],

@@ -1,11 +1,12 @@
 -- What a step's answer means: the run goes on, or it is over.
 -- Assumes nothing.
-use Prim.Native.Nat.{ℕ}
+use Prim.Native.Nat.{ℕ, _*_}
 use mathlib.Core.Path.{_≡_, sym, ap, subst, _∙_}
 use mathlib.Core.Bool.{Bool, true, false}
 use mathlib.Core.List.{List}
 use native.Mathlib.Omega.{arith}
 use lib.ListN.{length, take}
+use Rattle.write_place.proofs.Sizes.{size-written}
 use Rattle.session_state.specs.declared.checkpoints.Checkpoint.{Checkpoint}
 use Rattle.path.specs.Measure.{counted}
 use Rattle.spec_session.specs.File.{File}
@@ -33,10 +34,10 @@ module _ (input : List ℕ) (f : File) (w words : List ℕ) (rows : List Checkpo
 module _ (input : List ℕ) (f : File) (w words out : List ℕ) (p : Progress) (c : Checkpoint) (none-open : p .quoted ≡ false) where
   -- The run from the session that is held, where no quote is open.
   pub same-standing : (rows : List Checkpoint) (u : Underway input f w words rows out p)
-      → whole-run f (length out) ≡ after-words (take (p .steps) words) (run-steps counted (length out) f (u .left) (standing (u .past) (u .session)))
+      → whole-run f (length out) ≡ after-words (p .steps) (take (3 * p .steps) words) (run-steps counted (length out) f (u .left) (standing (u .past) (u .session)))
   same-standing rows u =
       u .same
-      ∙ ap (λ (st : State). after-words (take (p .steps) words) (run-steps counted (length out) f (u .left) st))
+      ∙ ap (λ (st : State). after-words (p .steps) (take (3 * p .steps) words) (run-steps counted (length out) f (u .left) st))
       (subst (λ (b : Bool). Shows b f (length out) (u .state) (u .past) (u .session)) none-open (u .shown))
 
   -- The run is over at a step.
@@ -45,12 +46,12 @@ module _ (input : List ℕ) (f : File) (w words out : List ℕ) (p : Progress) (
   over rows u n e =
       record {
         session = u .session;
-        size-is = u .present .writes .size-is;
+        size-is = size-written (u .present .writes);
         bytes-are = u .present .writes .bytes-are;
         short = u .present .running .short;
         few-steps = omega (arith, u .few-steps);
         many-words = u .many-words;
-        same = same-standing rows u ∙ ap (λ (r : Run). after-words (take (p .steps) words) r) e ∙ words-ended (take (p .steps) words) n (u .session);
+        same = same-standing rows u ∙ ap (λ (r : Run). after-words (p .steps) (take (3 * p .steps) words) r) e ∙ words-ended (p .steps) (take (3 * p .steps) words) n (u .session);
       }
 
   -- The answer of a step that is refused, or of the end.

@@ -1,26 +1,28 @@
--- Laws of the definitions' run: one step of it, in the form that the code's steps take, and the word of a step.
+-- Laws of the definitions' run: one step of it, in the form that the code's steps take, and the words of a step.
 -- Assumes nothing.
-use Prim.Native.Nat.{ℕ, suc, _+_, _≤_, _<_}
+use Prim.Native.Nat.{ℕ, suc, _+_, _*_, _≤_}
 use mathlib.Core.Path.{_≡_, refl, sym, ap, _∙_}
 use mathlib.Core.Bool.{Bool, true, false}
 use mathlib.Core.List.{List, [], _∷_, _++_, append-assoc, append-nil}
 use mathlib.Core.Option.{Option, none, some}
 use native.Mathlib.Omega.{arith}
 use lib.Dec.{ltb}
-use lib.ListN.{length, set, take}
-use lib.Seq.{take-suc-set}
+use lib.ListN.{length, take}
+use lib.Seq.{paste, take-paste}
 use borrow.Author.Tests.{lt-ltb, le-ltb}
 use Rattle.path.specs.Measure.{counted}
 use Rattle.spec_session.specs.File.{File, Step, take-quote}
 use Rattle.spec_session.specs.Unfold.{unfolded}
 use Rattle.spec_session.specs.Cache.{update}
 use Rattle.spec_session.specs.Writer.{Todo, parse, Outcome, Session, Added, added, settle, add-at, resume}
-use Rattle.spec_session.specs.Steps.{room-in, State, Stepped, went, Run, finished-bit, word-of, stop-at, with-word, after-add, after-quote, unless-full}
+use Rattle.spec_session.specs.Steps.{room-in, State, Stepped, went, Run, finished-bit, words-of, stop-at, with-words, after-add, after-quote, unless-full}
 use Rattle.spec_session.specs.Steps.{add-handle, after-step, run-step, run-steps}
 use Rattle.spec_session.specs.StepLaws.{add-went}
 use Rattle.spec_session.specs.FindPath.{find-in}
 use Rattle.spec_session.specs.Trees.{nth}
 use Rattle.path.specs.Bytes.{bit}
+use Rattle.write_counts.specs.declared.Counts.{Counts}
+use Rattle.session_state.specs.Stored.{told}
 use Rattle.session_state.specs.State.{standing, after-words, waits, Shows, add-of, undo-of, undone}
 
 -- What comes of an add, or of a quote of it.
@@ -80,7 +82,7 @@ module _ (space : ℕ) (f : File) (past : List Session) (s : Session) where
   tried true h t = record { now = s; past = past; quoted = some h }
 
   pub tried-went : (b : Bool) (h : ℕ) (t : Session) (next : State → Run)
-      → after-step (after-tried b h (added t) (standing past s)) next ≡ with-word (word-of t) (next (tried b h t))
+      → after-step (after-tried b h (added t) (standing past s)) next ≡ with-words (words-of t) (next (tried b h t))
   tried-went false h t next = refl
   tried-went true h t next = refl
 
@@ -97,7 +99,7 @@ module _ (space : ℕ) (f : File) (past : List Session) (s : Session) where
 
   pub run-undo : (b : Bool) (n : ℕ) (steps : List Step) (u : Session) → nth past n ≡ some u
       → run-steps counted space f (undo-of b n ∷ steps) (standing past s)
-      ≡ with-word (word-of (undone b u s)) (run-steps counted space f steps (standing (take n past) (undone b u s)))
+      ≡ with-words (words-of (undone b u s)) (run-steps counted space f steps (standing (take n past) (undone b u s)))
   unfolding run-steps
   run-undo false n steps u e = rw e refl
   run-undo true n steps u e = rw e refl
@@ -106,8 +108,8 @@ module _ (space : ℕ) (f : File) (past : List Session) (s : Session) where
 
 module _ (space : ℕ) (f : File) (st : State) where
   -- A taking that goes on.
-  pub run-taking : (w : ℕ) (t : State) (ss : List Step) → run-step counted space f take-quote st ≡ went w t
-      → run-steps counted space f (take-quote ∷ ss) st ≡ with-word w (run-steps counted space f ss t)
+  pub run-taking : (w : List ℕ) (t : State) (ss : List Step) → run-step counted space f take-quote st ≡ went w t
+      → run-steps counted space f (take-quote ∷ ss) st ≡ with-words w (run-steps counted space f ss t)
   unfolding run-steps
   run-taking w t ss e = ap (λ (x : Stepped). after-step x (λ y. run-steps counted space f ss y)) e
 
@@ -117,15 +119,26 @@ pub finished-word : (b : Bool) (k : List Todo) (o : Option (List Todo)) → o �
 finished-word true k o e = rw e refl
 finished-word false k o e = rw e refl
 
--- A step's word goes to the words of the finished steps.
-pub word-noted : (words : List ℕ) (n v : ℕ) (r : Run) → n < length words → after-words (take n words) (with-word v r) ≡ after-words (take (n + 1) (set words n v)) r
-word-noted words n v r l = λ i. record { words = e i; number = r .number; last = r .last }
+-- A step's words go to those of the n steps that are finished.
+pub words-noted : (words : List ℕ) (n : ℕ) (c : Counts) (b : Bool) (r : Run) → 3 * n + 3 ≤ length words
+    → after-words n (take (3 * n) words) (with-words (told c b) r) ≡ after-words (n + 1) (take (3 * (n + 1)) (paste words (3 * n) (told c b) 3)) r
+words-noted words n c b r l = λ i. record { words = all i; steps = steps i; number = r .number; last = r .last }
   where
-    t : take (n + 1) (set words n v) ≡ take n words ++ (v ∷ [])
-    t = let q : n + 1 ≡ suc n = omega arith in ap (λ (k : ℕ). take k (set words n v)) q ∙ take-suc-set words n v l
+    steps : n + suc (r .steps) ≡ n + 1 + r .steps
+    steps = omega arith
 
-    e : take n words ++ v ∷ r .words ≡ take (n + 1) (set words n v) ++ r .words
-    e = sym (append-assoc (take n words) (v ∷ []) (r .words)) ∙ ap (λ (ws : List ℕ). ws ++ r .words) (sym t)
+    next : 3 * (n + 1) ≡ 3 * n + 3
+    next = omega arith
 
-pub words-ended : (words : List ℕ) (n : ℕ) (s : Session) → after-words words (stop-at n s) ≡ record { words = words; number = n; last = s }
-words-ended words n s = λ i. record { words = append-nil words i; number = n; last = s }
+    front : take (3 * (n + 1)) (paste words (3 * n) (told c b) 3) ≡ take (3 * n) words ++ told c b
+    front = ap (λ (k : ℕ). take k (paste words (3 * n) (told c b) 3)) next ∙ take-paste words (3 * n) (told c b) 3 (omega arith) (omega arith)
+
+    all : take (3 * n) words ++ (told c b ++ r .words) ≡ take (3 * (n + 1)) (paste words (3 * n) (told c b) 3) ++ r .words
+    all = sym (append-assoc (take (3 * n) words) (told c b) (r .words)) ∙ ap (λ (ws : List ℕ). ws ++ r .words) (sym front)
+
+pub words-ended : (steps : ℕ) (words : List ℕ) (n : ℕ) (s : Session)
+    → after-words steps words (stop-at n s) ≡ record { words = words; steps = steps; number = n; last = s }
+words-ended steps words n s = λ i. record { words = append-nil words i; steps = same i; number = n; last = s }
+  where
+    same : steps + 0 ≡ steps
+    same = omega arith

@@ -7,8 +7,8 @@ use mathlib.Core.Bool.{Bool, true, false}
 use mathlib.Core.List.{List, [], _∷_, _++_}
 use mathlib.Core.Option.{some}
 use native.Mathlib.Omega.{arith}
-use lib.ListN.{length, getD, set, take, length-append, length-set}
-use lib.Seq.{take-take, getD-set-same, getD-set-other, length-take-le}
+use lib.ListN.{length, getD, set, take, length-append}
+use lib.Seq.{length-paste, take-take, getD-set-same, getD-set-other, length-take-le}
 use Rattle.spec_session.specs.Coherence.{nth-snoc}
 use Rattle.words.specs.Words.{at}
 use Rattle.words.specs.Lists.{All}
@@ -18,9 +18,10 @@ use Rattle.session_state.specs.declared.checkpoints.Checkpoint.{Checkpoi
 use Rattle.path.specs.Measure.{counted}
 use Rattle.spec_session.specs.File.{File, Step}
 use Rattle.spec_session.specs.Places.{StepsAt, StepNamed}
+use Rattle.spec_session.specs.Items.{size-of, references, prefix-bytes}
 use Rattle.spec_session.specs.Writer.{Session}
 use Rattle.spec_session.specs.Trees.{nth}
-use Rattle.spec_session.specs.Steps.{word-of, State, with-word, run-steps}
+use Rattle.spec_session.specs.Steps.{words-of, State, with-words, run-steps}
 use Rattle.spec_session.specs.Cache.{Cache}
 use Rattle.spec_session.specs.Extends.{Extends, extends-refl, extends-trans}
 use Rattle.file_parts.specs.Loaded.{forgets}
@@ -30,13 +31,14 @@ use Rattle.work_layout.specs.Counts.{further-within, further-few}
 use Rattle.cache_undo.specs.undo_state.Contracts.{copied-open, copied-stack, copied-marks}
 use Rattle.cache_undo.specs.cache_copy.Contracts.{copied-used, copied-maps, copied-counts, copied-firsts, copied-furthers, CacheCopied}
 use Rattle.cache_entries.specs.Meaning.{Whole}
+use Rattle.write_counts.specs.declared.Counts.{Counts}
 use Rattle.write_place.specs.State.{todo-of}
 use Rattle.session_state.specs.declared.progress.Progress.{Progress}
-use Rattle.path.specs.Bytes.{bit}
-use Rattle.session_state.specs.Moves.{noted-at}
+use Rattle.session_state.specs.Moves.{noted-at, counts-in}
+use Rattle.session_state.specs.Stored.{told, noted-words}
 use Rattle.session_state.specs.State.{whole-run, after-words, Roomy, At, Before, size-at, History, Shows, Stocked, Underway}
 use Rattle.session_state.proofs.Slots.{nth-low, nth-take}
-use Rattle.session_state.proofs.Runs.{finished-word, word-noted}
+use Rattle.session_state.proofs.Runs.{finished-word, words-noted}
 
 -- ---- the room, and the cache of a copy
 
@@ -61,7 +63,7 @@ copied-kept v w w′ k wh counts copies c = record {
 
 module _ (out out′ : List ℕ) (long : length out′ ≡ length out) where
   -- A state is the same where the bytes that it wrote are.
-  pub at-kept : (f : File) (w : List ℕ) (o d z : ℕ) (b : Bool) (s : Session) → take z out′ ≡ take z out → At f w out o d z b s → At f w out′ o d z b s
+  pub at-kept : (f : File) (w : List ℕ) (o d : ℕ) (z : Counts) (b : Bool) (s : Session) → take (z .size) out′ ≡ take (z .size) out → At f w out o d z b s → At f w out′ o d z b s
   at-kept f w o d z b s same a =
       let r = a .running in
       let v = a .writes in
@@ -70,9 +72,10 @@ module _ (out out′ : List ℕ) (long : length out′ ≡ length out) where
             record {
               stands = r .stands;
               fits = omega (arith, r .fits);
+              bounded = r .bounded;
               short = omega (arith, r .short);
             };
-        writes = record { cache = v .cache; stack = v .stack; marks = v .marks; size-is = v .size-is; bytes-are = same ∙ v .bytes-are };
+        writes = record { cache = v .cache; stack = v .stack; marks = v .marks; counts-are = v .counts-are; bytes-are = same ∙ v .bytes-are };
         waiting = a .waiting;
       }
 
@@ -89,7 +92,7 @@ module _ (out out′ : List ℕ) (long : length out′ ≡ length out) where
         let deep = a .stood .running .stands .stacked .deep in
         record {
           words-then = a .words-then;
-          stood = at-kept f (a .words-then) (r .opens) (r .depth) (r .size) false u same (a .stood);
+          stood = at-kept f (a .words-then) (r .opens) (r .depth) (counts-in r) false u same (a .stood);
           entry-is = a .entry-is;
           tables-same = λ j l. low j l ∙ a .tables-same j l;
           open-pairs = λ i l. copies (copied-open k + i) (omega arith) (omega arith) ∙ a .open-pairs i l;
@@ -184,14 +187,15 @@ module _ (out out′ : List ℕ) (long : length out′ ≡ length out) where
 
 -- ---- a finished step
 
--- The step's word is noted, and the run goes on at the next step.
+-- The step's words are noted, and the run goes on at the next step.
 pub go-on : (input : List ℕ) (f : File) (w words words′ : List ℕ) (rows : List Checkpoint) (out : List ℕ) (q : Progress) (next : ℕ) (rest : List Step)
-    (past : List Session) (t : Session) (st : State) → At f w out (q .opens) (q .depth) (q .size) (q .finished) t → Stocked input f w (q .steps + 1)
-    → History f w out rows (q .forgets) (q .steps + 1) (q .size) (q .adds) past (t .cache) → (q .forgets ≡ false → forgets rest ≡ false) → q .adds ≤ 16 → q .done ≡ false → StepsAt input next rest
-    → All (StepNamed (length (f .atoms)) (length (f .pairs))) rest → q .steps + 1 + length rest ≤ 1024 → 16 ≤ length rows → 1024 ≤ length words
+    (past : List Session) (t : Session) (st : State) → At f w out (q .opens) (q .depth) (q .counts) (q .finished) t → Stocked input f w (q .steps + 1)
+    → History f w out rows (q .forgets) (q .steps + 1) (q .counts .size) (q .adds) past (t .cache)
+    → (q .forgets ≡ false → forgets rest ≡ false) → q .adds ≤ 16 → q .done ≡ false → StepsAt input next rest
+    → All (StepNamed (length (f .atoms)) (length (f .pairs))) rest → q .steps + 1 + length rest ≤ 1024 → 16 ≤ length rows → 3072 ≤ length words
     → (q .quoted ≡ true → q .forgets ≡ true) → Shows (q .quoted) f (length out) st past t
-    → whole-run f (length out) ≡ after-words (take (q .steps) words) (with-word (word-of t) (run-steps counted (length out) f rest st))
-    → words′ ≡ set words (q .steps) (q .size * 2 + bit (q .finished)) → Underway input f w words′ rows out (noted-at q next)
+    → whole-run f (length out) ≡ after-words (q .steps) (take (3 * q .steps) words) (with-words (words-of t) (run-steps counted (length out) f rest st))
+    → words′ ≡ noted-words words q → Underway input f w words′ rows out (noted-at q next)
 go-on input f w words words′ rows out q next rest past t st a s h known few goes there named left many-rows many-words saved shown run e =
     record {
       left = rest;
@@ -207,16 +211,19 @@ go-on input f w words words′ rows out q next rest past t st a s h known few go
       steps-named = named;
       few-steps = left;
       many-rows = many-rows;
-      many-words = omega (arith, ap length e, length-set words (q .steps) (q .size * 2 + bit (q .finished)));
+      many-words = omega (arith, ap length e, length-paste words (3 * q .steps) (told (q .counts) (q .finished)) 3 (omega arith) (omega arith));
       quote-saved = saved;
       state = st;
       shown = shown;
       same =
           run
-          ∙ ap (λ (v : ℕ). after-words (take (q .steps) words) (with-word v (run-steps counted (length out) f rest st))) word
-          ∙ word-noted words (q .steps) (q .size * 2 + bit (q .finished)) (run-steps counted (length out) f rest st) (omega arith)
-          ∙ ap (λ (ws : List ℕ). after-words (take (q .steps + 1) ws) (run-steps counted (length out) f rest st)) (sym e);
+          ∙ ap (λ (vs : List ℕ). after-words (q .steps) (take (3 * q .steps) words) (with-words vs (run-steps counted (length out) f rest st))) shown-words
+          ∙ words-noted words (q .steps) (q .counts) (q .finished) (run-steps counted (length out) f rest st) (omega arith)
+          ∙ ap (λ (ws : List ℕ). after-words (q .steps + 1) (take (3 * (q .steps + 1)) ws) (run-steps counted (length out) f rest st)) (sym e);
     }
   where
-    word : word-of t ≡ q .size * 2 + bit (q .finished)
-    word = omega (arith, a .writes .size-is, finished-word (q .finished) (todo-of f w (q .opens)) (t .waiting) (a .waiting))
+    shown-words : words-of t ≡ told (q .counts) (q .finished)
+    shown-words =
+        ap (λ (n : ℕ). (size-of (t .written .items) * 2 + n) ∷ references (t .written .items) ∷ prefix-bytes (t .written .items) ∷ [])
+        (finished-word (q .finished) (todo-of f w (q .opens)) (t .waiting) (a .waiting))
+        ∙ ap (λ (c : Counts). told c (q .finished)) (sym (a .writes .counts-are))

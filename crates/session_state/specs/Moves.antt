@@ -2,6 +2,7 @@
 use Prim.Native.Nat.{ℕ, _+_}
 use mathlib.Core.Bool.{Bool, true, false}
 use Rattle.session_state.specs.declared.checkpoints.Checkpoint.{Checkpoint}
+use Rattle.write_counts.specs.declared.Counts.{Counts}
 use Rattle.write_place.specs.declared.Place.{Place}
 use Rattle.write_place.specs.declared.Outcome.{Outcome}
 use Rattle.write_place.specs.declared.Outcome.the-variants as outcome
@@ -17,7 +18,7 @@ refused-at p n =
       adds = p .adds;
       opens = p .opens;
       depth = p .depth;
-      size = p .size;
+      counts = p .counts;
       finished = p .finished;
       number = n;
       done = true;
@@ -34,7 +35,7 @@ noted-at p next =
       adds = p .adds;
       opens = p .opens;
       depth = p .depth;
-      size = p .size;
+      counts = p .counts;
       finished = p .finished;
       number = p .number;
       done = p .done;
@@ -51,7 +52,7 @@ moved-to p q n b =
       adds = n;
       opens = q .opens;
       depth = q .depth;
-      size = q .size;
+      counts = q .counts;
       finished = b;
       number = 0;
       done = false;
@@ -68,7 +69,7 @@ with-quote p b =
       adds = p .adds;
       opens = p .opens;
       depth = p .depth;
-      size = p .size;
+      counts = p .counts;
       finished = p .finished;
       number = p .number;
       done = p .done;
@@ -87,9 +88,13 @@ abbrev pub refusal-of : (quotes : Bool) → (p q : Progress) → Progress
 refusal-of false p q = q
 refusal-of true p q = refused-at p (q .number)
 
+-- What was counted, as a record has it.
+abbrev pub counts-in : Checkpoint → Counts
+counts-in r = record { size = r .size; references = r .references; «prefix_bytes» = r .«prefix_bytes» }
+
 -- The progress after an undo.
 abbrev pub undone-at : Progress → Checkpoint → ℕ → Progress
-undone-at p r n = moved-to p (record { opens = r .opens; depth = r .depth; size = r .size }) n false
+undone-at p r n = moved-to p (record { opens = r .opens; depth = r .depth; counts = counts-in r }) n false
 
 -- The run ends with a number, and the record stays.
 abbrev pub stopped-at : Progress → ℕ → Checkpoint → StepAnswer

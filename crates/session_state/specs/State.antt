@@ -17,7 +17,7 @@ use Rattle.spec_session.specs.Items.{size-of, output}
 use Rattle.spec_session.specs.Cache.{Cache}
 use Rattle.spec_session.specs.Writer.{Todo, Session}
 use Rattle.spec_session.specs.Trees.{nth}
-use Rattle.spec_session.specs.Steps.{word-of, restored, State, at-start, went, run-step, Run, run-steps}
+use Rattle.spec_session.specs.Steps.{words-of, restored, State, at-start, went, run-step, Run, run-steps}
 use Rattle.spec_session.specs.Extends.{Extends}
 use Rattle.file_parts.specs.Loaded.{forgets}
 use Rattle.work_layout.specs.Layout.{PAIR-COUNT, OPEN, STACK, WRITTEN, SENTINEL-ENTRY, USED, ENTRIES}
@@ -25,9 +25,11 @@ use Rattle.work_layout.specs.Rows.{all-counts}
 use Rattle.cache_undo.specs.undo_state.Contracts.{copied-open, copied-stack, copied-marks}
 use Rattle.cache_undo.specs.cache_copy.Contracts.{CacheCopied}
 use Rattle.cache_entries.specs.Meaning.{Tables, unmapped}
+use Rattle.write_counts.specs.declared.Counts.{Counts}
 use Rattle.write_place.specs.State.{AtomPlaces, AtomsThere, todo-of, Running, Writes}
 use Rattle.session_state.specs.declared.progress.Progress.{Progress}
 use Rattle.path.specs.Bytes.{bit}
+use Rattle.session_state.specs.Moves.{counts-in}
 
 -- ---- the file of the bytes, and its whole run
 
@@ -46,9 +48,9 @@ whole-run f space = run-steps counted space f (f .steps) at-start
 abbrev pub standing : (past : List Session) → Session → State
 standing past s = record { now = s; past = past; quoted = none }
 
--- A run after the words of steps that are finished.
-abbrev pub after-words : List ℕ → Run → Run
-after-words ws r = record { words = ws ++ r .words; number = r .number; last = r .last }
+-- A run after n steps that are finished, and their words.
+abbrev pub after-words : (n : ℕ) → List ℕ → Run → Run
+after-words n ws r = record { words = ws ++ r .words; steps = n + r .steps; number = r .number; last = r .last }
 
 -- ---- one state
 
@@ -62,19 +64,19 @@ waits true k = none
 waits false k = some k
 
 -- Work and output hold the session s.
-pub record At (f : File) (w out : List ℕ) (opens depth size : ℕ) (finished : Bool) (s : Session) : Type 0 where
-  pub running : Running w out opens depth size (bit finished)
-  pub writes : Writes f w out depth size (s .cache) (s .written)
+pub record At (f : File) (w out : List ℕ) (opens depth : ℕ) (counts : Counts) (finished : Bool) (s : Session) : Type 0 where
+  pub running : Running w out opens depth counts (bit finished)
+  pub writes : Writes f w out depth counts (s .cache) (s .written)
   pub waiting : s .waiting ≡ waits finished (todo-of f w opens)
 
 -- ---- the state before an add
 
--- Record r and copy k hold the session u before add k. A record has the open pairs, the depth of the stack, the size, and one more than the sentinel's entry. A
--- copy has the cache too where the file has a `03` or a `04`.
+-- Record r and copy k hold the session u before add k. A record has the open pairs, the depth of the stack, what was counted, and one more than the sentinel's
+-- entry. A copy has the cache too where the file has a `03` or a `04`.
 pub record Before (f : File) (w out : List ℕ) (forgetting : Bool) (steps k : ℕ) (r : Checkpoint) (u : Session) : Type 0 where
   -- The words at that time.
   pub words-then : List ℕ
-  pub stood : At f words-then out (r .opens) (r .depth) (r .size) false u
+  pub stood : At f words-then out (r .opens) (r .depth) (counts-in r) false u
   pub entry-is : r .sentinel ≡ at words-then SENTINEL-ENTRY
   pub tables-same : (j : ℕ) → j < OPEN → at w j ≡ at words-then j
   pub open-pairs : (i : ℕ) → i < r .opens → at w (copied-open k + i) ≡ at words-then (OPEN + i)
@@ -101,7 +103,7 @@ pub record History (f : File) (w out : List ℕ) (rows : List Checkpoint) (forge
 -- The state st of the definitions, where a session and those before its adds are held. While a quote is open its add stands: held is what the taking leaves.
 abbrev pub Shows : (quoted : Bool) → File → (space : ℕ) → State → (past : List Session) → Session → Type 0
 Shows false f space st past s = st ≡ standing past s
-Shows true f space st past s = (run-step counted space f take-quote st ≡ went (word-of s) (standing past s)) × (past ≡ st .past ++ st .now ∷ [])
+Shows true f space st past s = (run-step counted space f take-quote st ≡ went (words-of s) (standing past s)) × (past ≡ st .past ++ st .now ∷ [])
 
 -- ---- a run under way
 
@@ -116,9 +118,9 @@ pub record Underway (input : List ℕ) (f : File) (w words : List ℕ) (rows : L
   pub left : List Step
   pub past : List Session
   pub session : Session
-  pub present : At f w out (p .opens) (p .depth) (p .size) (p .finished) session
+  pub present : At f w out (p .opens) (p .depth) (p .counts) (p .finished) session
   pub stocked : Stocked input f w (p .steps)
-  pub history : History f w out rows (p .forgets) (p .steps) (p .size) (p .adds) past (session .cache)
+  pub history : History f w out rows (p .forgets) (p .steps) (p .counts .size) (p .adds) past (session .cache)
   -- The flag is set before the first step.
   pub known : p .forgets ≡ false → forgets left ≡ false
   pub few-adds : p .adds ≤ 16
@@ -127,22 +129,22 @@ pub record Underway (input : List ℕ) (f : File) (w words : List ℕ) (rows : L
   pub steps-named : All (StepNamed (length (f .atoms)) (length (f .pairs))) left
   pub few-steps : p .steps + length left ≤ 1024
   pub many-rows : 16 ≤ length rows
-  pub many-words : 1024 ≤ length words
+  pub many-words : 3072 ≤ length words
   -- The cache before an open quote is saved.
   pub quote-saved : p .quoted ≡ true → p .forgets ≡ true
   pub state : State
   pub shown : Shows (p .quoted) f (length out) state past session
-  pub same : whole-run f (length out) ≡ after-words (take (p .steps) words) (run-steps counted (length out) f left state)
+  pub same : whole-run f (length out) ≡ after-words (p .steps) (take (3 * p .steps) words) (run-steps counted (length out) f left state)
 
 -- The run is over: no step is left, or one is refused.
 pub record Ended (f : File) (words out : List ℕ) (p : Progress) : Type 0 where
   pub session : Session
-  pub size-is : p .size ≡ size-of (session .written .items)
-  pub bytes-are : take (p .size) out ≡ output (session .written .items)
+  pub size-is : p .counts .size ≡ size-of (session .written .items)
+  pub bytes-are : take (p .counts .size) out ≡ output (session .written .items)
   pub short : length out ≤ 65535
   pub few-steps : p .steps ≤ 1024
-  pub many-words : 1024 ≤ length words
-  pub same : whole-run f (length out) ≡ record { words = take (p .steps) words; number = p .number; last = session }
+  pub many-words : 3072 ≤ length words
+  pub same : whole-run f (length out) ≡ record { words = take (3 * p .steps) words; steps = p .steps; number = p .number; last = session }
 
 abbrev pub Stands : (input : List ℕ) (f : File) (w words : List ℕ) (rows : List Checkpoint) (out : List ℕ) (p : Progress) → Bool → Type 0
 Stands input f w words rows out p true = Ended f words out p

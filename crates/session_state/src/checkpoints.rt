@@ -5,13 +5,15 @@ ghost use Prim.Native.Nat.{_≤_};
 ghost use lib.ListN.{length, replicate, drop};
 ghost use Rattle.session_state.specs.Records.{blank};
 
-// The state before an add: the open pairs, the depth of the stack, the bytes written, and one more than the sentinel's entry, or 0: the word of work, since
-// the caller lends these records.
+// The state before an add: the open pairs, the depth of the stack, what was counted of the items written, and one more than the sentinel's entry, or 0: the
+// word of work, since the caller lends these records.
 #[repr(C)]
 pub struct Checkpoint {
     pub opens: u32,
     pub depth: u32,
     pub size: u32,
+    pub references: u32,
+    pub prefix_bytes: u32,
     pub sentinel: u32,
 }
 
@@ -24,6 +26,8 @@ pub fn clear_first(checkpoints: &mut [Checkpoint], n: usize)
         opens: 0,
         depth: 0,
         size: 0,
+        references: 0,
+        prefix_bytes: 0,
         sentinel: 0,
     };
     let mut i = 0;

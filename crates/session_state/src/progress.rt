@@ -1,23 +1,24 @@
 // Where a session stands between two steps, and how an add, an undo and a refusal move it.
 use crate::checkpoints::Checkpoint;
 use words::wide;
+use write_counts::Counts;
 use write_place::Outcome;
 use write_place::Place;
 ghost use mathlib.Core.Path.{_≡_};
 ghost use Prim.Native.Nat.{_<_};
-ghost use Rattle.session_state.specs.Moves.{refused-at, moved-to, after-outcome, undone-at, stopped-at, with-quote, refusal-of};
+ghost use Rattle.session_state.specs.Moves.{refused-at, moved-to, after-outcome, counts-in, undone-at, stopped-at, with-quote, refusal-of};
 
 // Where a session stands: the next step's place in the file, the finished steps, the adds on the present history, the open pairs, the depth of the stack,
-// the bytes written, and whether the session is finished. The run is done at the end of the file, with number 0, or where a question gets no. `forgets` says
-// whether a step of the file is a forget or a quote: then each add saves the tree cache too. While a quote is open (`quoted`) its add stands as the last one
-// of the history, until it is taken or dropped.
+// what is counted of the items written, and whether the session is finished. The run is done at the end of the file, with number 0, or where a question
+// gets no. `forgets` says whether a step of the file is a forget or a quote: then each add saves the tree cache too. While a quote is open (`quoted`) its
+// add stands as the last one of the history, until it is taken or dropped.
 pub struct Progress {
     pub at: usize,
     pub steps: usize,
     pub adds: usize,
     pub opens: usize,
     pub depth: usize,
-    pub size: usize,
+    pub counts: Counts,
     pub finished: bool,
     pub number: u32,
     pub done: bool,
@@ -45,13 +46,14 @@ fn refuse(p: Progress, number: u32) -> Progress
 fn moved(p: Progress, q: Place, adds: usize, finished: bool) -> Progress
     ensures { λ r. ⌜ r ≡ moved-to p q adds finished ⌝ }
 {
+    let counts = q.counts;
     Progress {
         at: p.at,
         steps: p.steps,
         adds,
         opens: q.opens,
         depth: q.depth,
-        size: q.size,
+        counts,
         finished,
         number: 0,
         done: false,
@@ -91,14 +93,26 @@ pub fn refusal_of(p: Progress, q: Progress, quotes: bool) -> Progress
     q
 }
 
+// What was counted, as a checkpoint record has it.
+fn counts_in(c: Checkpoint) -> Counts
+    ensures { λ r. ⌜ r ≡ counts-in c ⌝ }
+{
+    Counts {
+        size: wide(c.size),
+        references: wide(c.references),
+        prefix_bytes: wide(c.prefix_bytes),
+    }
+}
+
 // Where the session stands after an undo.
 pub fn undone(p: Progress, number: usize, c: Checkpoint) -> Progress
     ensures { λ r. ⌜ r ≡ undone-at p c number ⌝ }
 {
+    let counts = counts_in(c);
     let place = Place {
         opens: wide(c.opens),
         depth: wide(c.depth),
-        size: wide(c.size),
+        counts,
     };
     moved(p, place, number, false)
 }

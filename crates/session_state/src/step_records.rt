@@ -1,13 +1,16 @@
-// What a step asks and stores: questions 9 and 10, the checkpoint record, the step's word; and how much of the output is used.
+// What a step asks and stores: questions 9 and 10, the checkpoint record, the step's words; and how much of the output is used.
 use crate::checkpoints::Checkpoint;
 use crate::progress::Progress;
+use write_counts::Counts;
 ghost use mathlib.Core.Path.{_≡_};
 ghost use Prim.Native.Nat.{_+_, _-_, _*_, _^_, _≤_, _<_, min};
-ghost use lib.ListN.{length, set};
+ghost use lib.ListN.{length};
+ghost use lib.Seq.{paste};
 ghost use Rattle.words.specs.Words.{WORK};
 ghost use Rattle.session_state.specs.Moves.{noted-at};
 ghost use Rattle.path.specs.Bytes.{bit};
-ghost use Rattle.session_state.specs.Stored.{record-of, with-entry};
+ghost use Rattle.write_counts.specs.Counts.{Bounded};
+ghost use Rattle.session_state.specs.Stored.{told, Noting, noted-words, record-of, with-entry};
 ghost use Rattle.session_state.specs.Questions.{question-of};
 ghost use Rattle.session_state.specs.State.{low-slot};
 
@@ -39,18 +42,20 @@ pub fn last(adds: usize) -> usize
 
 // The checkpoint record of the present state.
 pub fn record_of(work: &[u32], p: Progress) -> Checkpoint
-    requires { ⌜ (WORK ≤ length (now work)) × (p .opens < 2 ^ 32) × (p .depth < 2 ^ 32) × (p .size < 2 ^ 32) ⌝ }
+    requires { ⌜ (WORK ≤ length (now work)) × (p .opens < 2 ^ 32) × (p .depth < 2 ^ 32) × (p .counts .size < 2 ^ 32) × (Bounded (p .counts)) ⌝ }
     ensures { λ r. ⌜ r ≡ record-of (now (work .entry)) p ⌝ }
 {
     Checkpoint {
         opens: p.opens as u32,
         depth: p.depth as u32,
-        size: p.size as u32,
+        size: p.counts.size as u32,
+        references: p.counts.references as u32,
+        prefix_bytes: p.counts.prefix_bytes as u32,
         sentinel: work[work_layout::SENTINEL_ENTRY],
     }
 }
 
-// A step's word: the size times 2, and 1 more where the session is finished.
+// A step's first word: the size times 2, and 1 more where the session is finished.
 fn word_of(size: usize, finished: bool) -> u32
     requires { ⌜ size ≤ 65535 ⌝ }
     ensures { λ r. ⌜ r ≡ size * 2 + bit finished ⌝ }
@@ -62,13 +67,24 @@ fn word_of(size: usize, finished: bool) -> u32
     twice
 }
 
-// The word of a finished step is written.
+// The words of a finished step are written.
+fn tell(words: &mut [u32], at: usize, counts: Counts, finished: bool)
+    requires { ⌜ (at + 3 ≤ length (now words)) × (counts .size ≤ 65535) × (Bounded counts) ⌝ }
+    ensures { λ _. ⌜ now (words .exit) ≡ paste (now (words .entry)) at (told counts finished) 3 ⌝ }
+{
+    words[at] = word_of(counts.size, finished);
+    words[at + 1] = counts.references as u32;
+    words[at + 2] = counts.prefix_bytes as u32;
+}
+
+// A finished step: its words are written, and the next step is at `next`.
 pub fn note(words: &mut [u32], p: Progress, next: usize) -> Progress
-    requires { ⌜ (p .steps < length (now words)) × (p .size ≤ 65535) × (p .steps < 1024) ⌝ }
-    ensures { λ r. ⌜ (now (words .exit) ≡ set (now (words .entry)) (p .steps) (p .size * 2 + bit (p .finished))) × (r ≡ noted-at p next) ⌝ }
+    requires { ⌜ Noting (now words) p ⌝ }
+    ensures { λ r. ⌜ (now (words .exit) ≡ noted-words (now (words .entry)) p) × (r ≡ noted-at p next) ⌝ }
 {
     let steps = p.steps;
-    words[steps] = word_of(p.size, p.finished);
+    let counts = p.counts;
+    tell(words, 3 * steps, counts, p.finished);
     let mut noted = p;
     noted.at = next;
     noted.steps = steps + 1;

@@ -42,10 +42,11 @@ use Rattle.write_place.specs.declared.Outcome.{Outcome}
 use Rattle.write_place.specs.declared.Outcome.the-variants as outcome
 use Rattle.session_state.specs.declared.progress.Progress.{Progress}
 use Rattle.path.specs.Bytes.{bit}
-use Rattle.session_state.specs.Stored.{record-of}
+use Rattle.session_state.specs.Stored.{noted-words, record-of}
 use Rattle.session_state.specs.Moves.{noted-at, moved-to, with-quote, after-outcome, refusal-of}
 use Rattle.session_state.specs.State.{standing, whole-run, after-words, waits, At, Before, History, Stocked, Underway, Ended, slot-for, add-of}
 use Rattle.session_steps.specs.Contracts.{StateSaved, Adding, Added}
+use Rattle.write_place.proofs.Sizes.{size-written}
 use Rattle.write_place.proofs.Frames.{places-kept, atoms-kept, whole-kept, holds-kept, unmapped-kept, all-counts-kept}
 use Rattle.session_state.proofs.Runs.{after-tried, tried, tried-went, add-settles, run-add, shows-tried, words-ended}
 use Rattle.session_state.proofs.Answers.{same-standing}
@@ -64,7 +65,7 @@ adding {input} {f} {w} {words} {rows} {out} {p} {h} {rest} b u e fin few =
     let left : length (u .left) ≡ suc (length rest) = ap length e in
     record {
       places = u .stocked .places;
-      running = subst (λ (b : Bool). Running w out (p .opens) (p .depth) (p .size) (bit b)) fin (u .present .running);
+      running = subst (λ (b : Bool). Running w out (p .opens) (p .depth) (p .counts) (bit b)) fin (u .present .running);
       names =
           rw (u .stocked .tables .atom-count, u .stocked .tables .pair-count)
           (first-named b h rest (length (f .atoms)) (length (f .pairs)) (subst (λ (x : List Step). All (StepNamed (length (f .atoms)) (length (f .pairs))) x) e (u .steps-named)));
@@ -128,7 +129,7 @@ module _ {input w out : List ℕ} {p : Progress} {h : ℕ} (ad : Adding input w 
         let c = unmapped-kept w w₁ len₁ low₁ maps₁ cache₁ (ad .running .stands .whole) in
         omega (arith, up .bounded .counts)
 
-    running₂ : Running w₂ out (p .opens) (p .depth) (p .size) 0
+    running₂ : Running w₂ out (p .opens) (p .depth) (p .counts) 0
     running₂ =
         let r = ad .running .stands in
         record {
@@ -142,6 +143,7 @@ module _ {input w out : List ℕ} {p : Progress} {h : ℕ} (ad : Adding input w 
                 balance = rw (rights-same w w₂ (p .opens) (λ i l. same₂ (OPEN + i) (omega (arith, r .few-opens)))) (r .balance);
               };
           fits = ad .running .fits;
+          bounded = ad .running .bounded;
           short = ad .running .short;
         }
 
@@ -151,7 +153,7 @@ module _ {input w out : List ℕ} {p : Progress} {h : ℕ} (ad : Adding input w 
     names₂ : Names w₂ (at w₂ PAIR-COUNT) h
     names₂ = rw (low₂ ATOM-COUNT (omega arith), pairs₂) (ad .names)
 
-    pub resume-asks : AtomPlaces input w₂ × Running w₂ out (p .opens) (p .depth) (p .size) 0 × Names w₂ (at w₂ PAIR-COUNT) h
+    pub resume-asks : AtomPlaces input w₂ × Running w₂ out (p .opens) (p .depth) (p .counts) 0 × Names w₂ (at w₂ PAIR-COUNT) h
     resume-asks = (places₂, running₂, names₂)
 
     pub todo₂ : (f : File) → todo-of f w₂ (p .opens) ≡ todo-of f w (p .opens)
@@ -160,14 +162,14 @@ module _ {input w out : List ℕ} {p : Progress} {h : ℕ} (ad : Adding input w 
         todo-same f w w₂ (p .opens) low₂ (λ i l. same₂ (OPEN + i) (omega (arith, r .few-opens))) (pairs-few w (p .opens) (p .depth) 0 r)
 
     -- What the words mean once the tree is in the cache.
-    pub writes₂ : (f : File) (c : Cache) (s : Written) → Tables f w → Writes f w out (p .depth) (p .size) c s
-        → Writes f w₂ out (p .depth) (p .size) (update (unfolded f h) c) s
+    pub writes₂ : (f : File) (c : Cache) (s : Written) → Tables f w → Writes f w out (p .depth) (p .counts) c s
+        → Writes f w₂ out (p .depth) (p .counts) (update (unfolded f h) c) s
     writes₂ f c s t v =
         record {
           cache = up .holds f c (tables-kept w w₁ low₁ f (ad .running .stands .whole .handles) t) holds₁;
           stack = v .stack ∙ sym (stack-same w w₂ (p .depth) (λ i l. same₂ (STACK + i) (omega (arith, ad .running .stands .stacked .deep))));
           marks = λ e l. v .marks e l ∙ sym (marked-same w w₂ e l (λ i q. same₂ (WRITTEN + i) (omega arith)));
-          size-is = v .size-is;
+          counts-are = v .counts-are;
           bytes-are = v .bytes-are;
         }
       where
@@ -232,10 +234,10 @@ module _ {input : List ℕ} {f : File} {w words : List ℕ} {rows : List Checkpo
   copied : (k : ℕ) → COPIES ≤ k → at w′ k ≡ at w₁ k
   copied k l = a .resumed .only .high k l ∙ a .updated .above k (omega arith)
 
-  stood : At f w out′ (p .opens) (p .depth) (p .size) false s
+  stood : At f w out′ (p .opens) (p .depth) (p .counts) false s
   stood =
-      at-kept out out′ (a .out-long) f w (p .opens) (p .depth) (p .size) false s (a .resumed .before)
-      (subst (λ (b : Bool). At f w out (p .opens) (p .depth) (p .size) b s) fin (u .present))
+      at-kept out out′ (a .out-long) f w (p .opens) (p .depth) (p .counts) false s (a .resumed .before)
+      (subst (λ (b : Bool). At f w out (p .opens) (p .depth) (p .counts) b s) fin (u .present))
 
   -- The state before this add.
   before : Before f w′ out′ (p .forgets) (p .steps + 1) (p .adds) (record-of w p) s
@@ -253,9 +255,9 @@ module _ {input : List ℕ} {f : File} {w words : List ℕ} {rows : List Checkpo
             copied-kept w w₁ w′ (p .adds) (ad .running .stands .whole) (ad .running .stands .counts) (λ j l m. copied j (omega arith)) (a .saved .cache y);
       }
 
-  history : (size′ : ℕ) → p .size ≤ size′ → History f w′ out′ rows′ (p .forgets) (p .steps + 1) size′ (p .adds + 1) past′ c₂
+  history : (size′ : ℕ) → p .counts .size ≤ size′ → History f w′ out′ rows′ (p .forgets) (p .steps + 1) size′ (p .adds + 1) past′ c₂
   history size′ l =
-      history-more out out′ (a .out-long) f w w′ low (p .forgets) (p .steps) (p .steps + 1) (omega arith) rows (p .size) (p .adds) (u .past) (s .cache)
+      history-more out out′ (a .out-long) f w w′ low (p .forgets) (p .steps) (p .steps + 1) (omega arith) rows (p .counts .size) (p .adds) (u .past) (s .cache)
       (λ j x y. copied j x ∙ a .saved .saved .low j (omega arith)) (a .resumed .before) (u .history)
       (record-of w p) s size′ c₂ (omega (arith, u .many-rows)) l (omega arith) refl (update-extends (unfolded f h) (s .cache)) before
 
@@ -300,12 +302,12 @@ module _ {input : List ℕ} {f : File} {w words : List ℕ} {rows : List Checkpo
 
   -- The run up to this add, and the add.
   run : (r : writer.Added) → add-handle counted (length out′) f h s ≡ r → whole-run f (length out′)
-      ≡ after-words (take (p .steps) words) (after-step (after-tried b h r (standing (u .past) s)) (λ t. run-steps counted (length out′) f rest t))
+      ≡ after-words (p .steps) (take (3 * p .steps) words) (after-step (after-tried b h r (standing (u .past) s)) (λ t. run-steps counted (length out′) f rest t))
   run r q =
-      subst (λ (n : ℕ). whole-run f n ≡ after-words (take (p .steps) words) (run-steps counted n f (u .left) (standing (u .past) s))) (sym (a .out-long))
+      subst (λ (n : ℕ). whole-run f n ≡ after-words (p .steps) (take (3 * p .steps) words) (run-steps counted n f (u .left) (standing (u .past) s))) (sym (a .out-long))
       (same-standing input f w words out p (record-of w p) none-open rows u)
-      ∙ ap (λ (ss : List Step). after-words (take (p .steps) words) (run-steps counted (length out′) f ss (standing (u .past) s))) e
-      ∙ ap (λ (y : Run). after-words (take (p .steps) words) y)
+      ∙ ap (λ (ss : List Step). after-words (p .steps) (take (3 * p .steps) words) (run-steps counted (length out′) f ss (standing (u .past) s))) e
+      ∙ ap (λ (y : Run). after-words (p .steps) (take (3 * p .steps) words) y)
       (run-add (length out′) f (u .past) s b h rest (todo-of f w (p .opens)) r waiting few-past q)
 
   long₂ : length w′ ≡ length w₂
@@ -336,7 +338,7 @@ module _ {input : List ℕ} {f : File} {w words : List ℕ} {rows : List Checkpo
   after k = record { cache = c₂; waiting = k; written = meant .last }
 
   abbrev WritesTo : Outcome → Type 0
-  WritesTo o = Writes f w′ out′ (place-of (ended o) .depth) (place-of (ended o) .size) c₂ (meant .last)
+  WritesTo o = Writes f w′ out′ (place-of (ended o) .depth) (place-of (ended o) .counts) c₂ (meant .last)
 
   named-rest : All (StepNamed (length (f .atoms)) (length (f .pairs))) rest
   named-rest = subst (λ (x : List Step). All (StepNamed (length (f .atoms)) (length (f .pairs))) x) e (u .steps-named) .1
@@ -347,20 +349,20 @@ module _ {input : List ℕ} {f : File} {w words : List ℕ} {rows : List Checkpo
   many : 16 ≤ length rows′
   many = omega (arith, length-set rows (p .adds) (record-of w p), u .many-rows)
 
-  going : (pl : Place) (end : Bool) (k : Option (List Todo)) → At f w′ out′ (pl .opens) (pl .depth) (pl .size) end (after k) → p .size ≤ pl .size
-      → add-handle counted (length out′) f h s ≡ writer.added (after k) → (words′ : List ℕ) → words′ ≡ set words (p .steps) (pl .size * 2 + bit end)
+  going : (pl : Place) (end : Bool) (k : Option (List Todo)) → At f w′ out′ (pl .opens) (pl .depth) (pl .counts) end (after k) → p .counts .size ≤ pl .counts .size
+      → add-handle counted (length out′) f h s ≡ writer.added (after k) → (words′ : List ℕ) → words′ ≡ noted-words words (moved-to p pl (p .adds + 1) end)
       → Underway input f w′ words′ rows′ out′ (noted-at (with-quote (moved-to p pl (p .adds + 1) end) b) next)
   going pl end k there-at longer is words′ ws =
       go-on input f w′ words words′ rows′ out′ (with-quote (moved-to p pl (p .adds + 1) end) b) next rest past′ (after k) (tried (length out′) f (u .past) s b h (after k))
-      there-at stocked (history (pl .size) longer) known (omega arith) refl there named-rest few-rest many (u .many-words) saved-cache
+      there-at stocked (history (pl .counts .size) longer) known (omega arith) refl there named-rest few-rest many (u .many-words) saved-cache
       (shows-tried (length out′) f (u .past) s b h (todo-of f w (p .opens)) (after k) waiting few-past is)
       (run (writer.added (after k)) is
-      ∙ ap (λ (r : Run). after-words (take (p .steps) words) r) (tried-went (length out′) f (u .past) s b h (after k) (λ y. run-steps counted (length out′) f rest y)))
+      ∙ ap (λ (r : Run). after-words (p .steps) (take (3 * p .steps) words) r) (tried-went (length out′) f (u .past) s b h (after k) (λ y. run-steps counted (length out′) f rest y)))
       ws
 
-  on : (o : Outcome) → Fine w′ out′ (ended o) → WritesTo o → p .size ≤ place-of (ended o) .size → add-handle counted (length out′) f h s ≡ outcome-of o
+  on : (o : Outcome) → Fine w′ out′ (ended o) → WritesTo o → p .counts .size ≤ place-of (ended o) .counts .size → add-handle counted (length out′) f h s ≡ outcome-of o
       → after-outcome p o .done ≡ false → (words′ : List ℕ)
-      → words′ ≡ set words (after-outcome p o .steps) (after-outcome p o .size * 2 + bit (after-outcome p o .finished))
+      → words′ ≡ noted-words words (after-outcome p o)
       → Underway input f w′ words′ rows′ out′ (noted-at (with-quote (after-outcome p o) b) next)
   on (outcome.Done pl) ends writes longer is d words′ ws =
       going pl true none (record { running = ends .0; writes = writes; waiting = refl }) longer is words′ ws
@@ -378,36 +380,36 @@ module _ {input : List ℕ} {f : File} {w words : List ℕ} {rows : List Checkpo
       t = after (s .waiting)
 
       go : (c : Bool) → whole-run f (length out′)
-          ≡ after-words (take (p .steps) words) (after-step (after-tried c h (writer.turned-down n t) (standing (u .past) s)) (λ y. run-steps counted (length out′) f rest y))
+          ≡ after-words (p .steps) (take (3 * p .steps) words) (after-step (after-tried c h (writer.turned-down n t) (standing (u .past) s)) (λ y. run-steps counted (length out′) f rest y))
           → Ended f words out′ (refusal-of c p (after-outcome p (outcome.Refused n pl)))
       go false to =
           record {
             session = t;
-            size-is = writes .size-is;
+            size-is = size-written writes;
             bytes-are = writes .bytes-are;
             short = omega (arith, a .out-long, ad .running .short);
             few-steps = omega (arith, u .few-steps);
             many-words = u .many-words;
-            same = to ∙ words-ended (take (p .steps) words) n t;
+            same = to ∙ words-ended (p .steps) (take (3 * p .steps) words) n t;
           }
       go true to =
           record {
             session = s;
-            size-is = stood .writes .size-is;
+            size-is = size-written (stood .writes);
             bytes-are = stood .writes .bytes-are;
             short = omega (arith, a .out-long, ad .running .short);
             few-steps = omega (arith, u .few-steps);
             many-words = u .many-words;
-            same = to ∙ words-ended (take (p .steps) words) n s;
+            same = to ∙ words-ended (p .steps) (take (3 * p .steps) words) n s;
           }
 
-  -- An add that is not refused: its word is noted, and the run goes on.
-  pub added-on : {words′ : List ℕ} {t : Progress} → q .done ≡ false → words′ ≡ set words (q .steps) (q .size * 2 + bit (q .finished)) → t ≡ noted-at (with-quote q b) next
+  -- An add that is not refused: its words are noted, and the run goes on.
+  pub added-on : {words′ : List ℕ} {t : Progress} → q .done ≡ false → words′ ≡ noted-words words q → t ≡ noted-at (with-quote q b) next
       → Underway input f w′ words′ (set rows (slot-for (p .quoted) (u .left) (p .adds)) (record-of w p)) out′ t
   added-on {words′} {t} d ws is =
       subst (λ (k : ℕ). Underway input f w′ words′ (set rows k (record-of w p)) out′ t) (sym slot)
       (subst (λ (x : Progress). Underway input f w′ words′ rows′ out′ x) (sym is)
-      (subst (λ (x : Progress). x .done ≡ false → words′ ≡ set words (x .steps) (x .size * 2 + bit (x .finished))
+      (subst (λ (x : Progress). x .done ≡ false → words′ ≡ noted-words words x
       → Underway input f w′ words′ rows′ out′ (noted-at (with-quote x b) next)) (sym (a .is))
       (λ x y. on (a .outcome) (a .resumed .fine) (meant .writes) (a .resumed .grows) adds x words′ y) d ws))
 

@@ -1,6 +1,6 @@
 -- What the answer of an add means, and that of the end: the run goes on, or it is over. What each call of an add asks.
 -- Assumes nothing.
-use Prim.Native.Nat.{ℕ, suc, _+_, _*_, _≤_, _<_}
+use Prim.Native.Nat.{ℕ, suc, _+_, _≤_, _<_}
 use mathlib.Core.Path.{_≡_, refl, sym, ap, subst, _∙_}
 use mathlib.Core.Bool.{Bool, true, false, not, cond}
 use mathlib.Core.List.{List, _∷_}
@@ -24,7 +24,8 @@ use Rattle.write_place.specs.declared.Outcome.the-variants as outcome
 use Rattle.session_state.specs.declared.progress.Progress.{Progress}
 use Rattle.session_state.specs.declared.progress.StepAnswer.{StepAnswer}
 use Rattle.path.specs.Bytes.{bit}
-use Rattle.session_state.specs.Stored.{record-of}
+use Rattle.write_counts.specs.Counts.{Bounded}
+use Rattle.session_state.specs.Stored.{Noting, noted-words, record-of}
 use Rattle.session_state.specs.Moves.{noted-at, with-quote, after-outcome, refusal-of, stopped-at}
 use Rattle.session_state.specs.Questions.{question-of}
 use Rattle.session_state.specs.State.{standing, waits, Underway, slot-for, add-of}
@@ -115,20 +116,21 @@ module _ {input : List ℕ} {f : File} {w words out : List ℕ} {p : Progress} {
         same-steps : q .steps ≡ p .steps
         same-steps = ap (λ (x : Progress). x .steps) (ad .is) ∙ steps-same (ad .outcome)
 
-        fits : (o : Outcome) → Fine w′ out′ (ended-at o) → after-outcome p o .done ≡ false → after-outcome p o .size ≤ 65535
-        fits (outcome.Done pl) r d = omega (arith, r .0 .fits, r .0 .short)
-        fits (outcome.Stopped pl) r d = omega (arith, r .fits, r .short)
+        fits : (o : Outcome) → Fine w′ out′ (ended-at o) → after-outcome p o .done ≡ false
+            → (after-outcome p o .counts .size ≤ 65535) × Bounded (after-outcome p o .counts)
+        fits (outcome.Done pl) r d = (omega (arith, r .0 .fits, r .0 .short), r .0 .bounded)
+        fits (outcome.Stopped pl) r d = (omega (arith, r .fits, r .short), r .bounded)
         fits (outcome.Refused n pl) r d = clash cc
 
-        pub note-asks : q .done ≡ false → {k : Progress} → k ≡ with-quote q quotes → (k .steps < length words) × (k .size ≤ 65535) × (k .steps < 1024)
+        pub note-asks : q .done ≡ false → {k : Progress} → k ≡ with-quote q quotes → Noting words k
         note-asks d {k} is =
             let u = ready .underway in
             let e = comes (u .left) (u .steps-there) in
             let l : length (u .left) ≡ suc (length (e .0)) = ap length (e .1) in
-            let z : q .size ≤ 65535 =
-            subst (λ (x : Progress). x .done ≡ false → x .size ≤ 65535) (sym (ad .is)) (fits (ad .outcome) (ad .resumed .fine)) d in
-            let s : k .steps ≡ p .steps = ap (λ (x : Progress). x .steps) is ∙ same-steps in
-            (omega (arith, u .few-steps, u .many-words), subst (λ (x : Progress). x .size ≤ 65535) (sym is) z, omega (arith, u .few-steps))
+            let z : (q .counts .size ≤ 65535) × Bounded (q .counts) =
+            subst (λ (x : Progress). x .done ≡ false → (x .counts .size ≤ 65535) × Bounded (x .counts)) (sym (ad .is)) (fits (ad .outcome) (ad .resumed .fine)) d in
+            subst (Noting words) (sym is)
+            (record { room = omega (arith, u .few-steps, u .many-words, same-steps); short = z .0; bounded = z .1; few-steps = omega (arith, u .few-steps, same-steps) })
 
         -- A refused add.
         pub adds-off : (saved : Checkpoint) {t : Progress} → q .done ≡ true → t ≡ refusal-of quotes p q
@@ -147,13 +149,13 @@ module _ {input : List ℕ} {f : File} {w words out : List ℕ} {p : Progress} {
 
         -- An add that is not refused.
         pub adds-on : {words′ : List ℕ} {saved : Checkpoint} {t : Progress} → saved ≡ record-of w p → q .done ≡ false
-            → {k : Progress} → k ≡ with-quote q quotes → words′ ≡ set words (k .steps) (k .size * 2 + bit (k .finished)) → t ≡ noted-at k next
+            → {k : Progress} → k ≡ with-quote q quotes → words′ ≡ noted-words words k → t ≡ noted-at k next
             → Onward input f w words out p c w′ words′ out′ (record { state = t; saved = saved })
         adds-on {words′} {saved} {t} sv d {k} kept ws is rows u r-is =
             let e = comes (u .left) (u .steps-there) in
             let is′ : t ≡ noted-at (with-quote q quotes) next = is ∙ ap (λ (x : Progress). noted-at x next) kept in
-            let ws′ : words′ ≡ set words (q .steps) (q .size * 2 + bit (q .finished)) =
-            ws ∙ ap (λ (x : Progress). set words (x .steps) (x .size * 2 + bit (x .finished))) kept in
+            let ws′ : words′ ≡ noted-words words q =
+            ws ∙ ap (λ (x : Progress). noted-words words x) kept in
             let s : t .steps ≡ q .steps + 1 = ap (λ (x : Progress). x .steps) is′ in (
               stands-on input f w′ words′ (set rows (slot-for (p .quoted) (u .left) (p .adds)) saved) out′ t (ap (λ (x : Progress). x .done) is′ ∙ d)
                   (subst (λ (x : Checkpoint). Underway input f w′ words′ (set rows (slot-for (p .quoted) (u .left) (p .adds)) x) out′ t) (sym sv)

@@ -35,14 +35,14 @@ pub record StateSaved (w w′ : List ℕ) (p : Progress) : Type 0 where
 -- What an add takes.
 pub record Adding (input w out : List ℕ) (p : Progress) (h : ℕ) : Type 0 where
   pub places : AtomPlaces input w
-  pub running : Running w out (p .opens) (p .depth) (p .size) 0
+  pub running : Running w out (p .opens) (p .depth) (p .counts) 0
   pub names : Names w (at w PAIR-COUNT) h
   pub room : at w USED + 2 * unmapped w (at w PAIR-COUNT) < ENTRIES
   pub counts : all-counts w ENTRIES + 2 * unmapped w (at w PAIR-COUNT) ≤ 2048
   pub few : p .adds < 16
 
 abbrev pub place-at : Progress → Place
-place-at p = record { opens = p .opens; depth = p .depth; size = p .size }
+place-at p = record { opens = p .opens; depth = p .depth; counts = p .counts }
 
 -- The state is saved, the tree entered in the cache, and written up to the next open place.
 pub record Added (input w out w′ out′ : List ℕ) (p : Progress) (node : NodePtr) (q : Progress) : Type 0 where

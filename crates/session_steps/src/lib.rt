@@ -40,16 +40,17 @@ fn add(file: &[u8], work: &mut [u32], output: &mut [u8], p: Progress, node: Node
 {
     save_state(work, p);
     cache_update::update(work, node);
+    let counts = p.counts;
     let place = Place {
         opens: p.opens,
         depth: p.depth,
-        size: p.size,
+        counts,
     };
     let o = write_loop::resume(work, file, output, place, node);
     progress::after_outcome(p, o)
 }
 
-// An add, or a quote of it: questions 9 and 10; the tree is added, and the step's word written unless the add is refused. What a quote adds stands until
+// An add, or a quote of it: questions 9 and 10; the tree is added, and the step's words written unless the add is refused. What a quote adds stands until
 // the next step; where it is refused, the session ends as it was before.
 fn add_step(
     file: &[u8],

@@ -8,19 +8,18 @@ use session_state::progress::Progress;
 use session_state::step_records;
 ghost use mathlib.Core.Path.{_≡_};
 ghost use mathlib.Core.Bool.{true, false};
-ghost use Prim.Native.Nat.{_+_, _-_, _*_, _≤_, _<_};
-ghost use lib.ListN.{length, set};
-ghost use Rattle.path.specs.Bytes.{bit};
+ghost use Prim.Native.Nat.{_-_, _<_};
 ghost use Rattle.session_state.specs.Moves.{noted-at, with-quote, undone-at};
+ghost use Rattle.session_state.specs.Stored.{Noting, noted-words};
 ghost use Rattle.session_state.specs.State.{the-file};
 ghost use Rattle.session_state.specs.Steps.{Ready, Onward};
 ghost use Rattle.session_steps.specs.undo_step.Contracts.{Undoing, Undone};
 
-// A taking: the quote's add stays, and its word is written again.
+// A taking: the quote's add stays, and its words are written again.
 fn take_quote(words: &mut [u32], p: Progress, next: usize, c: Checkpoint) -> StepAnswer
-    requires { ⌜ (p .steps < length (now words)) × (p .size ≤ 65535) × (p .steps < 1024) ⌝ }
+    requires { ⌜ Noting (now words) p ⌝ }
     ensures { λ a. ⌜
-        (now (words .exit) ≡ set (now (words .entry)) (p .steps) (p .size * 2 + bit (p .finished)))
+        (now (words .exit) ≡ noted-words (now (words .entry)) p)
         × (a ≡ record { state = noted-at (with-quote p false) next; saved = c }) ⌝ }
 {
     let q = progress::with_quote(p, false);

@@ -36,7 +36,7 @@ pub fn undo(work: &mut [u32], depth: usize, number: usize, forgets: bool, c: Che
     cache_undo::restore(work, number, c.opens as usize, depth, c.depth as usize);
 }
 
-// An undo: question 11; the state before an add is the present one again, and the step's word is written.
+// An undo: question 11; the state before an add is the present one again, and the step's words are written.
 pub fn undo_step(
     file: &[u8],
     work: &mut [u32],

@@ -6,10 +6,10 @@ use Rattle.session.proofs.main.Statement.{statement}
 use Rattle.session.proofs.main.Tie as tie
 
 abbrev Inv-loop : tie.InvT-loop
-Inv-loop count by-items₀ i₀ by-items i = Unit {0}
+Inv-loop options₀ count i₀ options i = Unit {0}
 
 abbrev μ-loop : tie.MeasureT-loop
-μ-loop count by-items₀ i₀ by-items i = count - i
+μ-loop options₀ count i₀ options i = count - i
 
 arg-count-requires : tie.Need-arg-count-requires Inv-loop μ-loop
 arg-count-requires c κs = search needs

@@ -53,6 +53,7 @@ use Rattle.session_state.proofs.checkpoints.Checkpoint.Laws as T′
 use Rattle.session_answer.specs.declared.SessionAnswer.{SessionAnswer}
 use Rattle.session_answer.proofs.SessionAnswer as R
 use Rattle.session_answer.proofs.SessionAnswer.Laws as R′
+use Rattle.session_state.proofs.checkpoints.Rows.{blank-is}
 use Rattle.session_call.proofs.Lending.{twice}
 use Rattle.session.proofs.Lent.{lends-array, array-back}
 use Rattle.session_call.proofs.nikvoldra_session as call
@@ -72,9 +73,6 @@ stayed = (
     (gave-slice (2 ∷ []) tt (plain (λ _. u32)), (gave-slice (3 ∷ []) tt (plain (λ _. u8)), tt)),
   ),
 )
-
-blank-is : Is T.the-row blank (LL.vals T.the-type T′.the-laws blank)
-blank-is = LL.owes T.the-type T′.the-laws blank ((refl, lit< tt), ((refl, lit< tt), ((refl, lit< tt), ((refl, lit< tt), tt))))
 
 room : Room T.the-row 16
 room = (lit< tt, lit< tt)
@@ -198,7 +196,8 @@ module _ {M : Type 1} (𝓤 : URA M) (H : Heap 𝓤) (A : Atoms 𝓤) (W : Given
           move ! (31 ∷ []) $ fsplit ! $ move ! (1 ∷ []) $ fsplit ! $ move ! (1 ∷ []) $ fsplit ! $ move ! (1 ∷ []) $ fsplit ! $ move ! (1 ∷ []) $ drop ! $
           move ! (34 ∷ []) $ split ! $ move ! (1 ∷ []) $ split ! $ move ! (1 ∷ []) $ split ! $ move ! (1 ∷ []) $ split ! $ move ! (1 ∷ []) $ drop ! $
           -- The sixteen records.
-          assigns ! (agg ! (and-then ! (lit ! tt) (and-then ! (lit ! tt) (and-then ! (lit ! tt) (and-then ! (lit ! tt) (no-more !)))))) (from ! (stop !))
+          assigns ! (agg ! (and-then ! (lit ! tt) (and-then ! (lit ! tt)
+          (and-then ! (lit ! tt) (and-then ! (lit ! tt) (and-then ! (lit ! tt) (and-then ! (lit ! tt) (no-more !)))))))) (from ! (stop !))
           (init ! 24 refl (LL.lawful T.the-type T′.the-laws 𝓤 H A W .typed blank _ blank-is .0)) $
           owned ! T.the-row (Is T.the-row) (LL.makes T.the-type T′.the-plain 𝓤 H A) blank _ blank-is $ use1 W (‵ (Array T.the-row 16 .own blanks (zeros ∷ [])))
           (array-repeat 𝓤 H A W T.the-row (LL.copy T.the-type T′.the-copy 𝓤 H A W) 16 blank (LL.val T.the-type T′.the-laws blank)) $

@@ -1,5 +1,6 @@
 -- `session_answer::clear_rest` clears what is left after a run, and nothing after a refusal.
 -- Assumes nothing.
+use Prim.Native.Nat.{_*_}
 use Rattle.session_answer.proofs.Clearing.{cleared-none, cleared-all, tail-cleared}
 use borrow.Author.Needs.{needs}
 use Rattle.session_answer.proofs.clear_rest.Statement.{statement}
@@ -7,6 +8,9 @@ use Rattle.session_answer.proofs.clear_rest.Tie as tie
 
 returns : tie.Need-returns
 returns c = let a = c .before .before .before .before .args in cleared-none (a .p) (a .work .now) (a .words .now) (a .output .now) (a .refused) (c .if1 .taken)
+
+mul-told : tie.Need-mul-told
+mul-told c = search needs
 
 clear-requires : tie.Need-clear-requires
 clear-requires c κs = search needs
@@ -53,18 +57,19 @@ returns-2 c =
     let words-clear = c .before .before .before .before .before .before in
     let words = words-clear .clear2 in
     let work-clear = words-clear .before .before .before .before in
-    let run = work-clear .before .before in
+    let run = work-clear .before .before .before in
     let s = run .before .before .before .before in
     let a = s .args in
     cleared-all (a .p) (a .work .now) (a .words .now) (a .output .now) _ _ _ (a .refused) (run .if1 .left) (work-clear .clear .ensures)
-    (tail-cleared (a .words .now) (words .last .0) (a .p .steps) (s .pre .0) (words .ensures))
-    (tail-cleared (a .output .now) (output .last .0) (a .p .size) (s .pre .1) (output .ensures))
+    (tail-cleared (a .words .now) (words .last .0) (3 * a .p .steps) (s .pre .0) (words .ensures))
+    (tail-cleared (a .output .now) (output .last .0) (a .p .counts .size) (s .pre .1) (output .ensures))
 
 pub clear-rest-spec : {M : Type 1} → statement M
 clear-rest-spec =
     tie.close
     (tie.spec
     returns
+    mul-told
     clear-requires
     mul-clear
     sub-clear

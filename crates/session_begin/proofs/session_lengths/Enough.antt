@@ -11,11 +11,11 @@ use Rattle.session_begin.specs.Lengths.{are-long}
 both : (x y : Bool) → x ≡ true → x && y ≡ y
 both x y e = rw e refl
 
-pub enough : (w ws cs : ℕ) → WORK ≤ w → 1024 ≤ ws → leb 16 cs ≡ are-long w ws cs
-enough w ws cs a b = sym (both (leb WORK w) _ (le-leb WORK w a) ∙ both (leb 1024 ws) _ (le-leb 1024 ws b))
+pub enough : (w ws cs : ℕ) → WORK ≤ w → 3072 ≤ ws → leb 16 cs ≡ are-long w ws cs
+enough w ws cs a b = sym (both (leb WORK w) _ (le-leb WORK w a) ∙ both (leb 3072 ws) _ (le-leb 3072 ws b))
 
 pub short-work : (w ws cs : ℕ) → w < WORK → false ≡ are-long w ws cs
 short-work w ws cs a = rw (lt-leb WORK w a) refl
 
-pub short-words : (w ws cs : ℕ) → WORK ≤ w → ws < 1024 → false ≡ are-long w ws cs
-short-words w ws cs a b = rw (le-leb WORK w a, lt-leb 1024 ws b) refl
+pub short-words : (w ws cs : ℕ) → WORK ≤ w → ws < 3072 → false ≡ are-long w ws cs
+short-words w ws cs a b = rw (le-leb WORK w a, lt-leb 3072 ws b) refl

@@ -1,4 +1,4 @@
--- `session_steps::add_step` meets its contract, of an add and of a quote: questions 9 and 10, a refused one, and one whose word is noted.
+-- `session_steps::add_step` meets its contract, of an add and of a quote: questions 9 and 10, a refused one, and one whose words are noted.
 -- Assumes nothing.
 use Prim.Native.Nat.{_<_}
 use mathlib.Core.Path.{_≡_}

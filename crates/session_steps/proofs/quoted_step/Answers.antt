@@ -1,6 +1,6 @@
 -- A step while a quote is open: its taking keeps the add, any other step drops it. What each call asks, and what it leaves.
 -- Assumes nothing.
-use Prim.Native.Nat.{ℕ, suc, _+_, _-_, _*_, _≤_, _<_}
+use Prim.Native.Nat.{ℕ, suc, _+_, _-_, _*_, _<_}
 use mathlib.Core.Path.{_≡_, refl, sym, ap, subst, _∙_}
 use mathlib.Core.Bool.{Bool, true, false, not}
 use mathlib.Core.List.{List, [], _∷_}
@@ -22,11 +22,12 @@ use Rattle.spec_session.specs.Places.{StepsAt, StepNamed}
 use Rattle.spec_session.specs.Trees.{nth, nth-end}
 use Rattle.spec_session.specs.Premises.{IfAny}
 use Rattle.spec_session.specs.StepLaws.{run-unseen}
-use Rattle.spec_session.specs.Steps.{word-of, Run, with-word, run-steps}
+use Rattle.spec_session.specs.Steps.{words-of, Run, with-words, run-steps}
 use Rattle.file_parts.specs.Loaded.{forgets}
 use Rattle.file_parts.specs.declared.session_file.NextStep.the-variants as next-step
 use Rattle.session_state.specs.declared.progress.Progress.{Progress}
 use Rattle.session_state.specs.declared.progress.StepAnswer.{StepAnswer}
+use Rattle.session_state.specs.Stored.{Noting, noted-words}
 use Rattle.session_state.specs.Moves.{noted-at, with-quote, undone-at}
 use Rattle.session_state.specs.State.{standing, whole-run, after-words, Shows, Stocked, Underway, Stands, slot-for}
 use Rattle.session_state.specs.Steps.{Comes, Ready, Onward}
@@ -53,10 +54,10 @@ module _ {input : List ℕ} {f : File} {w words : List ℕ} {rows : List Checkpo
   -- ---- a taking
 
   taken-on : (next : ℕ) {rest : List Step} → u .left ≡ take-quote ∷ rest → StepsAt input next rest → {words′ : List ℕ}
-      → words′ ≡ set words (p .steps) (p .size * 2 + bit (p .finished)) → Underway input f w words′ rows out (noted-at (with-quote p false) next)
+      → words′ ≡ noted-words words p → Underway input f w words′ rows out (noted-at (with-quote p false) next)
   taken-on next {rest} e there {words′} ws =
       go-on input f w words words′ rows out (with-quote p false) next rest (u .past) (u .session) (standing (u .past) (u .session)) (u .present) later
-      (history-later out out refl f w w (λ j l. refl) (p .forgets) (p .steps) (p .steps + 1) (omega arith) rows (p .size) (p .adds) (u .past) (u .session .cache)
+      (history-later out out refl f w w (λ j l. refl) (p .forgets) (p .steps) (p .steps + 1) (omega arith) rows (p .counts .size) (p .adds) (u .past) (u .session .cache)
       (λ j x y. refl) refl (u .history))
       (λ z. ap forgets (sym e) ∙ u .known z) (u .few-adds) (u .goes) there
       (subst (λ (ss : List Step). All (StepNamed (length (f .atoms)) (length (f .pairs))) ss) e (u .steps-named) .1)
@@ -68,12 +69,12 @@ module _ {input : List ℕ} {f : File} {w words : List ℕ} {rows : List Checkpo
           record { tables = k .tables; places = k .places; atoms-there = k .atoms-there; room = roomy-later w (p .steps) (p .steps + 1) (omega arith) (k .room) }
 
       run : whole-run f (length out)
-          ≡ after-words (take (p .steps) words) (with-word (word-of (u .session)) (run-steps counted (length out) f rest (standing (u .past) (u .session))))
+          ≡ after-words (p .steps) (take (3 * p .steps) words) (with-words (words-of (u .session)) (run-steps counted (length out) f rest (standing (u .past) (u .session))))
       run =
           u .same
-          ∙ ap (λ (ss : List Step). after-words (take (p .steps) words) (run-steps counted (length out) f ss (u .state))) e
-          ∙ ap (λ (r : Run). after-words (take (p .steps) words) r)
-          (run-taking (length out) f (u .state) (word-of (u .session)) (standing (u .past) (u .session)) rest (shown .0))
+          ∙ ap (λ (ss : List Step). after-words (p .steps) (take (3 * p .steps) words) (run-steps counted (length out) f ss (u .state))) e
+          ∙ ap (λ (r : Run). after-words (p .steps) (take (3 * p .steps) words) r)
+          (run-taking (length out) f (u .state) (words-of (u .session)) (standing (u .past) (u .session)) rest (shown .0))
 
   -- ---- a drop
 
@@ -126,7 +127,7 @@ module _ {input : List ℕ} {f : File} {w words : List ℕ} {rows : List Checkpo
           shown = refl;
           same =
               u .same
-              ∙ ap (λ (y : Run). after-words (take (p .steps) words) y)
+              ∙ ap (λ (y : Run). after-words (p .steps) (take (3 * p .steps) words) y)
               (sym (run-unseen counted (length out) f (u .left) other none (u .state))
               ∙ (λ i. run-steps counted (length out) f (u .left) (standing (past-before i) (was-now i))));
         }
@@ -144,14 +145,20 @@ module _ {input : List ℕ} {f : File} {w words out : List ℕ} {p : Progress} {
       (subst (λ (y : List Checkpoint). Underway input f w′ words′ y out t) (sym (ap (set rows k) (sym r-is) ∙ set-getD rows k blank)) u))
 
   module _ (next : ℕ) (comes : Comes input (p .at) (next-step.Take next)) where
-    pub take-asks : (p .steps < length words) × (p .size ≤ 65535) × (p .steps < 1024)
+    pub take-asks : Noting words p
     take-asks =
         let u = ready .underway in
         let e = comes (u .left) (u .steps-there) in
         let l : length (u .left) ≡ suc (length (e .0)) = ap length (e .1) in
-        (omega (arith, u .few-steps, u .many-words), omega (arith, u .present .running .fits, u .present .running .short), omega (arith, u .few-steps))
+        let r = u .present .running in
+        record {
+          room = omega (arith, u .few-steps, u .many-words);
+          short = omega (arith, r .fits, r .short);
+          bounded = r .bounded;
+          few-steps = omega (arith, u .few-steps);
+        }
 
-    pub takes-on : {words′ : List ℕ} {a : StepAnswer} → words′ ≡ set words (p .steps) (p .size * 2 + bit (p .finished))
+    pub takes-on : {words′ : List ℕ} {a : StepAnswer} → words′ ≡ noted-words words p
         → a ≡ record { state = noted-at (with-quote p false) next; saved = c } → Onward input f w words out p c w words′ out a
     takes-on {words′} {a} ws is rows u r-is =
         let e = comes (u .left) (u .steps-there) in

@@ -1,12 +1,11 @@
 -- What the answer of an undo means: the run goes on, or question 11 ends it. What each call of it asks.
 -- Assumes nothing.
-use Prim.Native.Nat.{ℕ, suc, _+_, _*_, _≤_, _<_}
-use mathlib.Core.Path.{_≡_, sym, ap, _∙_}
+use Prim.Native.Nat.{ℕ, suc, _+_, _≤_, _<_}
+use mathlib.Core.Path.{_≡_, sym, ap, subst, _∙_}
 use mathlib.Core.Bool.{Bool, true, false, not}
 use mathlib.Core.List.{List, _∷_}
 use native.Mathlib.Omega.{arith}
-use lib.ListN.{length, getD, set}
-use Rattle.session_state.specs.Records.{blank}
+use lib.ListN.{length, set}
 use Rattle.session_state.specs.declared.checkpoints.Checkpoint.{Checkpoint}
 use Rattle.path.specs.Measure.{counted}
 use Rattle.spec_session.specs.File.{File, Step}
@@ -16,13 +15,14 @@ use Rattle.spec_session.specs.Steps.{run-steps}
 use Rattle.session_state.specs.declared.progress.Progress.{Progress}
 use Rattle.session_state.specs.declared.progress.StepAnswer.{StepAnswer}
 use Rattle.path.specs.Bytes.{bit}
+use Rattle.session_state.specs.Stored.{Noting, noted-words}
 use Rattle.session_state.specs.Moves.{noted-at, undone-at, stopped-at}
-use Rattle.session_state.specs.State.{standing, size-at, Underway, slot-for, undo-of}
+use Rattle.session_state.specs.State.{standing, slot-for, undo-of}
 use Rattle.session_state.specs.Steps.{Comes, told-undo, Ready, Onward}
 use Rattle.session_steps.specs.undo_step.Contracts.{Undoing, Undone}
 use Rattle.session_state.proofs.Slots.{nth-none}
 use Rattle.session_state.proofs.Runs.{run-beyond}
-use Rattle.session_steps.proofs.undo_step.Undoing.{slot, undo-takes, undone-on}
+use Rattle.session_steps.proofs.undo_step.Undoing.{undo-fits, undo-takes, undone-on}
 use Rattle.session_state.proofs.Answers.{stands-on, stops}
 
 module _ {input : List ℕ} {f : File} {w words out : List ℕ} {p : Progress} {c : Checkpoint} (ready : Ready input f w words out p c)
@@ -50,24 +50,17 @@ module _ {input : List ℕ} {f : File} {w words out : List ℕ} {p : Progress} {
         let e = comes (u .left) (u .steps-there) in
         undo-takes b u none-open (e .1) few (ready .record-is)
 
-    pub undo-note-asks : {q : Progress} → q ≡ undone-at p c n → (q .steps < length words) × (q .size ≤ 65535) × (q .steps < 1024)
+    pub undo-note-asks : {q : Progress} → q ≡ undone-at p c n → Noting words q
     undo-note-asks {q} is =
         let u = ready .underway in
         let e = comes (u .left) (u .steps-there) in
         let l : length (u .left) ≡ suc (length (e .0)) = ap length (e .1) in
-        let s : q .steps ≡ p .steps = ap (λ (x : Progress). x .steps) is in
-        let z : q .size ≡ c .size = ap (λ (x : Progress). x .size) is in
-        let k : c .size ≤ 65535 = size-low (ready .rows) u (ready .record-is) (e .0) (e .1) in
-        (omega (arith, u .few-steps, u .many-words), omega arith, omega (arith, u .few-steps))
-      where
-        size-low : (rows : List Checkpoint) (u : Underway input f w words rows out p) → getD rows (slot-for (p .quoted) (u .left) (p .adds)) blank ≡ c
-            → (rest : List Step) → u .left ≡ undo-of b n ∷ rest → c .size ≤ 65535
-        size-low rows u r-is rest e =
-            let z : size-at rows n ≡ c .size = ap (λ (k : ℕ). size-at rows k) (sym (slot b u none-open e few r-is)) ∙ ap (λ (x : Checkpoint). x .size) r-is in
-            omega (arith, u .history .sizes n few, u .present .running .fits, u .present .running .short)
+        let r = undo-fits b u none-open (e .1) few (ready .record-is) in
+        subst (Noting words) (sym is)
+        (record { room = omega (arith, u .few-steps, u .many-words); short = r .0; bounded = r .1; few-steps = omega (arith, u .few-steps) })
 
     pub undoes-on : {w′ : List ℕ} → length w′ ≡ length w → Undone b w w′ n c → {words′ : List ℕ} {q t : Progress} → q ≡ undone-at p c n
-        → words′ ≡ set words (q .steps) (q .size * 2 + bit (q .finished)) → t ≡ noted-at q next
+        → words′ ≡ noted-words words q → t ≡ noted-at q next
         → Onward input f w words out p c w′ words′ out (record { state = t; saved = c })
     undoes-on {w′} long un {words′} {q} {t} qi ws is rows u r-is =
         let e = comes (u .left) (u .steps-there) in

@@ -22,7 +22,7 @@ use Rattle.spec_session.specs.Cache.{Cache}
 use Rattle.spec_session.specs.Extends.{Extends}
 use Rattle.spec_session.specs.Writer.{Todo, Session}
 use Rattle.spec_session.specs.Trees.{nth}
-use Rattle.spec_session.specs.Steps.{or-known, Run, with-word, word-of, run-steps}
+use Rattle.spec_session.specs.Steps.{or-known, Run, with-words, words-of, run-steps}
 use Rattle.file_parts.specs.Loaded.{forgets}
 use Rattle.work_layout.specs.Layout.{PAIR-COUNT, OPEN, STACK, WRITTEN, MAPS, SENTINEL-ENTRY, USED, SEEN, ENTRIES, DEPTH}
 use Rattle.work_layout.specs.Rows.{all-counts}
@@ -37,9 +37,9 @@ use Rattle.cache_entries.proofs.Frames.{tables-kept}
 use Rattle.write_place.specs.State.{todo-of, Running, Writes}
 use Rattle.write_loop.proofs.write_turn.Frames.{todo-same, rights-same, pairs-few}
 use Rattle.session_state.specs.declared.progress.Progress.{Progress}
-use Rattle.path.specs.Bytes.{bit}
-use Rattle.session_state.specs.Stored.{with-entry}
-use Rattle.session_state.specs.Moves.{noted-at, undone-at}
+use Rattle.write_counts.specs.Counts.{Bounded}
+use Rattle.session_state.specs.Stored.{noted-words, with-entry}
+use Rattle.session_state.specs.Moves.{noted-at, counts-in, undone-at}
 use Rattle.session_state.specs.State.{standing, whole-run, after-words, Roomy, At, Before, History, Stocked, Underway, slot-for, undo-of, undone}
 use Rattle.session_steps.specs.undo_step.Contracts.{Brings, CacheBack, Undoing, Undone}
 use Rattle.session_state.proofs.Slots.{Found, nth-found}
@@ -109,6 +109,10 @@ module _ {input : List ℕ} {f : File} {w words : List ℕ} {rows : List Checkpo
 
   before : Before f w out (p .forgets) (p .steps) n r was
   before = subst (λ (x : Checkpoint). Before f w out (p .forgets) (p .steps) n x was) row (u .history .befores n was (found .is))
+
+  -- What the record counts fits.
+  pub fits-then : (r .size ≤ 65535) × Bounded (counts-in r)
+  fits-then = (omega (arith, before .stood .running .fits, before .stood .running .short), before .stood .running .bounded)
 
   abbrev then : List ℕ
   then = before .words-then
@@ -252,7 +256,7 @@ module _ {input : List ℕ} {f : File} {w words : List ℕ} {rows : List Checkpo
 
     -- ---- the session
 
-    running : Running w′ out (r .opens) (r .depth) (r .size) 0
+    running : Running w′ out (r .opens) (r .depth) (counts-in r) 0
     running =
         let t = before .stood .running .stands in
         record {
@@ -266,20 +270,21 @@ module _ {input : List ℕ} {f : File} {w words : List ℕ} {rows : List Checkpo
                 balance = rw (rights-same then w′ (r .opens) open-same) (t .balance);
               };
           fits = before .stood .running .fits;
+          bounded = before .stood .running .bounded;
           short = before .stood .running .short;
         }
 
     todo : todo-of f w′ (r .opens) ≡ todo-of f then (r .opens)
     todo = todo-same f then w′ (r .opens) tables-then open-same (pairs-few then (r .opens) (r .depth) 0 (before .stood .running .stands))
 
-    writes : Writes f w′ out (r .depth) (r .size) (back .cache) (was .written)
+    writes : Writes f w′ out (r .depth) (counts-in r) (back .cache) (was .written)
     writes =
         let t = before .stood .writes in
         record {
           cache = cached .holds;
           stack = t .stack ∙ sym (stack-same then w′ (r .depth) place-same);
           marks = λ y l. t .marks y l ∙ sym (marked-same then w′ y l mark-same);
-          size-is = t .size-is;
+          counts-are = t .counts-are;
           bytes-are = t .bytes-are;
         }
 
@@ -306,14 +311,14 @@ module _ {input : List ℕ} {f : File} {w words : List ℕ} {rows : List Checkpo
     pub history : History f w′ out rows (p .forgets) later (r .size) n (take n (u .past)) (back .cache)
     history =
         subst (λ (y : Checkpoint). History f w′ out rows (p .forgets) later (y .size) n (take n (u .past)) (back .cache)) row
-        (history-back out out refl f w w′ low (p .forgets) (p .steps) later le rows (p .size) (p .adds) (u .past) (u .session .cache)
+        (history-back out out refl f w w′ low (p .forgets) (p .steps) later le rows (p .counts .size) (p .adds) (u .past) (u .session .cache)
         (λ j y z. a .restored .high j (omega arith) ∙ outside .above j (omega arith)) refl (u .history) n few (back .cache) over)
 
-    pub present : At f w′ out (r .opens) (r .depth) (r .size) false back
+    pub present : At f w′ out (r .opens) (r .depth) (counts-in r) false back
     present = go b running writes
       where
-        go : (c : Bool) → Running w′ out (r .opens) (r .depth) (r .size) 0 → Writes f w′ out (r .depth) (r .size) (undone c was (u .session) .cache) (was .written)
-            → At f w′ out (r .opens) (r .depth) (r .size) false (undone c was (u .session))
+        go : (c : Bool) → Running w′ out (r .opens) (r .depth) (counts-in r) 0 → Writes f w′ out (r .depth) (counts-in r) (undone c was (u .session) .cache) (was .written)
+            → At f w′ out (r .opens) (r .depth) (counts-in r) false (undone c was (u .session))
         go false y z = record { running = y; writes = z; waiting = waiting }
         go true y z = record { running = y; writes = z; waiting = waiting }
 
@@ -346,6 +351,9 @@ module _ {input : List ℕ} {f : File} {w words : List ℕ} {rows : List Checkpo
   flagged : b ≡ true → p .forgets ≡ true
   flagged = flag-set b n rest (p .forgets) (λ z. ap forgets (sym e) ∙ u .known z)
 
+  pub undo-fits : (r .size ≤ 65535) × Bounded (counts-in r)
+  undo-fits = fits-then b u few row-is flagged
+
   pub undo-takes : Undoing b w (p .depth) n r
   undo-takes = undoing b u few row-is flagged
 
@@ -354,13 +362,13 @@ module _ {input : List ℕ} {f : File} {w words : List ℕ} {rows : List Checkpo
     now-back = back b u few row-is flagged long a (p .steps + 1) (omega arith)
 
     pub undone-on : (next : ℕ) → StepsAt input next rest → {words′ : List ℕ} {q t : Progress} → q ≡ undone-at p r n
-        → words′ ≡ set words (q .steps) (q .size * 2 + bit (q .finished)) → t ≡ noted-at q next
+        → words′ ≡ noted-words words q → t ≡ noted-at q next
         → Underway input f w′ words′ (set rows (slot-for (p .quoted) (u .left) (p .adds)) r) out t
     undone-on next there {words′} {q} {t} qi ws ti =
         subst (λ (y : Progress). Underway input f w′ words′ (set rows (slot-for (p .quoted) (u .left) (p .adds)) r) out y) (sym ti)
         (subst (λ (y : List Checkpoint). Underway input f w′ words′ y out (noted-at q next))
         (sym (ap (set rows (slot-for (p .quoted) (u .left) (p .adds))) (sym r-is) ∙ set-getD rows (slot-for (p .quoted) (u .left) (p .adds)) blank))
-        (subst (λ (y : Progress). words′ ≡ set words (y .steps) (y .size * 2 + bit (y .finished)) → Underway input f w′ words′ rows out (noted-at y next)) (sym qi)
+        (subst (λ (y : Progress). words′ ≡ noted-words words y → Underway input f w′ words′ rows out (noted-at y next)) (sym qi)
         (λ y. go-on input f w′ words words′ rows out (undone-at p r n) next rest (take n (u .past)) now-back (standing (take n (u .past)) now-back)
         (present b u few row-is flagged long a (p .steps + 1) (omega arith)) (stocked b u few row-is flagged long a (p .steps + 1) (omega arith))
         (history b u few row-is flagged long a (p .steps + 1) (omega arith))
@@ -374,9 +382,9 @@ module _ {input : List ℕ} {f : File} {w words : List ℕ} {rows : List Checkpo
         all-rest ss q y = subst (λ (z : List Step). All (StepNamed (length (f .atoms)) (length (f .pairs))) z) q y .1
 
         run : whole-run f (length out)
-            ≡ after-words (take (p .steps) words) (with-word (word-of now-back) (run-steps counted (length out) f rest (standing (take n (u .past)) now-back)))
+            ≡ after-words (p .steps) (take (3 * p .steps) words) (with-words (words-of now-back) (run-steps counted (length out) f rest (standing (take n (u .past)) now-back)))
         run =
             same-standing input f w words out p r none-open rows u
-            ∙ ap (λ (ss : List Step). after-words (take (p .steps) words) (run-steps counted (length out) f ss (standing (u .past) (u .session)))) e
-            ∙ ap (λ (y : Run). after-words (take (p .steps) words) y)
+            ∙ ap (λ (ss : List Step). after-words (p .steps) (take (3 * p .steps) words) (run-steps counted (length out) f ss (standing (u .past) (u .session)))) e
+            ∙ ap (λ (y : Run). after-words (p .steps) (take (3 * p .steps) words) y)
             (run-undo (length out) f (u .past) (u .session) b n rest (was b u few row-is flagged) (found b u few row-is flagged .is))

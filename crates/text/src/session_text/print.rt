@@ -7,24 +7,32 @@ use crate::say;
 use crate::space;
 use libc::STDOUT_FILENO;
 
-// A finished step: its number, the size, and 1 if finished.
-fn step(number: usize, word: u32) {
+// After a space, a number.
+fn column(number: u32) {
+    space();
     decimal(number as u64);
-    space();
-    decimal((word / 2) as u64);
-    space();
-    decimal((word % 2) as u64);
+}
+
+// A finished step: its number, the size, and 1 if finished; with counts the references and the prefix bytes too.
+fn step(number: usize, word: u32, references: u32, prefix_bytes: u32, counts: bool) {
+    decimal(number as u64);
+    column(word / 2);
+    column(word % 2);
+    if counts {
+        column(references);
+        column(prefix_bytes);
+    }
     line_end();
 }
 
-// A line for each of the first `count` words that the slice has, counted from 1.
-pub fn steps(words: &[u32], count: u32) {
-    let n = least(count, words.len());
+// A line for each of the first `count` steps whose three words the slice has, counted from 1.
+pub fn steps(words: &[u32], count: u32, counts: bool) {
+    let n = least(count, words.len() / 3);
     let mut i = 0;
     while i < n {
-        let word = words[i];
+        let at = 3 * i;
         i += 1;
-        step(i, word);
+        step(i, words[at], words[at + 1], words[at + 2], counts);
     }
 }
 
@@ -40,5 +48,5 @@ pub fn refusal(number: u32) {
 
 // How the program is called, on standard error.
 pub fn usage() {
-    say(b"usage: session [--items] [FILE ..]    no file: standard input\n");
+    say(b"usage: session [--items] [--counts] [FILE ..]    no file: standard input\n");
 }

@@ -48,7 +48,7 @@ use denote.Triple.Walked.{says, needs, Stays, stay-slice, stay-none, walkOf, goe
 use denote.Exit.{yes}
 use Rattle.session_state.specs.declared.checkpoints.Checkpoint.{Checkpoint}
 use Rattle.session_state.specs.Records.{blank}
-use Rattle.session_state.proofs.checkpoints.Rows.{byte-fits, the-vals, the-tells, the-makes, the-typed, after, fill-to, fill-length, fill-more, fill-is}
+use Rattle.session_state.proofs.checkpoints.Rows.{blank-is, byte-fits, the-vals, the-tells, the-makes, the-typed, after, fill-to, fill-length, fill-more, fill-is}
 use Rattle.session_state.proofs.checkpoints.Checkpoint as T
 use Rattle.session_state.proofs.checkpoints.Checkpoint.Laws as T′
 use Rattle.session_state.proofs.checkpoints.clear_first.Key.{name as #clear}
@@ -66,9 +66,6 @@ slice = sliceTy (tyRef (named 0) mut (pointee (T.the-row .written)))
 
 abbrev word : Ty
 word = tyInt w64
-
-blank-is : Is T.the-row blank (the-vals blank)
-blank-is = LL.owes T.the-type T′.the-laws blank ((refl, lit< tt), ((refl, lit< tt), ((refl, lit< tt), ((refl, lit< tt), tt))))
 
 module _ {M : Type 1} (𝓤 : URA M) (H : Heap 𝓤) (A : Atoms 𝓤) (W : Given 𝓤 H A) (mem : Memory → SProp 𝓤) (run : Routine → Fun 𝓤)
     (κ : Lft) (q : Share) (b o : ℕ) (γ : GName) (ys : List Checkpoint) (n : ℕ) (n-fits : n < 2 ^ 64) (enough : n ≤ length ys) (room : Room T.the-row (length ys)) where
@@ -146,7 +143,7 @@ module _ {M : Type 1} (𝓤 : URA M) (H : Heap 𝓤) (A : Atoms 𝓤) (W : Given
         assigns ! (bin ! (load ! (from ! (stop !)) (look ! 6 refl)) (lit ! tt) (record { fits = byte-fits room (inside less) }))
         (from ! (stop !)) (init ! 2 refl (tt, record { fits = byte-fits room (inside less) })) $
         assigns ! (bin ! (load ! (from ! (fld ! refl (stop !))) (look-in ! 12 (sub ! 0 refl (whole !)))) (load ! (from ! (stop !)) (look ! 2 refl)) tt) (from ! (stop !)) (init ! 0 refl (tt, tt)) $
-        rewrite ! 0 (λ (p : ℕ). ‵ (fat fullShare tyPtr l₇ 0 (vptr b p))) (sym (place-is 16 o (i .0))) refl $
+        rewrite ! 0 (λ (p : ℕ). ‵ (fat fullShare tyPtr l₇ 0 (vptr b p))) (sym (place-is 24 o (i .0))) refl $
         -- record i is taken out of the row, stored to, and put back
         move ! (16 ∷ []) $ elem-out ! T.the-row (Is T.the-row) (shows 𝓤 H A T.the-row) the-vals the-tells fullShare (now i) (i .0) blank b o (in-row less) (λ _.
         assigns ! (of-opd ! (load ! (from ! (stop !)) (look ! 11 refl))) (from ! (hop ! (look ! 3 refl) (stop !))) (store-raw ! 0 refl (the-typed 𝓤 H A W blank blank-is)) $
@@ -195,7 +192,7 @@ module _ {M : Type 1} (𝓤 : URA M) (H : Heap 𝓤) (A : Atoms 𝓤) (W : Given
       qed W ((‵ (flft κ q) ⊛ ‵ ftrue) ∷ ‵ (owns (MutSlice (named 0) κ T.the-row ∷ usize ∷ []) x at) ∷ []) ∵ enter ! (𝓣 .C) (𝓣 .Λ) code.function (s ∷ vint w64 n ∷ []) _ $
       alloc1 ! (λ l₀. alloc1 ! (λ l₁. alloc1 ! (λ l₂. alloc1 ! (λ l₃. alloc1 ! (λ l₄. alloc1 ! (λ l₅. alloc1 ! (λ l₆. alloc1 ! (λ l₇. alloc0 ! $ params1 ! $
       pass1 ! (init ! 12 refl (tt, (tt, (record { fits = room .0 }, tt)))) $ pass1 ! (init ! 10 refl (tt, record { fits = n-fits })) $ pass0 ! $
-      assigns ! (agg ! (and-then ! (lit ! tt) (and-then ! (lit ! tt) (and-then ! (lit ! tt) (and-then ! (lit ! tt) (no-more !))))))
+      assigns ! (agg ! (and-then ! (lit ! tt) (and-then ! (lit ! tt) (and-then ! (lit ! tt) (and-then ! (lit ! tt) (and-then ! (lit ! tt) (and-then ! (lit ! tt) (no-more !))))))))
       (from ! (stop !)) (init ! 8 refl (the-typed 𝓤 H A W blank blank-is)) $
       assigns ! (of-opd ! (lit ! tt)) (from ! (stop !)) (init ! 6 refl (tt, record { fits = lit< tt })) $
       -- the borrow is opened

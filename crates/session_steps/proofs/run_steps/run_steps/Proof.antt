@@ -387,7 +387,7 @@ module _ {M : Type 1} (𝓤 : URA M) (H : Heap 𝓤) (A : Atoms 𝓤) (W : Given
               (init ! 30 refl (tt, record { fits = byte-fits room₀ (in-k k go ek) })) $
               assigns ! (bin ! (load ! (from ! (fld ! refl (stop !))) (look-in ! 52 (sub ! 0 refl (whole !)))) (load ! (from ! (stop !)) (look ! 30 refl)) tt)
               (from ! (stop !)) (init ! 28 refl (tt, tt)) $
-              rewrite ! 28 (λ (p : ℕ). ‵ (fat fullShare tyPtr l₁₃ 0 (vptr b p))) (sym (place-is 16 o k)) refl $ move ! (2 ∷ []) $
+              rewrite ! 28 (λ (p : ℕ). ‵ (fat fullShare tyPtr l₁₃ 0 (vptr b p))) (sym (place-is 24 o k)) refl $ move ! (2 ∷ []) $
               elem-out ! T.the-row (Is T.the-row) (shows 𝓤 H A T.the-row) the-vals the-tells fullShare (m .rows) k blank b o (in-row k go ek) (λ c-is.
               assigns ! (of-opd ! (load ! (from ! (hop ! (look ! 30 refl) (stop !))) (look-raw ! 0 refl))) (from ! (stop !))
               (init ! 28 refl (the-typed 𝓤 H A W (rec k) c-is)) $
@@ -441,7 +441,7 @@ module _ {M : Type 1} (𝓤 : URA M) (H : Heap 𝓤) (A : Atoms 𝓤) (W : Given
               (store ! 30 refl (tt, record { fits = byte-fits room₀ (in-k k go ek) })) $
               assigns ! (bin ! (load ! (from ! (fld ! refl (stop !))) (look-in ! 52 (sub ! 0 refl (whole !)))) (load ! (from ! (stop !)) (look ! 30 refl)) tt)
               (from ! (stop !)) (init ! 12 refl (tt, tt)) $
-              rewrite ! 12 (λ (p : ℕ). ‵ (fat fullShare tyPtr l₂₁ 0 (vptr b p))) (sym (place-is 16 o k)) refl $ move ! (8 ∷ []) $
+              rewrite ! 12 (λ (p : ℕ). ‵ (fat fullShare tyPtr l₂₁ 0 (vptr b p))) (sym (place-is 24 o k)) refl $ move ! (8 ∷ []) $
               elem-out ! T.the-row (Is T.the-row) (shows 𝓤 H A T.the-row) the-vals the-tells fullShare (m .rows) k blank b o (in-row k go ek) (λ _.
               assigns ! (of-opd ! (load ! (from ! (fld ! refl (stop !))) (look-in ! 36 (sub ! 1 refl (whole !))))) (from ! (hop ! (look ! 14 refl) (stop !)))
               (store-raw ! 0 refl (the-typed 𝓤 H A W (r .saved) (parts r w r-is .1 .0))) $

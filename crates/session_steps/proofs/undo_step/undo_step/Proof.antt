@@ -1,4 +1,4 @@
--- `session_steps::undo_step::undo_step` meets its contract: question 11, and an undo whose word is noted.
+-- `session_steps::undo_step::undo_step` meets its contract: question 11, and an undo whose words are noted.
 -- Assumes nothing.
 use Prim.Native.Nat.{_<_}
 use native.Mathlib.Omega.{arith}

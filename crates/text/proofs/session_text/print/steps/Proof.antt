@@ -1,4 +1,4 @@
--- `text::session_text::print::steps` is safe and ends. The measure is the number of words left to print.
+-- `text::session_text::print::steps` is safe and ends. The measure is the number of steps left to print.
 -- Assumes nothing.
 use Prim.Native.Nat.{_-_, _≤_}
 use borrow.Author.Needs.{needs}
@@ -6,10 +6,10 @@ use Rattle.text.proofs.session_text.print.steps.Statement.{statement}
 use Rattle.text.proofs.session_text.print.steps.Tie as tie
 
 abbrev Inv-loop : tie.InvT-loop
-Inv-loop words count n i₀ i = i ≤ n
+Inv-loop words count counts n i₀ i = i ≤ n
 
 abbrev μ-loop : tie.MeasureT-loop
-μ-loop words count n i₀ i = n - i
+μ-loop words count counts n i₀ i = n - i
 
 least-requires : tie.Need-least-requires Inv-loop μ-loop
 least-requires c κs = search needs
@@ -17,14 +17,35 @@ least-requires c κs = search needs
 loop-holds : tie.Need-loop-holds Inv-loop μ-loop
 loop-holds c = search needs
 
-mul-word : tie.Need-mul-word Inv-loop μ-loop
-mul-word c = search needs
-
-shared-slice-read-word : tie.Need-shared-slice-read-word Inv-loop μ-loop
-shared-slice-read-word c = search needs
+mul-at : tie.Need-mul-at Inv-loop μ-loop
+mul-at c = search needs
 
 add-i : tie.Need-add-i Inv-loop μ-loop
 add-i c = search needs
+
+mul-step : tie.Need-mul-step Inv-loop μ-loop
+mul-step c = search needs
+
+shared-slice-read-step : tie.Need-shared-slice-read-step Inv-loop μ-loop
+shared-slice-read-step c = search needs
+
+add-step : tie.Need-add-step Inv-loop μ-loop
+add-step c = search needs
+
+mul-step-2 : tie.Need-mul-step-2 Inv-loop μ-loop
+mul-step-2 c = search needs
+
+shared-slice-read-step-2 : tie.Need-shared-slice-read-step-2 Inv-loop μ-loop
+shared-slice-read-step-2 c = search needs
+
+add-step-2 : tie.Need-add-step-2 Inv-loop μ-loop
+add-step-2 c = search needs
+
+mul-step-3 : tie.Need-mul-step-3 Inv-loop μ-loop
+mul-step-3 c = search needs
+
+shared-slice-read-step-3 : tie.Need-shared-slice-read-step-3 Inv-loop μ-loop
+shared-slice-read-step-3 c = search needs
 
 step-requires : tie.Need-step-requires Inv-loop μ-loop
 step-requires c κs = search needs
@@ -46,9 +67,16 @@ steps-spec =
     μ-loop
     least-requires
     loop-holds
-    mul-word
-    shared-slice-read-word
+    mul-at
     add-i
+    mul-step
+    shared-slice-read-step
+    add-step
+    mul-step-2
+    shared-slice-read-step-2
+    add-step-2
+    mul-step-3
+    shared-slice-read-step-3
     step-requires
     loop-less
     loop-again
