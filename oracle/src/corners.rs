@@ -1,6 +1,6 @@
 //! Cases of 01's "Corners, file by file" and of its questions, each run on the
 //! unchanged Rust and compared with what 01 says; and cases of the steps `03`, `04` and
-//! `05`.
+//! `05`, and of the counts.
 
 use crate::hex;
 use crate::leaves::{parse_blob, path_of_bits};
@@ -55,6 +55,17 @@ impl Cases {
 
     fn session(&mut self, name: &str, s: &SessionFile, number: u32, words: &[u32], output: &str) {
         self.limited(name, s, MAX_OUTPUT, number, words, output);
+    }
+
+    /// The number, and the references and prefix bytes of each finished step.
+    fn counts(&mut self, name: &str, s: &SessionFile, number: u32, counts: &[(u32, u32)]) {
+        let r = run(s);
+        let now: Vec<(u32, u32)> = r
+            .counts
+            .iter()
+            .map(|c| (c.references, c.prefix_bytes))
+            .collect();
+        self.equal(name, (r.number, &now[..]), (number, counts));
     }
 
     fn limited(
@@ -609,7 +620,7 @@ fn session_file(c: &mut Cases) {
     let r = session::run(&whole, MAX_OUTPUT, true);
     c.equal(
         "the whole case",
-        session::print(&r),
+        session::print(&r, false),
         "1 8 0\n2 10 1\nff86666f6f626172fe02\n".to_string(),
     );
     for (length, number, size, steps) in [
@@ -1291,6 +1302,151 @@ fn quotes(c: &mut Cases) {
     }
 }
 
+/// A name, steps, their number, and the references and prefix bytes of each.
+type Counted<'a> = (&'a str, &'a [Step], u32, &'a [(u32, u32)]);
+
+/// The references and prefix bytes of a step.
+fn counts(c: &mut Cases) {
+    use Step::{Add, Forget, Quote, Restore, Take};
+
+    // an atom alone: the width of its prefix
+    let zeros = |n: usize| vec![0; n];
+    for (atom, width) in [
+        (zeros(2), 1),
+        (vec![0x80], 1),
+        (zeros(63), 1),
+        (zeros(64), 2),
+        (zeros(8_191), 2),
+        (zeros(8_192), 3),
+        (zeros(32_768), 3),
+    ] {
+        let mut f = File::new();
+        let name = format!("an atom of {} bytes", atom.len());
+        f.0.atoms[0] = atom;
+        c.counts(&name, &f.adds(&[FOOBAR]), 0, &[(0, width)]);
+    }
+    for (value, width) in [(0, 1), (1, 0), (0x7f, 0), (0x80, 1), (0x3ff_ffff, 1)] {
+        let name = format!("the small atom {value}");
+        let s = File::new().adds(&[small(value)]);
+        c.counts(&name, &s, 0, &[(0, width)]);
+    }
+    // (x . (1 . (1 . .. x))): the path has a bit for each 1 between, one, and the terminator
+    for (between, width) in [
+        (0, 0),
+        (5, 0),
+        (6, 1),
+        (14, 1),
+        (502, 1),
+        (503, 2),
+        (511, 2),
+        (1_000, 2),
+    ] {
+        let mut f = File::new();
+        f.0.atoms[0] = zeros(200);
+        let list = (0..between).fold(FOOBAR, |t, _| f.pair(small(1), t));
+        let t = f.pair(FOOBAR, list);
+        let name = format!("a path over {between} values");
+        c.counts(&name, &f.adds(&[t]), 0, &[(1, 2 + width)]);
+    }
+    let mut f = File::new();
+    let t = f.pair(NIL, NIL);
+    let s = f.adds(&[t]);
+    c.counts("ff is no prefix byte, and nil is one", &s, 0, &[(0, 2)]);
+
+    // (foobar . S): what steps back and quotes leave and show
+    let pair = |steps: &[Step]| {
+        let mut f = File::new();
+        f.pair(FOOBAR, S);
+        f.steps(steps.to_vec())
+    };
+    let p = handle(PAIR, 0);
+    let cases: [Counted; 14] = [
+        ("no step", &[], 0, &[]),
+        ("two adds", &[Add(p), Add(FOOBAR)], 0, &[(0, 1), (1, 1)]),
+        ("the sentinel", &[Add(S), Add(S)], 0, &[(0, 0), (0, 0)]),
+        (
+            "02 sets them back",
+            &[Add(p), Add(p), Restore(1), Add(NIL)],
+            0,
+            &[(0, 1), (1, 1), (0, 1), (0, 2)],
+        ),
+        (
+            "03 sets them back",
+            &[Add(p), Add(p), Forget(1), Add(NIL)],
+            0,
+            &[(0, 1), (1, 1), (0, 1), (0, 2)],
+        ),
+        (
+            "over several adds",
+            &[Add(p), Add(p), Add(p), Restore(0), Add(p), Forget(0)],
+            0,
+            &[(0, 1), (1, 1), (2, 1), (0, 0), (0, 1), (0, 0)],
+        ),
+        (
+            "after a finish",
+            &[Add(p), Add(FOOBAR), Restore(1), Add(FOOBAR), Forget(1)],
+            0,
+            &[(0, 1), (1, 1), (0, 1), (1, 1), (0, 1)],
+        ),
+        (
+            "a quote shows its add's, taken or dropped",
+            &[Quote(p), Take, Quote(FOOBAR), Quote(p), Take, Quote(NIL)],
+            0,
+            &[(0, 1), (0, 1), (1, 1), (1, 1), (1, 1), (1, 2)],
+        ),
+        (
+            "02 and 03 after a dropped quote",
+            &[Add(p), Add(p), Quote(p), Restore(1), Quote(p), Forget(0)],
+            0,
+            &[(0, 1), (1, 1), (2, 1), (0, 1), (1, 1), (0, 0)],
+        ),
+        (
+            "02 and 03 before a taking",
+            &[Quote(p), Take, Quote(p), Take, Restore(1), Forget(0)],
+            0,
+            &[(0, 1), (0, 1), (1, 1), (1, 1), (0, 1), (0, 0)],
+        ),
+        ("9 keeps them", &[Add(FOOBAR), Add(p)], 9, &[(0, 1)]),
+        (
+            "11 keeps them",
+            &[Add(p), Quote(p), Restore(1)],
+            11,
+            &[(0, 1), (1, 1)],
+        ),
+        ("17 keeps them", &[Add(p), Take], 17, &[(0, 1)]),
+        (
+            "17 after a taking",
+            &[Quote(p), Take, Take],
+            17,
+            &[(0, 1), (0, 1)],
+        ),
+    ];
+    for (name, steps, number, counts) in cases {
+        let name = format!("counts: {name}");
+        c.counts(&name, &pair(steps), number, counts);
+    }
+    // 13 inside an add and inside a quote: those of the steps before it
+    for steps in [[Add(p), Add(p), Add(p)], [Add(p), Add(p), Quote(p)]] {
+        let r = session::run(&pair(&steps).to_bytes(), 13, true);
+        c.equal(
+            &format!("counts: 13 at {:?}", steps[2]),
+            (r.number, r.all_words()),
+            (13, vec![16, 0, 1, 22, 1, 1]),
+        );
+    }
+    let s = pair(&[Add(p), Quote(FOOBAR), Take]);
+    c.equal(
+        "the three words of each step",
+        run(&s).all_words(),
+        vec![16, 0, 1, 21, 1, 1, 21, 1, 1],
+    );
+    c.equal(
+        "five columns",
+        session::print(&run(&s), true),
+        "1 8 0 0 1\n2 10 1 1 1\n3 10 1 1 1\nff86666f6f626172fe02\n".to_string(),
+    );
+}
+
 /// Without demand 3's premises read-back fails: two cases.
 fn premises(c: &mut Cases) {
     // P = (S . nil); P, (foobar . (1 . (2 . (P . foobar)))), 3
@@ -1356,6 +1512,7 @@ pub fn run_all() -> Vec<Case> {
     steps(&mut c);
     forgets(&mut c);
     quotes(&mut c);
+    counts(&mut c);
     premises(&mut c);
     c.0
 }

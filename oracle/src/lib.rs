@@ -3,6 +3,7 @@
 //! and calls `session::run`, `reading::read` and `generate::{session, tree}`.
 
 pub mod corners;
+pub mod counts;
 pub mod generate;
 pub mod hex;
 pub mod leaves;

@@ -5,8 +5,9 @@ use std::io::Write;
 
 const USAGE: &str = "\
 usage: oracle COMMAND ..
-  session FILE [OUTPUT_LENGTH]   the session on a session file
-  items FILE                     the same, with a line for each item of the output
+  session [--counts] FILE [OUTPUT_LENGTH]
+                                 the session on a session file; with each step's references and prefix bytes
+  items [--counts] FILE          the same, with a line for each item of the output
   read FILE                      the reading of an encoded tree
   leaves FILE                    answers to a file of leaf cases
   fill FILE                      the plain filling of a session file, in full
@@ -14,7 +15,7 @@ usage: oracle COMMAND ..
   corners                        01's corner cases, each compared with 01
   selfcheck N SEED               N generated sessions and trees, checked
   exhaustive PART                every small session and tree, or each PARTth
-  wrong                          wrong ways of a 03, and of a 04 and a 05, each noticed by the kinds made for it
+  wrong                          wrong ways of a 03, of a 04 and a 05, and of the counts, each noticed by the kinds made for it
   gen-session SEED KIND          writes a session file
   gen-tree SEED KIND             writes an encoded tree
   gen-leaves SEED                writes a file of leaf cases
@@ -46,16 +47,18 @@ fn of_kind(args: &[String], make: fn(u64, &str) -> Option<Vec<u8>>) -> Result<Ve
 
 fn command(args: &[String]) -> Result<Vec<u8>, String> {
     let name = args.first().map_or("", String::as_str);
+    let counts = args.get(1).is_some_and(|word| word == "--counts");
     Ok(match name {
         "session" => {
-            let length = if args.len() > 2 {
-                number(args, 2)?
+            let at = 1 + usize::from(counts);
+            let length = if args.len() > at + 1 {
+                number(args, at + 1)?
             } else {
                 session::MAX_OUTPUT
             };
-            session::print(&session::run(&file(args, 1)?, length, true)).into_bytes()
+            session::print(&session::run(&file(args, at)?, length, true), counts).into_bytes()
         }
-        "items" => session::print_items(&file(args, 1)?).into_bytes(),
+        "items" => session::print_items(&file(args, 1 + usize::from(counts))?, counts).into_bytes(),
         "read" => reading::print(&reading::read(&file(args, 1)?)).into_bytes(),
         "leaves" => leaves::print(&file(args, 1)?)?.into_bytes(),
         "fill" => match plain::fill(&parsed(args)?) {

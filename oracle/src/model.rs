@@ -3,8 +3,10 @@
 //! shared with `session`. `selfcheck` compares it with the unchanged Rust, so a
 //! difference is one between 01 and the Rust. A `03` takes a copy of all that
 //! there was, where `session` does the steps before it again; a `04` does the add and
-//! takes such a copy.
+//! takes such a copy. References and prefix bytes are counted item by item as they are
+//! written, where `session` counts them in the bytes.
 
+use crate::counts::Counts;
 use crate::node::{ATOM, NIL, PAIR, index, kind};
 use crate::plain::{atom_in_full, small_bytes};
 use crate::session::{MAX_ADDS, MAX_OPEN, MAX_OUTPUT, SessionAnswer, SessionFile, Step, parse};
@@ -27,6 +29,9 @@ pub struct Met {
     pub longest_path: usize,
     pub most_open: usize,
     pub most_entries: usize,
+    /// atoms, and paths, by the width of their prefix
+    pub atom_widths: [usize; 4],
+    pub path_widths: [usize; 4],
 }
 
 impl Met {
@@ -45,6 +50,10 @@ impl Met {
         self.longest_path = self.longest_path.max(m.longest_path);
         self.most_open = self.most_open.max(m.most_open);
         self.most_entries = self.most_entries.max(m.most_entries);
+        for width in 0..4 {
+            self.atom_widths[width] += m.atom_widths[width];
+            self.path_widths[width] += m.path_widths[width];
+        }
     }
 }
 
@@ -75,6 +84,7 @@ struct State {
     stack: Vec<usize>,
     written: Vec<bool>,
     size: usize,
+    counts: Counts,
     finished: bool,
 }
 
@@ -89,8 +99,9 @@ struct Cache {
 }
 
 /// A right `03`, and wrong ones, to see which inputs notice them.
-#[derive(Debug, Clone, Copy, PartialEq, Eq)]
+#[derive(Debug, Default, Clone, Copy, PartialEq, Eq)]
 pub enum Forget {
+    #[default]
     Right,
     /// leaves all that a `02` leaves
     LeavesCache,
@@ -109,8 +120,9 @@ pub enum Forget {
 }
 
 /// Right quotes, and wrong ones, to see which inputs notice them.
-#[derive(Debug, Clone, Copy, PartialEq, Eq)]
+#[derive(Debug, Default, Clone, Copy, PartialEq, Eq)]
 pub enum Quote {
+    #[default]
     Right,
     /// a `04` leaves its items
     LeavesItems,
@@ -136,6 +148,47 @@ pub enum Quote {
     KeptByForget,
     /// a `04` leaves the quote before it open
     KeptByQuote,
+}
+
+/// Right counts, and wrong ones, to see which inputs notice them.
+#[derive(Debug, Default, Clone, Copy, PartialEq, Eq)]
+pub enum Count {
+    #[default]
+    Right,
+    /// a `02` leaves both
+    LeftByRestore,
+    /// a `03` leaves both
+    LeftByForget,
+    /// a `02` and a `03` leave the references
+    ReferencesLeft,
+    /// a `02` and a `03` leave the prefix bytes
+    PrefixesLeft,
+    /// a `04` leaves those of its add
+    LeftByQuote,
+    /// a `04` shows those before it
+    QuoteShowsBefore,
+    /// a `05` counts its add a second time
+    TakenTwice,
+    /// the prefix of a path is none
+    NoPaths,
+    /// `fe` is a prefix byte too
+    MarkToo,
+    /// nil has no prefix
+    NoNil,
+    /// a single byte below `80` has a prefix
+    EachAtom,
+    /// no prefix has more than a byte
+    OneByte,
+    /// no path's prefix has more than a byte
+    PathOneByte,
+}
+
+/// How a session is run: right, or wrong in some way.
+#[derive(Debug, Default, Clone, Copy)]
+pub struct Ways {
+    pub forget: Forget,
+    pub quote: Quote,
+    pub count: Count,
 }
 
 impl Cache {
@@ -191,6 +244,7 @@ struct Model<'a> {
     output_length: usize,
     /// the handle of the open quote
     quoted: Option<u32>,
+    count: Count,
     met: Met,
 }
 
@@ -428,12 +482,45 @@ impl Model<'_> {
         Ok(())
     }
 
+    /// An item with an atom, its own or its path's, is written.
+    fn counted(&mut self, item: &[u8], atom: &[u8], reference: bool) {
+        let width = item.len() - usize::from(reference) - atom.len();
+        let widths = match reference {
+            false => &mut self.met.atom_widths,
+            true => &mut self.met.path_widths,
+        };
+        widths[width] += 1;
+        let counts = &mut self.now.counts;
+        counts.references += u32::from(reference);
+        counts.prefix_bytes += match self.count {
+            Count::NoPaths if reference => 0,
+            Count::MarkToo if reference => width + 1,
+            Count::NoNil if atom.is_empty() => 0,
+            Count::EachAtom => width.max(1),
+            Count::OneByte => width.min(1),
+            Count::PathOneByte if reference => width.min(1),
+            _ => width,
+        } as u32;
+    }
+
     /// What `02` and `03` have in common; the cache before add k.
-    fn go_back(&mut self, k: usize) -> Cache {
+    fn go_back(&mut self, k: usize, forget: bool) -> Cache {
         self.records.truncate(k + 1);
         let (_, state, cache) = self.records.pop().expect("a record for k");
         self.output.truncate(state.size);
+        let counts = self.now.counts;
         self.now = state;
+        let both = match self.count {
+            Count::LeftByRestore => !forget,
+            Count::LeftByForget => forget,
+            _ => false,
+        };
+        if both || self.count == Count::ReferencesLeft {
+            self.now.counts.references = counts.references;
+        }
+        if both || self.count == Count::PrefixesLeft {
+            self.now.counts.prefix_bytes = counts.prefix_bytes;
+        }
         cache
     }
 
@@ -461,6 +548,7 @@ impl Model<'_> {
                 let mut item = vec![0xfe];
                 item.extend(atom_in_full(&path));
                 self.put(&item)?;
+                self.counted(&item, &path, true);
                 self.push(h);
             } else if kind(h) == PAIR {
                 if self.now.open.len() >= MAX_OPEN {
@@ -472,8 +560,10 @@ impl Model<'_> {
                 h = self.s.pairs[index(h)].0;
                 continue;
             } else {
-                let item = atom_in_full(&self.bytes(h));
+                let atom = self.bytes(h);
+                let item = atom_in_full(&atom);
                 self.put(&item)?;
+                self.counted(&item, &atom, false);
                 self.push(h);
             }
             // cons what is complete; then the right side of the last open pair
@@ -517,10 +607,11 @@ impl Model<'_> {
         self.output.len() as u32 * 2 + u32::from(self.now.finished)
     }
 
-    /// The word of an add. All is then as it was, but for the quote.
-    fn quote(&mut self, root: u32, way: Quote) -> Result<u32, u32> {
+    /// The words of an add. All is then as it was, but for the quote.
+    fn quote(&mut self, root: u32, way: Quote) -> Result<(u32, Counts), u32> {
+        let before = self.now.counts;
         let result = self.add(root);
-        let (word, size) = (self.word(), self.output.len());
+        let (word, size, counts) = (self.word(), self.output.len(), self.now.counts);
         let (_, state, cache) = self.records.pop().expect("the add's record");
         let items = match way {
             Quote::LeavesItems => size,
@@ -533,6 +624,9 @@ impl Model<'_> {
         }
         let finished = way == Quote::LeavesFinished && self.now.finished;
         self.now = State { finished, ..state };
+        if self.count == Count::LeftByQuote {
+            self.now.counts = counts;
+        }
         let way_back = match way {
             Quote::Back(forget) => forget,
             _ => Forget::Right,
@@ -541,10 +635,14 @@ impl Model<'_> {
         if way != Quote::KeptByQuote || self.quoted.is_none() {
             self.quoted = Some(root);
         }
-        result.map(|()| word)
+        let shown = match self.count {
+            Count::QuoteShowsBefore => before,
+            _ => counts,
+        };
+        result.map(|()| (word, shown))
     }
 
-    fn step(&mut self, step: Step, forget: Forget, quote: Quote) -> Result<u32, u32> {
+    fn step(&mut self, step: Step, forget: Forget, quote: Quote) -> Result<(u32, Counts), u32> {
         let kept = match step {
             Step::Add(_) => quote == Quote::KeptByAdd,
             Step::Restore(_) => quote == Quote::KeptByRestore,
@@ -563,12 +661,12 @@ impl Model<'_> {
                 return Err(11);
             }
             Step::Restore(k) => {
-                let cache = self.go_back(k.into());
+                let cache = self.go_back(k.into(), false);
                 self.cache.sentinel_entry = cache.sentinel_entry.or(self.cache.sentinel_entry);
             }
             Step::Forget(k) if forget == Forget::TakesMore => self.go_on_afresh(k.into())?,
             Step::Forget(k) => {
-                let cache = self.go_back(k.into());
+                let cache = self.go_back(k.into(), true);
                 self.cache.put_back(cache, forget);
             }
             Step::Quote(h) => {
@@ -582,27 +680,28 @@ impl Model<'_> {
                 let h = quoted.ok_or(17_u32)?;
                 // only a wrong way gets a no here
                 self.asked()?;
+                let before = self.now.counts;
                 self.add(h)?;
                 if quote == Quote::TakesNone {
                     self.records.pop();
                 }
+                if self.count == Count::TakenTwice {
+                    let counts = &mut self.now.counts;
+                    counts.references += counts.references - before.references;
+                    counts.prefix_bytes += counts.prefix_bytes - before.prefix_bytes;
+                }
             }
         }
-        Ok(self.word())
+        Ok((self.word(), self.now.counts))
     }
 }
 
 pub fn run(file: &[u8], output_length: usize) -> (SessionAnswer, Met) {
-    run_with(Forget::Right, Quote::Right, file, output_length)
+    run_with(Ways::default(), file, output_length)
 }
 
-/// The same, with a `03`, or a `04` and a `05`, that may be wrong.
-pub fn run_with(
-    forget: Forget,
-    quote: Quote,
-    file: &[u8],
-    output_length: usize,
-) -> (SessionAnswer, Met) {
+/// The same, in ways that may be wrong.
+pub fn run_with(ways: Ways, file: &[u8], output_length: usize) -> (SessionAnswer, Met) {
     let s = match parse(file) {
         Ok(s) => s,
         Err(number) => {
@@ -621,23 +720,22 @@ pub fn run_with(
         output: vec![],
         output_length: output_length.min(MAX_OUTPUT),
         quoted: None,
+        count: ways.count,
         met: Met::default(),
     };
-    let mut words = vec![];
-    let mut number = 0;
+    let mut answer = SessionAnswer::default();
     for step in &s.steps {
-        match m.step(*step, forget, quote) {
-            Ok(word) => words.push(word),
-            Err(n) => {
-                number = n;
+        match m.step(*step, ways.forget, ways.quote) {
+            Ok((word, counts)) => {
+                answer.words.push(word);
+                answer.counts.push(counts);
+            }
+            Err(number) => {
+                answer.number = number;
                 break;
             }
         }
     }
-    let answer = SessionAnswer {
-        number,
-        words,
-        output: m.output,
-    };
+    answer.output = m.output;
     (answer, m.met)
 }

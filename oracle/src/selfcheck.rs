@@ -3,7 +3,7 @@
 //! the plain reader and `node_from_bytes_backrefs_old`, and read-back.
 
 use crate::generate::exhaustive;
-use crate::model::{Forget, Met, Quote};
+use crate::model::{Count, Forget, Met, Quote, Ways};
 use crate::plain::{self, Interner};
 use crate::reading::{self, MAX_INPUT, ReadAnswer};
 use crate::rng::Rng;
@@ -96,6 +96,7 @@ fn check_survivors(
     };
     let expected = SessionAnswer {
         words: adds.iter().map(|(i, _)| r.words[*i]).collect(),
+        counts: adds.iter().map(|(i, _)| r.counts[*i]).collect(),
         ..r.clone()
     };
     if session::run_parsed(&alone, output_length, true) != expected {
@@ -115,7 +116,7 @@ pub fn check_session(file: &[u8], output_length: usize, counts: &mut Counts) -> 
         return Err(format!(
             "01's text gives {} {:?} {}",
             by_text.number,
-            by_text.words,
+            by_text.all_words(),
             crate::hex::encode(&by_text.output)
         ));
     }
@@ -154,7 +155,11 @@ pub fn check_session(file: &[u8], output_length: usize, counts: &mut Counts) -> 
             return Err(format!("too long: {reference:?}"));
         }
     }
-    counts.references += plain.references.len();
+    let references = plain.references.len();
+    if r.counts.last().map(|c| c.references as usize) != Some(references) {
+        return Err(format!("the plain reader meets {references} references"));
+    }
+    counts.references += references;
     counts.read_back += 1;
     Ok(())
 }
@@ -195,39 +200,66 @@ const WRONG_QUOTES: &[(Quote, &[&str])] = &[
     (Quote::KeptByForget, &["quotes-17"]),
     (Quote::KeptByQuote, &["quotes", "quote-tests"]),
 ];
+/// Wrong counts, and kinds that notice each.
+const WRONG_COUNTS: &[(Count, &[&str])] = &[
+    (Count::LeftByRestore, &["restores", "counts-widths"]),
+    (Count::LeftByForget, &["forgets", "counts-widths"]),
+    (Count::ReferencesLeft, &["undo-mixed", "fit-tests"]),
+    (Count::PrefixesLeft, &["undo-mixed", "fit-tests"]),
+    (Count::LeftByQuote, &["quotes", "quote-tests"]),
+    (Count::QuoteShowsBefore, &["quotes", "quote-tests"]),
+    (Count::TakenTwice, &["quotes", "sixteen-quotes"]),
+    (Count::NoPaths, &["counts-widths", "right-list"]),
+    (Count::MarkToo, &["shared", "doubling"]),
+    (Count::NoNil, &["tiny", "lists"]),
+    (Count::EachAtom, &["tiny", "lists"]),
+    (Count::OneByte, &["counts-widths", "atom-sizes"]),
+    (Count::PathOneByte, &["counts-widths", "visits"]),
+];
 /// Files of each kind.
 const FILES: u64 = 60;
 
 /// Each wrong way gives another answer on some files of its kinds: a line for each.
 pub fn run_wrong() -> Result<String, String> {
     let mut text = String::new();
-    for (way, kinds) in WRONG {
-        let run = |file: &[u8]| model::run_with(*way, Quote::Right, file, MAX_OUTPUT).0;
-        text += &noticed(&format!("{way:?}"), kinds, &run)?;
+    let right = Ways::default();
+    for (forget, kinds) in WRONG {
+        let ways = Ways {
+            forget: *forget,
+            ..right
+        };
+        text += &noticed(&format!("{forget:?}"), kinds, ways)?;
     }
-    for (way, kinds) in WRONG_QUOTES {
-        let run = |file: &[u8]| model::run_with(Forget::Right, *way, file, MAX_OUTPUT).0;
-        text += &noticed(&format!("{way:?}"), kinds, &run)?;
+    for (quote, kinds) in WRONG_QUOTES {
+        let ways = Ways {
+            quote: *quote,
+            ..right
+        };
+        text += &noticed(&format!("{quote:?}"), kinds, ways)?;
+    }
+    for (count, kinds) in WRONG_COUNTS {
+        let ways = Ways {
+            count: *count,
+            ..right
+        };
+        text += &noticed(&format!("{count:?}"), kinds, ways)?;
     }
     text += &format!(
-        "{} wrong ways of a 03 and {} of a 04 and a 05, each noticed\n",
+        "{} wrong ways of a 03, {} of a 04 and a 05 and {} of the counts, each noticed\n",
         WRONG.len(),
-        WRONG_QUOTES.len()
+        WRONG_QUOTES.len(),
+        WRONG_COUNTS.len()
     );
     Ok(text)
 }
 
 /// How many files of each kind notice a wrong way.
-fn noticed(
-    way: &str,
-    kinds: &[&str],
-    run: &dyn Fn(&[u8]) -> SessionAnswer,
-) -> Result<String, String> {
+fn noticed(way: &str, kinds: &[&str], ways: Ways) -> Result<String, String> {
     let mut text = String::new();
     for kind in kinds {
         let differs = |seed: &u64| {
             let file = generate::session(*seed, kind).expect("a kind");
-            run(&file) != model::run(&file, MAX_OUTPUT).0
+            model::run_with(ways, &file, MAX_OUTPUT).0 != model::run(&file, MAX_OUTPUT).0
         };
         let count = (0..FILES).filter(differs).count();
         if count == 0 {
@@ -307,6 +339,10 @@ pub fn print(c: &Counts) -> String {
     s += &format!(
         "parents overwritten {}, moved {}, front dropped {}; second handles {}; most open pairs {}, most entries {}\n",
         m.overwritten, m.moved, m.front_dropped, m.second_handles, m.most_open, m.most_entries
+    );
+    s += &format!(
+        "prefixes of 0, 1, 2 and 3 bytes: of atoms {:?}, of paths {:?}\n",
+        m.atom_widths, m.path_widths
     );
     s
 }

@@ -1,6 +1,7 @@
 //! A session file: questions 2 to 8, and the steps on the unchanged Rust with
 //! questions 9 to 13 and 17.
 
+use crate::counts::{self, Counts};
 use crate::node::{ATOM, INDEX_BITS, NONE, PAIR, SMALL, from_word, index, kind};
 use clvm_rs::allocator::fits_in_small_atom;
 use clvm_rs::serde::write_atom::write_atom;
@@ -194,16 +195,27 @@ impl SessionFile {
     }
 }
 
-/// With 2 to 8 `words` and `output` are empty. The count of finished steps is
+/// With 2 to 8 `words`, `counts` and `output` are empty. The count of finished steps is
 /// `words.len()`, the size `output.len()`.
 #[derive(Debug, Default, Clone, PartialEq, Eq)]
 pub struct SessionAnswer {
     pub number: u32,
+    /// Each finished step's first word, which the Rust has too.
     pub words: Vec<u32>,
+    /// What its other two words count.
+    pub counts: Vec<Counts>,
     pub output: Vec<u8>,
 }
 
 impl SessionAnswer {
+    /// The three words of each finished step, one step after the other.
+    pub fn all_words(&self) -> Vec<u32> {
+        let steps = self.words.iter().zip(&self.counts);
+        steps
+            .flat_map(|(word, c)| [*word, c.references, c.prefix_bytes])
+            .collect()
+    }
+
     /// Whether the session, of this file, is finished at the end of the run. A quote's
     /// word says what would be, and the session before a quote is unfinished.
     pub fn is_finished(&self, s: &SessionFile) -> bool {
@@ -373,6 +385,13 @@ struct Session<'a> {
     quoted: Option<u32>,
 }
 
+/// The words of a step.
+#[derive(Debug, Clone, Copy, PartialEq, Eq)]
+struct Told {
+    word: u32,
+    counts: Counts,
+}
+
 struct Before {
     driver: DriverState,
     serializer: Option<UndoState>,
@@ -404,7 +423,7 @@ impl<'a> Session<'a> {
         let length = self.driver.output_length;
         let mut again = Self::new(self.a, self.sentinel, length, self.serializer.is_some());
         for step in &self.steps[..count] {
-            again.step(*step).expect("a step that went before");
+            again.make(*step, None).expect("a step that went before");
         }
         again
     }
@@ -456,15 +475,15 @@ impl<'a> Session<'a> {
         Ok(())
     }
 
-    /// Questions 9, 10, 12 and 13, and the word of the add. The Rust has no such step:
+    /// Questions 9, 10, 12 and 13, and the words of the add. The Rust has no such step:
     /// a fresh session does all steps that count and the add, and is thrown away.
-    fn quote(&mut self, h: u32) -> Result<u32, u32> {
+    fn quote(&mut self, h: u32) -> Result<Told, u32> {
         let mut again = self.again(self.steps.len());
         assert_eq!(again.history.len(), self.history.len(), "another history");
         assert_eq!(again.driver.output, self.driver.output);
-        let word = again.step(Step::Add(h))?;
+        again.make(Step::Add(h), None)?;
         self.quoted = Some(h);
-        Ok(word)
+        Ok(again.told())
     }
 
     fn before(&mut self, k: u16) -> Result<Before, u32> {
@@ -476,15 +495,13 @@ impl<'a> Session<'a> {
         Ok(self.history.pop().expect("a state for k"))
     }
 
-    /// One step: its word, or its number. Every step but a `05` drops an open quote, and
-    /// that one closes it.
-    fn step(&mut self, step: Step) -> Result<u32, u32> {
-        let quoted = self.quoted.take();
+    /// A step that isn't a quote, with the quote that was open before it, or its number.
+    fn make(&mut self, step: Step, quoted: Option<u32>) -> Result<(), u32> {
         match step {
             Step::Add(h) => self.add(h)?,
             Step::Restore(k) => self.restore(k)?,
             Step::Forget(k) => self.forget(k)?,
-            Step::Quote(h) => return self.quote(h),
+            Step::Quote(_) => panic!("a quote makes nothing"),
             Step::Take => self
                 .add(quoted.ok_or(17_u32)?)
                 .expect("an add that was quoted"),
@@ -493,7 +510,35 @@ impl<'a> Session<'a> {
             assert_eq!(ser.size(), self.driver.output.len() as u64, "size differs");
             assert_eq!(ser.get_ref(), &self.driver.output, "bytes differ");
         }
-        Ok(self.driver.output.len() as u32 * 2 + u32::from(self.driver.finished()))
+        Ok(())
+    }
+
+    /// One step: its words, or its number. Every step but a `05` drops an open quote, and
+    /// that one closes it.
+    fn step(&mut self, step: Step) -> Result<Told, u32> {
+        let quoted = self.quoted.take();
+        if let Step::Quote(h) = step {
+            return self.quote(h);
+        }
+        self.make(step, quoted)?;
+        Ok(self.told())
+    }
+
+    /// The words of the session as it is: the Rust's, and the counts of the bytes that its
+    /// writer has written.
+    fn told(&self) -> Told {
+        let written = match &self.serializer {
+            Some(ser) => ser.get_ref(),
+            None => &self.driver.output,
+        };
+        let counts = counts::of(written);
+        let items = self.driver.items.iter();
+        let references = items.filter(|i| matches!(i, Item::Reference(_))).count();
+        assert_eq!(references as u32, counts.references, "the items differ");
+        Told {
+            word: written.len() as u32 * 2 + u32::from(self.driver.finished()),
+            counts,
+        }
     }
 }
 
@@ -518,11 +563,11 @@ fn run_items(s: &SessionFile, output_length: usize, compare: bool) -> (SessionAn
     let a = s.allocator();
     let sentinel = s.sentinel.map(from_word);
     let mut session = Session::new(&a, sentinel, output_length, compare);
-    let mut words = vec![];
+    let mut all: Vec<Told> = vec![];
     let mut number = 0;
     for step in &s.steps {
-        let word = match session.step(*step) {
-            Ok(word) => word,
+        let told = match session.step(*step) {
+            Ok(told) => told,
             Err(n) => {
                 number = n;
                 break;
@@ -530,25 +575,31 @@ fn run_items(s: &SessionFile, output_length: usize, compare: bool) -> (SessionAn
         };
         match step {
             Step::Add(_) | Step::Quote(_) => (),
-            Step::Restore(_) | Step::Forget(_) => {
-                assert!(word.is_multiple_of(2), "an undo left a finished session");
-            }
-            Step::Take => assert_eq!(words.last(), Some(&word), "another word than quoted"),
+            Step::Restore(_) | Step::Forget(_) => assert!(
+                told.word.is_multiple_of(2),
+                "an undo left a finished session"
+            ),
+            Step::Take => assert_eq!(all.last(), Some(&told), "other words than quoted"),
         }
-        words.push(word);
+        all.push(told);
     }
     let answer = SessionAnswer {
         number,
-        words,
+        words: all.iter().map(|told| told.word).collect(),
+        counts: all.iter().map(|told| told.counts).collect(),
         output: session.driver.output,
     };
     (answer, session.driver.items)
 }
 
-fn text(r: &SessionAnswer, output: &str) -> String {
+fn text(r: &SessionAnswer, counts: bool, output: &str) -> String {
     let mut s = String::new();
-    for (i, w) in r.words.iter().enumerate() {
-        let _ = writeln!(s, "{} {} {}", i + 1, w / 2, w % 2);
+    for (i, (w, c)) in r.words.iter().zip(&r.counts).enumerate() {
+        let _ = write!(s, "{} {} {}", i + 1, w / 2, w % 2);
+        if counts {
+            let _ = write!(s, " {} {}", c.references, c.prefix_bytes);
+        }
+        s.push('\n');
     }
     s += output;
     if r.number != 0 {
@@ -557,13 +608,14 @@ fn text(r: &SessionAnswer, output: &str) -> String {
     s
 }
 
-/// The text that `session FILE` prints.
-pub fn print(r: &SessionAnswer) -> String {
-    text(r, &(crate::hex::encode(&r.output) + "\n"))
+/// The text that `session FILE` prints, or `session --counts FILE`.
+pub fn print(r: &SessionAnswer, counts: bool) -> String {
+    text(r, counts, &(crate::hex::encode(&r.output) + "\n"))
 }
 
-/// The text that `session --items FILE` prints: a line for each item of the output.
-pub fn print_items(file: &[u8]) -> String {
+/// The text that `session --items FILE` prints, or with `--counts` too: a line for each item
+/// of the output.
+pub fn print_items(file: &[u8], counts: bool) -> String {
     let (answer, items) = match parse(file) {
         Err(_) => (run(file, MAX_OUTPUT, true), vec![]),
         Ok(s) => run_items(&s, MAX_OUTPUT, true),
@@ -574,5 +626,5 @@ pub fn print_items(file: &[u8]) -> String {
         Item::Atom(bytes) if bytes.is_empty() => "atom\n".to_string(),
         Item::Atom(bytes) => format!("atom {}\n", crate::hex::encode(bytes)),
     };
-    text(&answer, &items.iter().map(line).collect::<String>())
+    text(&answer, counts, &items.iter().map(line).collect::<String>())
 }

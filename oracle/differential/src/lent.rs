@@ -44,11 +44,14 @@ word!(u32);
 impl Word for Checkpoint {
     /// No field is zero.
     fn rubbish(rng: &mut Rng) -> Self {
-        let [opens, depth, size, sentinel] = [(); 4].map(|()| u32::rubbish(rng));
+        let [opens, depth, size, references, prefix_bytes, sentinel] =
+            [(); 6].map(|()| u32::rubbish(rng));
         Self {
             opens,
             depth,
             size,
+            references,
+            prefix_bytes,
             sentinel,
         }
     }

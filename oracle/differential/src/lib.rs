@@ -6,6 +6,7 @@
 pub mod benchmark;
 pub mod cache_benchmark;
 pub mod compare;
+pub mod count_benchmark;
 pub mod inputs;
 pub mod lent;
 pub mod numbers;

@@ -2,7 +2,7 @@
 //! same sessions.
 
 use crate::times::measure;
-use crate::{cache_benchmark, quote_benchmark, undo_benchmark};
+use crate::{cache_benchmark, count_benchmark, quote_benchmark, undo_benchmark};
 use clvm_rs::Allocator;
 use clvm_rs::serde::{Serializer, UndoState};
 use nikvoldra::call::{
@@ -333,6 +333,10 @@ pub fn run() {
     cache_benchmark::heading();
     for c in one_add_cases() {
         println!("{}", cache_benchmark::row(&c, &mut port));
+    }
+    count_benchmark::heading();
+    for c in cases() {
+        println!("{}", count_benchmark::row(&c, &mut port));
     }
 }
 

@@ -16,6 +16,8 @@ pub type SessionCall = Call<Checkpoint, call::SessionAnswer>;
 
 /// The least lengths of work, words and checkpoints.
 const LEAST: [usize; 3] = [WORK_LENGTH, WORDS_LENGTH, CHECKPOINTS_LENGTH];
+/// Too few words: one for each step.
+const ONE_WORD_EACH: usize = WORDS_LENGTH / 3;
 /// Of so many files one is also tried with slices that are too short.
 const SHORT_EACH: usize = 8;
 
@@ -24,6 +26,7 @@ const SHORT_EACH: usize = 8;
 pub struct Tally {
     files: u64,
     calls: u64,
+    steps: u64,
     finished: u64,
     read_back: u64,
     kinds: BTreeMap<&'static str, Numbers<18>>,
@@ -33,6 +36,7 @@ impl Count for Tally {
     fn add(&mut self, other: &Self) {
         self.files += other.files;
         self.calls += other.calls;
+        self.steps += other.steps;
         self.finished += other.finished;
         self.read_back += other.read_back;
         for (kind, numbers) in &other.kinds {
@@ -71,7 +75,7 @@ fn expected(r: &SessionAnswer) -> Expected<Checkpoint, call::SessionAnswer> {
     };
     let left = match r.number {
         1..=8 => None,
-        _ => Some((r.words.clone(), vec![], r.output.clone())),
+        _ => Some((r.all_words(), vec![], r.output.clone())),
     };
     Expected { answer, left }
 }
@@ -107,6 +111,7 @@ impl Comparison {
         self.trial.fill(and_output(lengths, output));
         let now = self.trial.run(file);
         self.tally.calls += 1;
+        self.tally.steps += answer.words.len() as u64;
         self.trial
             .agrees(&now, &expected(answer))
             .map_err(|text| format!("{text}\nlengths: {lengths:?}, output {output}"))
@@ -160,7 +165,11 @@ impl Comparison {
         if turn % SHORT_EACH == 1 {
             let rng = &mut self.trial.rng;
             let lengths = lengths(rng, LEAST);
-            let lengths = shorten(rng, lengths, LEAST, turn / SHORT_EACH % 3);
+            let short = turn / SHORT_EACH;
+            let mut lengths = shorten(rng, lengths, LEAST, short % 3);
+            if short % 6 == 4 {
+                lengths[1] = ONE_WORD_EACH;
+            }
             let refused = SessionAnswer {
                 number: 1,
                 ..SessionAnswer::default()
@@ -222,8 +231,9 @@ impl Compare for Comparison {
 
 fn summary(t: &Tally) -> String {
     format!(
-        "{} calls, by number {}; {} calls finished, {} of them read back",
+        "{} calls with three words of {} steps, by number {}; {} calls finished, {} of them read back",
         t.calls,
+        t.steps,
         t.numbers(),
         t.finished,
         t.read_back
@@ -271,7 +281,7 @@ mod tests {
     const FILE: &[u8] = b"BRS\0\x01\0\0\0\0\xff\xff\xff\xff\x01\x08\0\0\x05";
 
     fn verdict(call: SessionCall) -> Result<(), String> {
-        run(call, 200, 1, 60, |_| ()).map(|_| ())
+        run(call, 200, 1, 100, |_| ()).map(|_| ())
     }
 
     #[test]
@@ -281,7 +291,7 @@ mod tests {
 
     #[test]
     fn each_fault_is_noticed() {
-        let faulty: [SessionCall; 20] = [
+        let faulty: [SessionCall; 33] = [
             with_fault::<{ Fault::Number as u8 }>,
             with_fault::<{ Fault::Steps as u8 }>,
             with_fault::<{ Fault::Size as u8 }>,
@@ -302,6 +312,19 @@ mod tests {
             with_fault::<{ Fault::QuoteRestores as u8 }>,
             with_fault::<{ Fault::QuoteLeavesItems as u8 }>,
             with_fault::<{ Fault::Number17 as u8 }>,
+            with_fault::<{ Fault::OneWordEach as u8 }>,
+            with_fault::<{ Fault::OneWordShort as u8 }>,
+            with_fault::<{ Fault::WordsApart as u8 }>,
+            with_fault::<{ Fault::WordsSwapped as u8 }>,
+            with_fault::<{ Fault::LastReferences as u8 }>,
+            with_fault::<{ Fault::LastPrefixBytes as u8 }>,
+            with_fault::<{ Fault::RestoreLeavesCounts as u8 }>,
+            with_fault::<{ Fault::ForgetLeavesCounts as u8 }>,
+            with_fault::<{ Fault::QuoteLeavesCounts as u8 }>,
+            with_fault::<{ Fault::QuoteShowsBefore as u8 }>,
+            with_fault::<{ Fault::NoPaths as u8 }>,
+            with_fault::<{ Fault::NoNil as u8 }>,
+            with_fault::<{ Fault::OneByte as u8 }>,
         ];
         for (i, call) in faulty.into_iter().enumerate() {
             assert!(verdict(call).is_err(), "fault {} is not noticed", i + 1);

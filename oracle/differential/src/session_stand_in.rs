@@ -2,7 +2,7 @@
 //! fault, to try the comparison itself.
 
 use nikvoldra::call::{CHECKPOINTS_LENGTH, Checkpoint, SessionAnswer, WORDS_LENGTH, WORK_LENGTH};
-use oracle::model::{self, Forget, Quote};
+use oracle::model::{self, Count, Forget, Quote, Ways};
 use oracle::session::{self, MAX_OUTPUT, Step};
 
 #[derive(Clone, Copy, PartialEq)]
@@ -49,6 +49,32 @@ pub enum Fault {
     QuoteLeavesItems,
     /// 11 for 17
     Number17,
+    /// a word for each step is enough
+    OneWordEach,
+    /// 3,071 words are enough
+    OneWordShort,
+    /// the words of a step stand 1,024 apart
+    WordsApart,
+    /// references and prefix bytes are swapped
+    WordsSwapped,
+    /// the last step's references are not written
+    LastReferences,
+    /// the last step's prefix bytes are not written
+    LastPrefixBytes,
+    /// a `02` leaves the counts; `oracle wrong` has other wrong counts
+    RestoreLeavesCounts,
+    /// a `03` leaves the counts
+    ForgetLeavesCounts,
+    /// a dropped `04` leaves the counts
+    QuoteLeavesCounts,
+    /// a `04` shows the counts before it
+    QuoteShowsBefore,
+    /// the prefix of a path is none
+    NoPaths,
+    /// nil has no prefix
+    NoNil,
+    /// no prefix has more than a byte
+    OneByte,
 }
 
 struct Slices<'a> {
@@ -80,8 +106,13 @@ fn answer(fault: u8, file: &[u8], s: &mut Slices) -> SessionAnswer {
         number,
         ..SessionAnswer::default()
     };
+    let least = if fault(Fault::OneWordEach) {
+        WORDS_LENGTH / 3
+    } else {
+        WORDS_LENGTH - usize::from(fault(Fault::OneWordShort))
+    };
     if s.work.len() < WORK_LENGTH
-        || s.words.len() < WORDS_LENGTH
+        || s.words.len() < least
         || s.checkpoints.len() < CHECKPOINTS_LENGTH
     {
         if fault(Fault::TouchedBy1) {
@@ -117,7 +148,22 @@ fn answer(fault: u8, file: &[u8], s: &mut Slices) -> SessionAnswer {
     } else {
         Quote::Right
     };
-    let (mut r, _) = model::run_with(forget, quote, file, s.output.len());
+    let counts = [
+        (Fault::RestoreLeavesCounts, Count::LeftByRestore),
+        (Fault::ForgetLeavesCounts, Count::LeftByForget),
+        (Fault::QuoteLeavesCounts, Count::LeftByQuote),
+        (Fault::QuoteShowsBefore, Count::QuoteShowsBefore),
+        (Fault::NoPaths, Count::NoPaths),
+        (Fault::NoNil, Count::NoNil),
+        (Fault::OneByte, Count::OneByte),
+    ];
+    let count = counts.iter().find(|(f, _)| fault(*f));
+    let ways = Ways {
+        forget,
+        quote,
+        count: count.map_or(Count::Right, |(_, count)| *count),
+    };
+    let (mut r, _) = model::run_with(ways, file, s.output.len());
     if fault(Fault::LongOutput) && r.number == 13 && s.output.len() > MAX_OUTPUT {
         r.number = 0;
     }
@@ -125,11 +171,32 @@ fn answer(fault: u8, file: &[u8], s: &mut Slices) -> SessionAnswer {
         let size = r.words.last().map_or(0, |w| w / 2);
         r.output.truncate(size as usize);
     }
-    clear(&fault, s, r.words.len(), r.output.len());
-    s.words[..r.words.len()].copy_from_slice(&r.words);
+    clear(&fault, s, 3 * r.words.len(), r.output.len());
+    for (i, (word, counts)) in r.words.iter().zip(&r.counts).enumerate() {
+        let last = i + 1 == r.words.len();
+        let [at, next, after] = match fault(Fault::WordsApart) {
+            false => [3 * i, 3 * i + 1, 3 * i + 2],
+            true => [i, i + WORDS_LENGTH / 3, i + 2 * (WORDS_LENGTH / 3)],
+        };
+        if after >= s.words.len() {
+            break;
+        }
+        s.words[at] = *word;
+        s.words[next] = counts.references;
+        s.words[after] = counts.prefix_bytes;
+        if fault(Fault::WordsSwapped) {
+            s.words.swap(next, after);
+        }
+        if last && fault(Fault::LastReferences) {
+            s.words[next] = 0;
+        }
+        if last && fault(Fault::LastPrefixBytes) {
+            s.words[after] = 0;
+        }
+    }
     s.output[..r.output.len()].copy_from_slice(&r.output);
     if let (true, Some(w)) = (fault(Fault::Finished), r.words.last()) {
-        s.words[r.words.len() - 1] = w & !1;
+        s.words[3 * (r.words.len() - 1)] = w & !1;
     }
     if fault(Fault::Byte) && r.output.len() > 9 {
         s.output[9] ^= 1;

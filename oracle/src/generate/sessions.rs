@@ -1,5 +1,6 @@
 //! Session files.
 
+mod counts;
 mod forgets;
 mod quotes;
 
@@ -62,6 +63,8 @@ pub const KINDS: &[Kind] = &[
     ("far-stack", 2, far_stack),
     ("far-deep", 2, far_deep),
     ("atom-sizes", 8, atom_sizes),
+    ("counts-widths", 20, counts::widths),
+    ("counts-twice", 1, counts::twice),
     ("open-pairs", 2, |rng| open_pairs(rng, 0)),
     ("forgets-open", 2, |rng| open_pairs(rng, 100)),
     ("sixteen-adds", 30, sixteen_adds),
