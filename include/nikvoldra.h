@@ -24,9 +24,9 @@
 extern "C" {
 #endif
 
-/* The least lengths of question 1, in elements. */
+/* The least lengths of question 1, in elements. Each of at most 1,024 steps has three words. */
 #define NIKVOLDRA_WORK_LENGTH 524288
-#define NIKVOLDRA_WORDS_LENGTH 1024
+#define NIKVOLDRA_WORDS_LENGTH 3072
 #define NIKVOLDRA_CHECKPOINTS_LENGTH 16
 #define NIKVOLDRA_PAIRS_LENGTH 262144
 #define NIKVOLDRA_ATOMS_LENGTH 131072
@@ -97,6 +97,8 @@ struct nikvoldra_checkpoint {
     uint32_t opens;
     uint32_t depth;
     uint32_t size;
+    uint32_t references;
+    uint32_t prefix_bytes;
     uint32_t sentinel;
 };
 
@@ -123,11 +125,18 @@ struct nikvoldra_read_answer {
  * A step is 01 and a handle, which adds a tree; or 02 or 03 and a number k, which goes back to the state before add k. With 02
  * the writer keeps what it knows of the trees taken back, as in the Rust; with 03 it forgets them. Question 11 is asked at both.
  *
- * 04 and a handle quotes an add: its word is the add's, the questions are the add's, and session and output stay as they were.
+ * 04 and a handle quotes an add: its words are the add's, the questions are the add's, and session and output stay as they were.
  * 05, right after it, makes that add; any other step drops the quote. Question 17 is the only one at a 05.
  *
- * words[i] of a finished step i is its size * 2, plus 1 if the session is finished; output[0 .. size] is what was written. A
- * quote's word says what would be: unless the number is 12 or 13, the session is finished if the last word is size * 2 + 1.
+ * A finished step i, counted from 0, has three words, of the output as it is after the step:
+ *
+ *   words[3 * i]      its size * 2, plus 1 if the session is finished
+ *   words[3 * i + 1]  the references in it
+ *   words[3 * i + 2]  the bytes of prefixes in it, of atoms and of paths: 0 for a single byte below 80, 1 for nil; ff and fe
+ *                     are no prefixes
+ *
+ * output[0 .. size] is what was written. A quote's words say what would be: unless the number is 12 or 13, the session is finished
+ * if the last step's first word is size * 2 + 1.
  * With 1 to 8 no slice is touched, and steps and size are 0. With 0, 9 to 13 and 17 the words past the finished steps, the
  * output past the size, work and the checkpoint records are zero; 9 to 13 and 17 keep the finished steps' words and the whole
  * items written, of a refused quote none.
@@ -166,11 +175,14 @@ struct nikvoldra_read_answer nikvoldra_read(
 #define NIKVOLDRA_HOLDS(fact) struct nikvoldra_checkpoint
 #endif
 NIKVOLDRA_HOLDS(sizeof(size_t) == 8);
-NIKVOLDRA_HOLDS(sizeof(struct nikvoldra_checkpoint) == 16);
+NIKVOLDRA_HOLDS(NIKVOLDRA_WORDS_LENGTH == 3 * 1024);
+NIKVOLDRA_HOLDS(sizeof(struct nikvoldra_checkpoint) == 24);
 NIKVOLDRA_HOLDS(offsetof(struct nikvoldra_checkpoint, opens) == 0);
 NIKVOLDRA_HOLDS(offsetof(struct nikvoldra_checkpoint, depth) == 4);
 NIKVOLDRA_HOLDS(offsetof(struct nikvoldra_checkpoint, size) == 8);
-NIKVOLDRA_HOLDS(offsetof(struct nikvoldra_checkpoint, sentinel) == 12);
+NIKVOLDRA_HOLDS(offsetof(struct nikvoldra_checkpoint, references) == 12);
+NIKVOLDRA_HOLDS(offsetof(struct nikvoldra_checkpoint, prefix_bytes) == 16);
+NIKVOLDRA_HOLDS(offsetof(struct nikvoldra_checkpoint, sentinel) == 20);
 NIKVOLDRA_HOLDS(sizeof(struct nikvoldra_session_answer) == 12);
 NIKVOLDRA_HOLDS(offsetof(struct nikvoldra_session_answer, number) == 0);
 NIKVOLDRA_HOLDS(offsetof(struct nikvoldra_session_answer, steps) == 4);

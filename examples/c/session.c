@@ -140,7 +140,9 @@ static int run_session(void) {
         nikvoldra_session(file, file_length, work, NIKVOLDRA_WORK_LENGTH, words, NIKVOLDRA_WORDS_LENGTH, checkpoints,
                           NIKVOLDRA_CHECKPOINTS_LENGTH, output, NIKVOLDRA_OUTPUT_MOST);
     for (uint32_t i = 0; i < answer.steps; i++) {
-        printf("step %" PRIu32 ": %" PRIu32 " bytes%s\n", i + 1, words[i] / 2, words[i] % 2 ? ", finished" : "");
+        const uint32_t *step = words + 3 * i;
+        printf("step %" PRIu32 ": %" PRIu32 " bytes%s", i + 1, step[0] / 2, step[0] % 2 ? ", finished" : "");
+        printf(" (references: %" PRIu32 ", prefix bytes: %" PRIu32 ")\n", step[1], step[2]);
     }
     printf("output: ");
     print_hex(output, answer.size);
@@ -149,8 +151,8 @@ static int run_session(void) {
         printf("the session was refused: question %" PRIu32 "\n", answer.number);
         return 1;
     }
-    /* The word of a quote, which adds nothing, counts more bytes than there are. */
-    if (answer.steps == 0 || words[answer.steps - 1] != answer.size * 2 + 1) {
+    /* The words of a quote, which adds nothing, count more bytes than there are. */
+    if (answer.steps == 0 || words[3 * (answer.steps - 1)] != answer.size * 2 + 1) {
         printf("the session is not finished\n");
         return 0;
     }

@@ -37,7 +37,11 @@ fn main() -> Result<(), Box<dyn Error>> {
     let run = Writer::new().run(&session)?;
     for (i, step) in run.steps().iter().enumerate() {
         let end = if step.finished { ", finished" } else { "" };
-        println!("add {}: {} bytes{end}", i + 1, step.size);
+        let counts = format!(
+            "references: {}, prefix bytes: {}",
+            step.references, step.prefix_bytes
+        );
+        println!("add {}: {} bytes{end} ({counts})", i + 1, step.size);
     }
     println!("bytes: {}", run.bytes().escape_ascii());
     let store = Reader::new().read(run.bytes())?;

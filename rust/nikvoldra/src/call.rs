@@ -5,8 +5,8 @@
 
 /// The least length of work, in words (question 1).
 pub const WORK_LENGTH: usize = 524_288;
-/// The least length of the words of steps.
-pub const WORDS_LENGTH: usize = 1_024;
+/// The least length of the words of steps: three for each.
+pub const WORDS_LENGTH: usize = 3_072;
 /// The least number of checkpoint records.
 pub const CHECKPOINTS_LENGTH: usize = 16;
 /// The least length of the pairs, in words.
@@ -30,6 +30,10 @@ pub struct Checkpoint {
     pub depth: u32,
     /// The bytes written.
     pub size: u32,
+    /// The references among the items written.
+    pub references: u32,
+    /// The bytes of their prefixes.
+    pub prefix_bytes: u32,
     /// One more than the sentinel's entry, or 0.
     pub sentinel: u32,
 }
@@ -94,6 +98,9 @@ extern "C" {
 
 /// Runs a session file: numbers 0 to 13 and 17. Slices that are too short get 1.
 ///
+/// A finished step `i` has the words `3 * i` to `3 * i + 2`: its size times 2, plus 1 if the session is finished; its references; and
+/// its prefix bytes (see [`Step`](crate::Step)).
+///
 /// ```
 /// use nikvoldra::call::{self, Checkpoint};
 ///
@@ -101,11 +108,11 @@ extern "C" {
 /// let mut words = vec![0; call::WORDS_LENGTH];
 /// let mut checkpoints = vec![Checkpoint::default(); call::CHECKPOINTS_LENGTH];
 /// let mut output = [0; 100];
-/// // no atoms, no pairs, no sentinel; one step, which adds the small atom 5
-/// let file = b"BRS\0\x01\0\0\0\0\xff\xff\xff\xff\x01\x08\0\0\x05";
+/// // no atoms, no pairs, no sentinel; one step, which adds nil: a prefix alone
+/// let file = b"BRS\0\x01\0\0\0\0\xff\xff\xff\xff\x01\x08\0\0\0";
 /// let answer = call::session(file, &mut work, &mut words, &mut checkpoints, &mut output);
 /// assert_eq!((answer.number, answer.steps, answer.size), (0, 1, 1));
-/// assert_eq!((words[0], output[0]), (3, 5));
+/// assert_eq!((&words[..4], output[0]), (&[3, 0, 1, 0][..], 0x80));
 /// ```
 pub fn session(
     file: &[u8],

@@ -6,13 +6,48 @@ use crate::session::Session;
 use std::error::Error;
 use std::fmt;
 
-/// What a finished step leaves, or a quote would leave.
+/// What a finished step leaves, or a quote would leave: how much is written so far, and where the bytes went.
+///
+/// ```
+/// use nikvoldra::{Session, Step};
+///
+/// let mut session = Session::new();
+/// let open = session.sentinel()?;
+/// let foobar = session.atom(b"foobar")?;
+/// let tree = session.pair(foobar, open)?;
+/// session.add(tree)?; // ff 86 foobar: the prefix is 86
+/// session.quote(foobar)?; // fe 02 would come, a reference whose path has no prefix
+/// session.forget(0)?;
+/// let step = |size, finished, references, prefix_bytes| Step { size, finished, references, prefix_bytes };
+/// assert_eq!(
+///     session.run()?.steps(),
+///     [step(8, false, 0, 1), step(10, true, 1, 1), step(0, false, 0, 0)]
+/// );
+/// # Ok::<(), Box<dyn std::error::Error>>(())
+/// ```
 #[derive(Clone, Copy, Debug, PartialEq, Eq)]
 pub struct Step {
     /// The bytes written so far.
     pub size: usize,
     /// Whether no place is open.
     pub finished: bool,
+    /// The references among the items written so far.
+    pub references: usize,
+    /// The bytes of prefixes written so far, of atoms and of the references' paths: none for a single byte below `80`, one for nil. The
+    /// marks `ff` of a pair and `fe` of a reference are none.
+    pub prefix_bytes: usize,
+}
+
+impl Step {
+    /// The words of a step that the call wrote.
+    fn new(words: &[u32]) -> Step {
+        Step {
+            size: (words[0] / 2) as usize,
+            finished: words[0] % 2 == 1,
+            references: words[1] as usize,
+            prefix_bytes: words[2] as usize,
+        }
+    }
 }
 
 /// The finished steps of a session, and the bytes written.
@@ -39,7 +74,7 @@ impl Run {
         self.bytes
     }
 
-    /// Whether no place is open at the end. A quote leaves its place open, whatever its word says.
+    /// Whether no place is open at the end. A quote leaves its place open, whatever its words say.
     pub fn is_finished(&self) -> bool {
         self.finished
     }
@@ -158,17 +193,15 @@ impl Writer {
             &mut self.checkpoints,
             &mut self.output,
         );
-        let step = |word: &u32| Step {
-            size: (word / 2) as usize,
-            finished: word % 2 == 1,
-        };
-        let steps: Vec<Step> = self.words[..answer.steps as usize]
-            .iter()
-            .map(step)
+        let steps: Vec<Step> = self
+            .words
+            .chunks_exact(3)
+            .take(answer.steps as usize)
+            .map(Step::new)
             .collect();
         let bytes = self.output[..answer.size as usize].to_vec();
         let refusal = Refusal::of_answer(answer.number);
-        // The word of a quote that would finish counts more bytes than are written. A step that 12 or 13 refuses had an open place.
+        // The words of a quote that would finish count more bytes than are written. A step that 12 or 13 refuses had an open place.
         let finished = steps
             .last()
             .is_some_and(|step| step.finished && step.size == bytes.len())

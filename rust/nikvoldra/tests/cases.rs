@@ -13,6 +13,12 @@ fn words(run: &Run) -> Vec<usize> {
     run.steps().iter().map(word).collect()
 }
 
+/// The references and prefix bytes of each step.
+fn counts(run: &Run) -> Vec<(usize, usize)> {
+    let both = |s: &nikvoldra::Step| (s.references, s.prefix_bytes);
+    run.steps().iter().map(both).collect()
+}
+
 /// Whether two serialized trees are accepted and equal.
 fn same(one: &[u8], other: &[u8]) -> bool {
     read(one).unwrap().tree() == read(other).unwrap().tree()
@@ -34,6 +40,7 @@ fn whole_case() {
     let run = session.run().unwrap();
     let steps: Vec<_> = run.steps().iter().map(|s| (s.size, s.finished)).collect();
     assert_eq!(steps, [(8, false), (10, true)]);
+    assert_eq!(counts(&run), [(0, 1), (1, 1)]);
     assert_eq!(run.bytes(), hex("ff86666f6f626172fe02"));
     assert!(same(run.bytes(), b"\xff\x86foobar\x86foobar"));
 }
@@ -84,6 +91,7 @@ fn taken_back(step: fn(&mut Session, u16) -> Result<(), BuildError>) -> Run {
 fn undo_keeps_entries_and_parents() {
     let run = taken_back(Session::restore);
     assert_eq!(words(&run), [4, 25, 4, 29]);
+    assert_eq!(counts(&run), [(0, 0), (1, 2), (0, 0), (1, 3)]);
     assert_eq!(
         run.bytes(),
         hex("ff ff ff 86 66 6f 6f 62 61 72 80 80 fe 04")
@@ -97,6 +105,7 @@ fn undo_keeps_entries_and_parents() {
 fn forget_keeps_nothing() {
     let run = taken_back(Session::forget);
     assert_eq!(words(&run), [4, 25, 4, 29]);
+    assert_eq!(counts(&run), [(0, 0), (1, 2), (0, 0), (1, 3)]);
     assert_eq!(
         run.bytes(),
         hex("ff ff ff 86 66 6f 6f 62 61 72 80 80 fe 08")
@@ -120,6 +129,7 @@ fn a_quote_keeps_nothing() {
         session.quote(b).unwrap();
         let quoted = session.run().unwrap();
         assert_eq!(words(&quoted), [4, 25]);
+        assert_eq!(counts(&quoted), [(0, 0), (1, 2)]);
         assert_eq!(quoted.bytes(), hex("ff ff"));
         assert!(!quoted.is_finished());
         let mut expected = vec![4, 25, 29];
@@ -157,6 +167,8 @@ fn steps_back_over_quotes() {
         session.quote(foobar).unwrap();
         let run = session.run().unwrap();
         assert_eq!(words(&run), [15, 16, 16, 21, 21, 16, 21]);
+        let both = [(0, 1), (0, 1), (0, 1), (1, 1), (1, 1), (0, 1), (1, 1)];
+        assert_eq!(counts(&run), both);
         assert_eq!(run.bytes(), b"\xff\x86foobar");
         assert!(!run.is_finished());
     }
@@ -171,7 +183,50 @@ fn the_sentinel_alone_writes_nothing() {
     session.add(NodePtr::NIL).unwrap();
     let run = session.run().unwrap();
     assert_eq!(words(&run), [0, 0, 3]);
+    assert_eq!(counts(&run), [(0, 0), (0, 0), (0, 1)]);
     assert_eq!(run.bytes(), [0x80]);
+}
+
+/// An atom alone: a single byte below 80 has no prefix, and nil is one.
+#[test]
+fn widths_of_prefixes() {
+    for (atom, width) in [
+        (vec![], 1),
+        (vec![0x7f], 0),
+        (vec![0x80], 1),
+        (vec![b'x'; 2], 1),
+        (vec![b'x'; 63], 1),
+        (vec![b'x'; 64], 2),
+        (vec![b'x'; 8_191], 2),
+        (vec![b'x'; 8_192], 3),
+        (vec![b'x'; 32_768], 3),
+    ] {
+        let mut session = Session::new();
+        let node = session.atom(&atom).unwrap();
+        session.add(node).unwrap();
+        let run = session.run().unwrap();
+        assert_eq!(counts(&run), [(0, width)], "{} bytes", atom.len());
+        assert_eq!(run.bytes().len(), width + atom.len());
+    }
+}
+
+/// (x . (1 . (1 . .. x))): a path of a bit for each 1 between, one more, and the terminator.
+#[test]
+fn widths_of_paths() {
+    for (between, width) in [(0, 0), (5, 0), (6, 1), (502, 1), (503, 2), (1_000, 2)] {
+        let mut session = Session::new();
+        let x = session.atom(&[b'x'; 200]).unwrap();
+        let one = NodePtr::small(1).unwrap();
+        let list = session.list(&vec![one; between], x).unwrap();
+        let tree = session.pair(x, list).unwrap();
+        session.quote(tree).unwrap();
+        session.take().unwrap();
+        let run = session.run().unwrap();
+        assert_eq!(counts(&run), [(1, 2 + width); 2], "{between} between");
+        let path = (between + 2).div_ceil(8);
+        let all = 1 + 2 + 200 + 2 * between + 1 + width + path;
+        assert_eq!(run.bytes().len(), all, "{between} between");
+    }
 }
 
 /// The bytes, and the number they get or a plain form of the same tree.

@@ -228,14 +228,14 @@ const READ: &str = "crates/read_call/src/lib.rt";
 const READ_ANSWER: &str = "crates/read_answer/src/lib.rt";
 const CHECKPOINTS: &str = "crates/session_state/src/checkpoints.rt";
 
-/// The call's declaration in the Rattle source. Its checkpoint records are structs, or rows of four words, which have the
-/// same layout.
+/// The call's declaration in the Rattle source. Its checkpoint records are structs, or rows of six words, which have the same
+/// layout.
 fn declared(source: &str, name: &str) -> Call {
     let mut call = rattle_call(&text(source), name);
     for lent in &mut call.lent {
         if lent.element == "Checkpoint" {
             same_fields(CHECKPOINTS, "Checkpoint", "nikvoldra_checkpoint");
-        } else if lent.element == "[u32; 4]" {
+        } else if lent.element == "[u32; 6]" {
             lent.element = "Checkpoint".to_string();
         }
     }
@@ -275,13 +275,20 @@ fn answers() {
 
 #[test]
 fn checkpoint_records() {
-    let four =
-        ["opens", "depth", "size", "sentinel"].map(|name| (name.to_string(), "u32".to_string()));
+    let six = [
+        "opens",
+        "depth",
+        "size",
+        "references",
+        "prefix_bytes",
+        "sentinel",
+    ]
+    .map(|name| (name.to_string(), "u32".to_string()));
     assert_eq!(
         fields(&text("rust/nikvoldra/src/call.rs"), "Checkpoint"),
-        four
+        six
     );
-    let in_c = four.map(|(name, _)| (name, "uint32_t".to_string()));
+    let in_c = six.map(|(name, _)| (name, "uint32_t".to_string()));
     assert_eq!(
         c_fields(&text("include/nikvoldra.h"), "nikvoldra_checkpoint"),
         in_c
@@ -295,12 +302,14 @@ fn checkpoint_records() {
 #[test]
 fn sizes_and_places() {
     assert_eq!(size_of::<usize>(), 8);
-    assert_eq!((size_of::<Checkpoint>(), align_of::<Checkpoint>()), (16, 4));
-    assert_eq!(size_of::<Checkpoint>(), size_of::<[u32; 4]>());
+    assert_eq!((size_of::<Checkpoint>(), align_of::<Checkpoint>()), (24, 4));
+    assert_eq!(size_of::<Checkpoint>(), size_of::<[u32; 6]>());
     assert_eq!(offset_of!(Checkpoint, opens), 0);
     assert_eq!(offset_of!(Checkpoint, depth), 4);
     assert_eq!(offset_of!(Checkpoint, size), 8);
-    assert_eq!(offset_of!(Checkpoint, sentinel), 12);
+    assert_eq!(offset_of!(Checkpoint, references), 12);
+    assert_eq!(offset_of!(Checkpoint, prefix_bytes), 16);
+    assert_eq!(offset_of!(Checkpoint, sentinel), 20);
     assert_eq!(
         (size_of::<SessionAnswer>(), align_of::<SessionAnswer>()),
         (12, 4)

@@ -11,14 +11,17 @@ fn hex(bytes: &[u8]) -> String {
     })
 }
 
-/// The files that a program is run on, up to an option, and what it must write.
-fn recorded(program: &str) -> (Vec<PathBuf>, String) {
+/// The files that a program is run on, after an option if there is one and up to the next, and what it must write.
+fn recorded(program: &str, option: Option<&str>) -> (Vec<PathBuf>, String) {
     let folder = Path::new(env!("CARGO_MANIFEST_DIR"))
         .join("../../crates")
         .join(program);
     let names = std::fs::read_to_string(folder.join("args")).unwrap();
+    let mut names = names.lines();
+    if let Some(option) = option {
+        names.find(|name| *name == option).expect(option);
+    }
     let files = names
-        .lines()
         .take_while(|name| !name.starts_with("--"))
         .map(|name| folder.join("data").join(name))
         .collect();
@@ -30,7 +33,7 @@ fn recorded(program: &str) -> (Vec<PathBuf>, String) {
 
 #[test]
 fn sessions() {
-    let (files, expected) = recorded("session");
+    let (files, expected) = recorded("session", None);
     assert!(files.len() > 50);
     let mut writer = Writer::new();
     let mut text = String::new();
@@ -50,9 +53,33 @@ fn sessions() {
     assert!(expected.starts_with(&text));
 }
 
+/// The lines with five numbers stand last, among those of the items.
+#[test]
+fn counts_of_sessions() {
+    let (files, expected) = recorded("session", Some("--counts"));
+    assert!(files.len() > 20);
+    let five = |line: &&str| {
+        line.split(' ').count() == 5 && line.bytes().all(|b| b == b' ' || b.is_ascii_digit())
+    };
+    let expected: Vec<&str> = expected.lines().filter(five).collect();
+    let mut writer = Writer::new();
+    let mut lines = vec![];
+    for file in files {
+        let result = writer.run_file(&std::fs::read(file).unwrap());
+        let run = result.unwrap_or_else(|error| error.into_run());
+        lines.extend(run.steps().iter().enumerate().map(|(i, step)| {
+            let finished = u8::from(step.finished);
+            let counts = format!("{} {}", step.references, step.prefix_bytes);
+            format!("{} {} {finished} {counts}", i + 1, step.size)
+        }));
+    }
+    assert!(lines.len() > 100);
+    assert_eq!(lines, expected);
+}
+
 #[test]
 fn readings() {
-    let (files, expected) = recorded("read");
+    let (files, expected) = recorded("read", None);
     assert!(files.len() > 50);
     let mut work = vec![0; call::WORK_LENGTH];
     let mut pairs = vec![0; call::PAIRS_LENGTH];

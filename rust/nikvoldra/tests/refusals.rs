@@ -1,7 +1,7 @@
 //! Each number that can be reached, the limits of the session file, and what a refused call leaves in lent slices.
 
 use nikvoldra::call::{self, Checkpoint, ReadAnswer, SessionAnswer};
-use nikvoldra::{read, BuildError, NodePtr, Refusal, Session, Writer};
+use nikvoldra::{read, BuildError, NodePtr, Refusal, Session, Step, Writer};
 
 const RUBBISH: u32 = 0xdead_beef;
 
@@ -160,6 +160,9 @@ fn of_open_pairs() {
     let error = session.run().unwrap_err();
     assert_eq!(error.refusal(), Refusal::TooDeep);
     assert_eq!(error.run().steps().len(), 4);
+    // a pair has no prefix
+    let counts = |step: &Step| (step.references, step.prefix_bytes);
+    assert!(error.run().steps().iter().all(|s| counts(s) == (0, 0)));
     assert_eq!(error.run().bytes(), [0xff; 4_096]);
 
     // a quote leaves none of its items
@@ -216,6 +219,9 @@ fn of_the_output_at_a_quote() {
         assert!(refused.is_none_or(|refusal| refusal == Refusal::OutputFull));
         let run = run.unwrap_or_else(|error| error.into_run());
         assert_eq!(run.steps().len(), steps, "{length}");
+        let counts = |step: &Step| (step.references, step.prefix_bytes);
+        let counts: Vec<_> = run.steps().iter().map(counts).collect();
+        assert_eq!(counts, [(0, 1), (1, 1), (2, 1)][..steps], "{length}");
         assert_eq!(run.bytes(), b"\xff\x86foobar", "{length}");
         assert!(!run.is_finished());
     }
@@ -300,6 +306,8 @@ fn session_slices(lengths: [usize; 4]) -> (Vec<u32>, Vec<u32>, Vec<Checkpoint>, 
         opens: RUBBISH,
         depth: RUBBISH,
         size: RUBBISH,
+        references: RUBBISH,
+        prefix_bytes: RUBBISH,
         sentinel: RUBBISH,
     };
     (
@@ -312,16 +320,17 @@ fn session_slices(lengths: [usize; 4]) -> (Vec<u32>, Vec<u32>, Vec<Checkpoint>, 
 
 #[test]
 fn of_short_slices_in_a_session() {
-    let file = file_with(&[1, 8, 0, 0, 5]);
+    let file = file_with(&[1, 8, 0, 0, 0]);
     let least = [
         call::WORK_LENGTH,
         call::WORDS_LENGTH,
         call::CHECKPOINTS_LENGTH,
         1,
     ];
-    for short in 0..3 {
+    // the last: a word for each step is too few
+    for (slice, short) in [(0, 1), (1, 1), (2, 1), (1, 2_048)] {
         let mut lengths = least;
-        lengths[short] -= 1;
+        lengths[slice] -= short;
         let before = session_slices(lengths);
         let mut s = before.clone();
         let answer = call::session(&file, &mut s.0, &mut s.1, &mut s.2, &mut s.3);
@@ -341,9 +350,9 @@ fn of_short_slices_in_a_session() {
     };
     assert_eq!(answer, taken);
     assert!(s.0.iter().all(|word| *word == 0));
-    assert!(s.1[0] == 3 && s.1[1..].iter().all(|word| *word == 0));
+    assert!(s.1[..3] == [3, 0, 1] && s.1[3..].iter().all(|word| *word == 0));
     assert!(s.2.iter().all(|record| *record == Checkpoint::default()));
-    assert_eq!(s.3, [5]);
+    assert_eq!(s.3, [0x80]);
 }
 
 #[test]

@@ -55,6 +55,26 @@ fn filled(state: &Rc<Plain>, with: &Rc<Plain>) -> Rc<Plain> {
     }
 }
 
+/// The references, and the bytes of all prefixes, of whole items whose atoms have fewer than 64 bytes.
+fn counted(bytes: &[u8]) -> (usize, usize) {
+    let (mut references, mut prefix_bytes, mut at) = (0, 0, 0);
+    while at < bytes.len() {
+        at += match bytes[at] {
+            0..=0x7f | 0xff => 1,
+            0xfe => {
+                references += 1;
+                1
+            }
+            prefix => {
+                assert!(prefix < 0xc0);
+                prefix_bytes += 1;
+                1 + usize::from(prefix - 0x80)
+            }
+        };
+    }
+    (references, prefix_bytes)
+}
+
 struct Chance(u64);
 
 impl Chance {
@@ -217,6 +237,10 @@ fn reads_back_as_the_tree_handed_in() {
         assert_eq!(alone.bytes(), run.bytes(), "seed {seed}");
         assert_eq!(alone.steps().len(), made.adds.len(), "seed {seed}");
         assert!(run.is_finished(), "seed {seed}");
+        let last = run.steps().last().unwrap();
+        let counts = (last.references, last.prefix_bytes);
+        assert_eq!(counts, counted(run.bytes()), "seed {seed}");
+        assert_eq!(alone.steps().last(), Some(last), "seed {seed}");
         assert!(run.bytes().len() <= full.len(), "seed {seed}");
         shorter += usize::from(run.bytes().len() < full.len());
         let store = reader.read(run.bytes()).unwrap();
