@@ -2,3 +2,4 @@ pub mod Put
 pub mod Aligned
 pub mod Builder
 pub mod BuilderLaws
+pub mod Measured

@@ -4,7 +4,8 @@ mod path_length;
 mod push_bit;
 mod right_align;
 
-pub use path_length::counted_bytes;
+use path_length::counted_bytes;
+pub use path_length::measured_bytes;
 use words::wide;
 ghost use mathlib.Core.Path.{_≡_};
 ghost use mathlib.Core.List.{List};

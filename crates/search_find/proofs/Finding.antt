@@ -7,7 +7,8 @@ use mathlib.Core.List.{List}
 use mathlib.Core.Option.{Option·map}
 use lib.Dec.{eqb}
 use borrow.Author.Tests.{lt-ltb, le-ltb}
-use Rattle.path.specs.Measure.{counted}
+use Rattle.path.specs.declared.Measure.{Measure}
+use Rattle.path.specs.Measure.{measure-of}
 use Rattle.allocator.specs.Handle.{nil, handle-of}
 use Rattle.spec_search.specs.Search.{Parents, search, used}
 use Rattle.spec_search.specs.PathBits.{search-ends}
@@ -30,21 +31,21 @@ kept-same w = record { low = λ k h. refl; high = λ k h. refl }
 
 -- ---- the exceptions
 
-module _ {w : List ℕ} {d h e : ℕ} where
-  pub finds-nil : eqb h (handle-of nil) ≡ true → FindsIn w w d h e NoPath
+module _ {m : Measure} {w : List ℕ} {d h e : ℕ} where
+  pub finds-nil : eqb h (handle-of nil) ≡ true → FindsIn m w w d h e NoPath
   unfolding find-in
-  finds-nil q = record { answer = λ f c m t ho mk. rw q; ready = tt; kept = kept-same w }
+  finds-nil q = record { answer = λ f c ms t ho mk. rw q; ready = tt; kept = kept-same w }
 
   module _ (named : eqb h (handle-of nil) ≡ false) (low : e < ENTRIES) where
-    pub finds-unmarked : marked-at w e ≡ false → FindsIn w w d h e NoPath
+    pub finds-unmarked : marked-at w e ≡ false → FindsIn m w w d h e NoPath
     unfolding find-in
-    finds-unmarked q = record { answer = λ f c m t ho mk. rw (named, mk e low, q); ready = tt; kept = kept-same w }
+    finds-unmarked q = record { answer = λ f c ms t ho mk. rw (named, mk e low, q); ready = tt; kept = kept-same w }
 
     module _ (marked : marked-at w e ≡ true) {n : ℕ} (len : LengthOf w e n) where
-      pub finds-short : n < 4 → FindsIn w w d h e NoPath
+      pub finds-short : n < 4 → FindsIn m w w d h e NoPath
       unfolding find-in
       finds-short q =
-          record { answer = λ f c m t ho mk. rw (named, mk e low, marked, len .is f c ho, lt-ltb n 4 q); ready = tt; kept = kept-same w }
+          record { answer = λ f c ms t ho mk. rw (named, mk e low, marked, len .is f c ho, lt-ltb n 4 q); ready = tt; kept = kept-same w }
 
 -- ---- the search
 
@@ -52,22 +53,22 @@ steps-are : (w : List ℕ) (r : Path) → Option·map without-terminator (path-o
 steps-are w (At i) = refl
 steps-are w NoPath = refl
 
-ready-of : (w w′ : List ℕ) (d n e : ℕ) (r : Path) → used counted n (search (parents-of-all w) (stack-of w d) n e) ≡ path-of w′ r → found.Ready w′ r → Ready w′ r
-ready-of w w′ d n e (At i) q u =
-    (u, search-ends (parents-of-all w) (stack-of w d) n e (path-at w′ i) (used-some counted n (search (parents-of-all w) (stack-of w d) n e) (path-at w′ i) q .given))
-ready-of w w′ d n e NoPath q u = tt
+ready-of : (m : Measure) (w w′ : List ℕ) (d n e : ℕ) (r : Path) → used (measure-of m) n (search (parents-of-all w) (stack-of w d) n e) ≡ path-of w′ r → found.Ready w′ r → Ready w′ r
+ready-of m w w′ d n e (At i) q u =
+    (u, search-ends (parents-of-all w) (stack-of w d) n e (path-at w′ i) (used-some (measure-of m) n (search (parents-of-all w) (stack-of w d) n e) (path-at w′ i) q .given))
+ready-of m w w′ d n e NoPath q u = tt
 
-module _ {w w′ : List ℕ} {d h e n : ℕ} {r : Path} (s : Sound w) (named : eqb h (handle-of nil) ≡ false) (low : e < ENTRIES)
-    (marked : marked-at w e ≡ true) (len : LengthOf w e n) (long : 4 ≤ n) (found : FoundPath w w′ d n e r) where
-  pub finds-path : FindsIn w w′ d h e r
+module _ {m : Measure} {w w′ : List ℕ} {d h e n : ℕ} {r : Path} (s : Sound w) (named : eqb h (handle-of nil) ≡ false) (low : e < ENTRIES)
+    (marked : marked-at w e ≡ true) (len : LengthOf w e n) (long : 4 ≤ n) (found : FoundPath m w w′ d n e r) where
+  pub finds-path : FindsIn m w w′ d h e r
   unfolding find-in
   finds-path =
       record {
-        answer = λ f c m t ho mk.
+        answer = λ f c ms t ho mk.
             rw (named, mk e low, marked, len .is f c ho, le-ltb n 4 long)
-            (ap (λ (p : Parents). Option·map without-terminator (used counted n (search p (stack-of w d) n e))) (parents-all f w c ho s)
+            (ap (λ (p : Parents). Option·map without-terminator (used (measure-of m) n (search p (stack-of w d) n e))) (parents-all f w c ho s)
             ∙ ap (Option·map without-terminator) (found .answer)
             ∙ steps-are w′ r);
-        ready = ready-of w w′ d n e r (found .answer) (found .usable);
+        ready = ready-of m w w′ d n e r (found .answer) (found .usable);
         kept = found .kept;
       }

@@ -5,7 +5,8 @@ use mathlib.Core.Bool.{Bool}
 use mathlib.Core.List.{List}
 use mathlib.Core.Option.{Option, none, some}
 use Rattle.words.specs.Words.{at}
-use Rattle.path.specs.Measure.{counted}
+use Rattle.path.specs.declared.Measure.{Measure}
+use Rattle.path.specs.Measure.{measure-of}
 use Rattle.spec_search.specs.Search.{member}
 use Rattle.spec_search.specs.PathBits.{Ends}
 use Rattle.spec_session.specs.File.{File}
@@ -39,9 +40,9 @@ Ready w NoPath = Unit {0}
 abbrev pub Marks : List ℕ → List ℕ → Type 0
 Marks w marked = (x : ℕ) → x < ENTRIES → member x marked ≡ marked-at w x
 
--- The path that is written for the node h of entry e, over a stack of d entries.
-pub record FindsIn (w w′ : List ℕ) (d h e : ℕ) (r : Path) : Type 0 where
+-- The path that is written for the node h of entry e, over a stack of d entries, by the measure m.
+pub record FindsIn (m : Measure) (w w′ : List ℕ) (d h e : ℕ) (r : Path) : Type 0 where
   pub answer : (f : File) (c : Cache) (marked : List ℕ) → Tables f w → Holds f w c → Marks w marked
-      → find-in counted c marked (stack-of w d) h e ≡ steps-of w′ r
+      → find-in (measure-of m) c marked (stack-of w d) h e ≡ steps-of w′ r
   pub ready : Ready w′ r
   pub kept : Kept w w′

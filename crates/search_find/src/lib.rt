@@ -5,6 +5,7 @@ use allocator::NodePtr;
 use cache_entries::table;
 use cache_stack::marks;
 pub use find_path::Path;
+use path::Measure;
 use work_layout::EntryIndex;
 ghost use mathlib.Core.Path.{_≡_};
 ghost use mathlib.Core.Bool.{false};
@@ -40,9 +41,9 @@ pub fn length_at(work: &[u32], e: EntryIndex) -> u64
 
 // The path that is written for a node of entry e that is not nil, over a stack of `depth` entries: none for an entry that is not marked written, and for a
 // short one.
-fn find_marked(work: &mut [u32], e: EntryIndex, depth: usize) -> Path
+fn find_marked(work: &mut [u32], e: EntryIndex, depth: usize, measure: Measure) -> Path
     requires { ⌜ (Whole (now work)) × (Stacked (now work) depth) × (all-counts (now work) ENTRIES ≤ 2048) × (e .0 < ENTRIES) ⌝ }
-    ensures { λ r. ⌜ ((h : ℕ) → eqb h (handle-of nil) ≡ false → FindsIn (now (work .entry)) (now (work .exit)) depth h (e .0) r) ⌝ }
+    ensures { λ r. ⌜ ((h : ℕ) → eqb h (handle-of nil) ≡ false → FindsIn measure (now (work .entry)) (now (work .exit)) depth h (e .0) r) ⌝ }
 {
     if !marks::is_marked(work, e) {
         return Path::NoPath;
@@ -51,20 +52,20 @@ fn find_marked(work: &mut [u32], e: EntryIndex, depth: usize) -> Path
     if len < cache_stack::MIN_SERIALIZED_LENGTH {
         return Path::NoPath;
     }
-    find_path::find_path(work, e, len, depth)
+    find_path::find_path(work, e, len, depth, measure)
 }
 
 // The path that is written for a node of entry e, over a stack of `depth` entries: none for nil, for an entry that is not marked written, and for a short one.
 // The search has two callers here, so that it stays a function of its own: its loop needs the registers.
-pub fn find(work: &mut [u32], node: NodePtr, e: EntryIndex, depth: usize) -> Path
+pub fn find(work: &mut [u32], node: NodePtr, e: EntryIndex, depth: usize, measure: Measure) -> Path
     requires { ⌜ (Whole (now work)) × (Stacked (now work) depth) × (all-counts (now work) ENTRIES ≤ 2048) × (e .0 < ENTRIES) ⌝ }
-    ensures { λ r. ⌜ FindsIn (now (work .entry)) (now (work .exit)) depth (node .0) (e .0) r ⌝ }
+    ensures { λ r. ⌜ FindsIn measure (now (work .entry)) (now (work .exit)) depth (node .0) (e .0) r ⌝ }
 {
     if node.is_pair() {
-        return find_marked(work, e, depth);
+        return find_marked(work, e, depth, measure);
     }
     if node.same(NodePtr::NIL) {
         return Path::NoPath;
     }
-    find_marked(work, e, depth)
+    find_marked(work, e, depth, measure)
 }

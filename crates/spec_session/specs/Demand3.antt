@@ -1,4 +1,4 @@
--- DEMAND 3 of the session call: one claim about a whole file, a refused last step included.
+-- DEMAND 3 of the session calls: one claim about a whole file, a refused last step included, from one argument that takes the measure of a path as given.
 -- No step that was taken is a `02`; the last one taken is no `04`, and its first word says finished. The adds that survive keep 01's premises. Then the reading call
 -- accepts the finished bytes, which are the first `size` bytes of the output at the end of the run, and gives a root whose tree is the plain filling's whole
 -- tree; the bytes are those of the items that the writer makes of the surviving adds, so references stand exactly where 01's search rules put them (`write`
@@ -17,7 +17,9 @@ use lib.ListN.{length, take}
 use Rattle.words.specs.Lists.{All, Bytes}
 use Rattle.words.specs.Words.{at}
 use Rattle.spec_reading.specs.Tree.{Tree}
-use Rattle.path.specs.Measure.{counted}
+use Rattle.path.specs.declared.Measure.{Measure}
+use Rattle.path.specs.declared.Measure.the-variants.{Counted, Documented}
+use Rattle.path.specs.Measure.{counted, documented, measure-of}
 use Rattle.spec_reading.specs.Call as read
 use Rattle.spec_reading.specs.Promise.{ReadAs, read-as}
 use Rattle.spec_session.specs.File.{File, Step, add, Limits, version-1, got, file}
@@ -31,7 +33,7 @@ use Rattle.spec_session.specs.Writer.{Session, start, added, add-all}
 use Rattle.spec_session.specs.Trees.{nth}
 use Rattle.spec_session.specs.FindPath.{find-in}
 use Rattle.spec_session.specs.FindPathLaws.{Covers}
-use Rattle.spec_session.specs.Counted.{counted-covers}
+use Rattle.spec_session.specs.Covering.{measure-covers}
 use Rattle.spec_session.specs.Steps.{room-in, at-start, Run, run-steps}
 use Rattle.spec_session.specs.Call.{Slices, Result, usable, after-run, session}
 use Rattle.spec_session.specs.CallLaws.{taken, at-front, filled-length, call-is}
@@ -70,6 +72,45 @@ pub record ReadBack {C : Type 0} (measure : List Bool → ℕ) (l : Limits) (f :
   pub word : at (r .slices .words) (3 * k) ≡ r .answer .size * 2 + 1
   pub last : r .answer .steps ≡ suc k
   pub number-is : r .answer .number ≡ number-after-finish next
+
+-- Demand 3 of the session call with these limits and this measure, of the adds that survive the file's steps.
+abbrev pub Demand3 : {C : Type 0} → (blank : C) → Limits → (measure : List Bool → ℕ) → Type 0
+Demand3 {C} blank l measure =
+    (input : List ℕ) → Bytes input → (f : File) (rest : List ℕ) → file l input ≡ got f rest → (slices : Slices C) (k : ℕ)
+    → suc k ≡ session blank l measure input slices .answer .steps
+    → All NoRestore (take (suc k) (f .steps)) → IfAny NoQuote (nth (f .steps) k) → Finished (session blank l measure input slices .slices .words) k
+    → Apart (map (unfolded f) (survivors (take (suc k) (f .steps))))
+    → ReadBack measure l f (survivors (take (suc k) (f .steps))) k (nth (f .steps) (suc k)) (session blank l measure input slices)
+
+-- And of a file of adds alone: there any add whose first word says finished is the last one taken.
+abbrev pub Demand3Adds : {C : Type 0} → (blank : C) → Limits → (measure : List Bool → ℕ) → Type 0
+Demand3Adds {C} blank l measure =
+    (input : List ℕ) → Bytes input → (f : File) (rest : List ℕ) → file l input ≡ got f rest
+    → (handles : List ℕ) → f .steps ≡ map add handles → (slices : Slices C) (k : ℕ)
+    → k < session blank l measure input slices .answer .steps → Finished (session blank l measure input slices .slices .words) k
+    → Apart (map (unfolded f) (take (suc k) handles))
+    → ReadBack measure l f (take (suc k) handles) k (nth (map add handles) (suc k)) (session blank l measure input slices)
+
+-- ---- steps that are adds alone
+
+take-adds : (n : ℕ) (hs : List ℕ) → take n (map add hs) ≡ map add (take n hs)
+take-adds zero [] = refl
+take-adds zero (h ∷ hs) = refl
+take-adds (suc n) [] = refl
+take-adds (suc n) (h ∷ hs) = ap (λ (xs : List Step). add h ∷ xs) (take-adds n hs)
+
+survive-adds : (hs before : List ℕ) → survive (map add hs) before none ≡ before ++ hs
+survive-adds [] before = sym (append-nil before)
+survive-adds (h ∷ hs) before = survive-adds hs (before ++ h ∷ []) ∙ append-assoc before (h ∷ []) hs
+
+all-adds : (P : Step → Type 0) → ((h : ℕ) → P (add h)) → (hs : List ℕ) → All P (map add hs)
+all-adds P p [] = tt
+all-adds P p (h ∷ hs) = (p h, all-adds P p hs)
+
+nth-adds : (P : Step → Type 0) → ((h : ℕ) → P (add h)) → (hs : List ℕ) (k : ℕ) → IfAny P (nth (map add hs) k)
+nth-adds P p [] k = tt
+nth-adds P p (h ∷ hs) zero = p h
+nth-adds P p (h ∷ hs) (suc k) = nth-adds P p hs k
 
 -- ---- THE THEOREM
 
@@ -124,11 +165,7 @@ module _ {C : Type 0} (blank : C) (l : Limits) (carried : l .file-bytes < 2 ^ 34
   finished-in-run f steps s k h fin =
       ap (λ (n : ℕ). n % 2) (sym (at-front (s .words) (run-in f steps s .words) (3 * k) (omega (arith, run-ends measure (usable l s) f steps at-start .three)))) ∙ fin
 
-  pub read-back-session : (input : List ℕ) → Bytes input → (f : File) (rest : List ℕ) → file l input ≡ got f rest → (slices : Slices C) (k : ℕ)
-      → suc k ≡ session blank l measure input slices .answer .steps
-      → All NoRestore (take (suc k) (f .steps)) → IfAny NoQuote (nth (f .steps) k) → Finished (session blank l measure input slices .slices .words) k
-      → Apart (map (unfolded f) (survivors (take (suc k) (f .steps))))
-      → ReadBack measure l f (survivors (take (suc k) (f .steps))) k (nth (f .steps) (suc k)) (session blank l measure input slices)
+  pub read-back-session : Demand3 blank l measure
   read-back-session input bytes f rest file-is s k last no-02 no-04 fin apart =
       let is = call-is blank l measure input f rest file-is s k (omega arith) in
       let last′ : suc k ≡ run-in f (f .steps) s .steps = last ∙ ap (λ (r : Result C). r .answer .steps) is in
@@ -146,50 +183,39 @@ module _ {C : Type 0} (blank : C) (l : Limits) (carried : l .file-bytes < 2 ^ 34
       let fin′ = finished-in-run f (f .steps) s k h′ (subst (λ (r : Result C). Finished (r .slices .words) k) is fin) in
       finish-last measure (usable l s) f (f .steps) k h′ no-04 fin′ no-undo ∙ sym (ap (λ (r : Result C). r .answer .steps) is)
 
--- Demand 3, of 01's call.
-pub demand-3 : {C : Type 0} (blank : C) (input : List ℕ) → Bytes input → (f : File) (rest : List ℕ) → file version-1 input ≡ got f rest → (slices : Slices C) (k : ℕ)
-    → suc k ≡ session blank version-1 counted input slices .answer .steps
-    → All NoRestore (take (suc k) (f .steps)) → IfAny NoQuote (nth (f .steps) k) → Finished (session blank version-1 counted input slices .slices .words) k
-    → Apart (map (unfolded f) (survivors (take (suc k) (f .steps))))
-    → ReadBack counted version-1 f (survivors (take (suc k) (f .steps))) k (nth (f .steps) (suc k)) (session blank version-1 counted input slices)
-demand-3 blank = read-back-session blank version-1 (omega arith) (omega arith) counted counted-covers
+  -- For a file of adds alone.
+  pub read-back-adds : Demand3Adds blank l measure
+  read-back-adds input bytes f rest file-is handles steps-are s k h fin apart =
+      let no-undo : IfAny NoUndo (nth (f .steps) (suc k)) =
+      subst (λ (xs : List Step). IfAny NoUndo (nth xs (suc k))) (sym steps-are) (nth-adds NoUndo (λ g. tt) handles (suc k)) in
+      let no-04 : IfAny NoQuote (nth (f .steps) k) = subst (λ (xs : List Step). IfAny NoQuote (nth xs k)) (sym steps-are) (nth-adds NoQuote (λ g. tt) handles k) in
+      let steps-so : take (suc k) (f .steps) ≡ map add (take (suc k) handles) = ap (take (suc k)) steps-are ∙ take-adds (suc k) handles in
+      let no-02 : All NoRestore (take (suc k) (f .steps)) = subst (All NoRestore) (sym steps-so) (all-adds NoRestore (λ g. tt) (take (suc k) handles)) in
+      let hs-are : survivors (take (suc k) (f .steps)) ≡ take (suc k) handles = ap survivors steps-so ∙ survive-adds (take (suc k) handles) [] in
+      let last : suc k ≡ session blank l measure input s .answer .steps = finished-last input f rest file-is s k h no-04 fin no-undo in
+      subst (λ (xs : List Step). ReadBack measure l f (take (suc k) handles) k (nth xs (suc k)) (session blank l measure input s)) steps-are
+      (subst (λ (hs : List ℕ). ReadBack measure l f hs k (nth (f .steps) (suc k)) (session blank l measure input s)) hs-are
+      (read-back-session input bytes f rest file-is s k last no-02 no-04 fin (subst (λ (hs : List ℕ). Apart (map (unfolded f) hs)) (sym hs-are) apart)))
 
--- ---- files of adds alone
+-- ---- the session calls
 
-take-adds : (n : ℕ) (hs : List ℕ) → take n (map add hs) ≡ map add (take n hs)
-take-adds zero [] = refl
-take-adds zero (h ∷ hs) = refl
-take-adds (suc n) [] = refl
-take-adds (suc n) (h ∷ hs) = ap (λ (xs : List Step). add h ∷ xs) (take-adds n hs)
+-- By either measure.
+pub demand-3-of : {C : Type 0} (blank : C) (m : Measure) → Demand3 blank version-1 (measure-of m)
+demand-3-of blank m = read-back-session blank version-1 (omega arith) (omega arith) (measure-of m) (measure-covers m)
 
-survive-adds : (hs before : List ℕ) → survive (map add hs) before none ≡ before ++ hs
-survive-adds [] before = sym (append-nil before)
-survive-adds (h ∷ hs) before = survive-adds hs (before ++ h ∷ []) ∙ append-assoc before (h ∷ []) hs
+pub demand-3-adds-of : {C : Type 0} (blank : C) (m : Measure) → Demand3Adds blank version-1 (measure-of m)
+demand-3-adds-of blank m = read-back-adds blank version-1 (omega arith) (omega arith) (measure-of m) (measure-covers m)
 
-all-adds : (P : Step → Type 0) → ((h : ℕ) → P (add h)) → (hs : List ℕ) → All P (map add hs)
-all-adds P p [] = tt
-all-adds P p (h ∷ hs) = (p h, all-adds P p hs)
+-- Of 01's call, which measures by the Rust's ranges.
+pub demand-3 : {C : Type 0} (blank : C) → Demand3 blank version-1 counted
+demand-3 blank = demand-3-of blank Counted
 
-nth-adds : (P : Step → Type 0) → ((h : ℕ) → P (add h)) → (hs : List ℕ) (k : ℕ) → IfAny P (nth (map add hs) k)
-nth-adds P p [] k = tt
-nth-adds P p (h ∷ hs) zero = p h
-nth-adds P p (h ∷ hs) (suc k) = nth-adds P p hs k
+pub demand-3-adds : {C : Type 0} (blank : C) → Demand3Adds blank version-1 counted
+demand-3-adds blank = demand-3-adds-of blank Counted
 
--- Here any add whose first word says finished is the last one taken.
-pub demand-3-adds : {C : Type 0} (blank : C) (input : List ℕ) → Bytes input → (f : File) (rest : List ℕ) → file version-1 input ≡ got f rest
-    → (handles : List ℕ) → f .steps ≡ map add handles → (slices : Slices C) (k : ℕ)
-    → k < session blank version-1 counted input slices .answer .steps → Finished (session blank version-1 counted input slices .slices .words) k
-    → Apart (map (unfolded f) (take (suc k) handles))
-    → ReadBack counted version-1 f (take (suc k) handles) k (nth (map add handles) (suc k)) (session blank version-1 counted input slices)
-demand-3-adds {C} blank input bytes f rest file-is handles steps-are s k h fin apart =
-    let no-undo : IfAny NoUndo (nth (f .steps) (suc k)) =
-    subst (λ (xs : List Step). IfAny NoUndo (nth xs (suc k))) (sym steps-are) (nth-adds NoUndo (λ g. tt) handles (suc k)) in
-    let no-04 : IfAny NoQuote (nth (f .steps) k) = subst (λ (xs : List Step). IfAny NoQuote (nth xs k)) (sym steps-are) (nth-adds NoQuote (λ g. tt) handles k) in
-    let steps-so : take (suc k) (f .steps) ≡ map add (take (suc k) handles) = ap (take (suc k)) steps-are ∙ take-adds (suc k) handles in
-    let no-02 : All NoRestore (take (suc k) (f .steps)) = subst (All NoRestore) (sym steps-so) (all-adds NoRestore (λ g. tt) (take (suc k) handles)) in
-    let hs-are : survivors (take (suc k) (f .steps)) ≡ take (suc k) handles = ap survivors steps-so ∙ survive-adds (take (suc k) handles) [] in
-    let last : suc k ≡ session blank version-1 counted input s .answer .steps =
-    finished-last blank version-1 (omega arith) (omega arith) counted counted-covers input f rest file-is s k h no-04 fin no-undo in
-    subst (λ (xs : List Step). ReadBack counted version-1 f (take (suc k) handles) k (nth xs (suc k)) (session blank version-1 counted input s)) steps-are
-    (subst (λ (hs : List ℕ). ReadBack counted version-1 f hs k (nth (f .steps) (suc k)) (session blank version-1 counted input s)) hs-are
-    (demand-3 blank input bytes f rest file-is s k last no-02 no-04 fin (subst (λ (hs : List ℕ). Apart (map (unfolded f) hs)) (sym hs-are) apart)))
+-- Of the call that measures by the documentation.
+pub demand-3-documented : {C : Type 0} (blank : C) → Demand3 blank version-1 documented
+demand-3-documented blank = demand-3-of blank Documented
+
+pub demand-3-documented-adds : {C : Type 0} (blank : C) → Demand3Adds blank version-1 documented
+demand-3-documented-adds blank = demand-3-adds-of blank Documented

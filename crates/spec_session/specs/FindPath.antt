@@ -1,5 +1,5 @@
 -- Whether a reference is written for a subtree, and the path that it has: the exceptions of `find_path` in tree_cache.rs, and the search, over any measure of
--- a path. 01's measure is `counted` of the crate path.
+-- a path: `counted` of the crate path is 01's, and `documented` the documentation's.
 use Prim.Native.Nat.{ℕ}
 use mathlib.Core.Bool.{Bool, cond}
 use mathlib.Core.List.{List, [], _∷_}

@@ -1,5 +1,5 @@
 -- A path that `find-in` gives leads to the entry's tree, and as an item takes at most the entry's length, with any measure that never counts less than the
--- path's atom takes; `counted` is one.
+-- path's atom takes; `Covering.antt` has that of both.
 -- Assumes nothing.
 use Prim.Native.Nat.{ℕ, suc, _≤_, _<_}
 use mathlib.Core.Path.{_≡_, refl, sym, ap, _∙_, subst}
@@ -25,13 +25,13 @@ use Rattle.spec_session.specs.FindPath.{without-terminator, parents-in, 
 
 -- ---- what a path found says
 
-then-some : {A : Type 0} (b : Bool) (x : Option A) (v : A) → cond b x none ≡ some v → x ≡ some v
-then-some true x v e = e
+pub then-some : {A : Type 0} (b : Bool) (x : Option A) (v : A) → cond b x none ≡ some v → (b ≡ true) × (x ≡ some v)
+then-some true x v e = (refl, e)
 then-some false x v e = absurd (Option·none-ne-some v e)
 
-else-some : {A : Type 0} (b : Bool) (x : Option A) (v : A) → cond b none x ≡ some v → x ≡ some v
+pub else-some : {A : Type 0} (b : Bool) (x : Option A) (v : A) → cond b none x ≡ some v → (b ≡ false) × (x ≡ some v)
 else-some true x v e = absurd (Option·none-ne-some v e)
-else-some false x v e = e
+else-some false x v e = (refl, e)
 
 pub without-end : (s : List Bool) → without-terminator (s ++ true ∷ []) ≡ s
 without-end [] = refl
@@ -53,13 +53,13 @@ Covers measure = (s : List Bool) → serialized-length (path-bytes (s ++ true �
 
 module _ (measure : List Bool → ℕ) where
   -- A path that is written, as the search gave it.
-  record Written (len : ℕ) (o : Option (List Bool)) (path : List Bool) : Type 0 where
-    bits : List Bool
-    given : o ≡ some bits
-    shorter : measure bits < len
-    steps : without-terminator bits ≡ path
+  pub record Written (len : ℕ) (o : Option (List Bool)) (path : List Bool) : Type 0 where
+    pub bits : List Bool
+    pub given : o ≡ some bits
+    pub shorter : measure bits < len
+    pub steps : without-terminator bits ≡ path
 
-  written : (len : ℕ) (o : Option (List Bool)) (path : List Bool) → Option·map without-terminator (used measure len o) ≡ some path → Written len o path
+  pub written : (len : ℕ) (o : Option (List Bool)) (path : List Bool) → Option·map without-terminator (used measure len o) ≡ some path → Written len o path
   written len o path e = go (used measure len o) refl e
     where
       go : (u : Option (List Bool)) → used measure len o ≡ u → Option·map without-terminator u ≡ some path → Written len o path
@@ -75,10 +75,10 @@ module _ (measure : List Bool → ℕ) where
     found : Written len (search (parents-in c) stack len e) path
     unfolding find-in
     found =
-        written len (search (parents-in c) stack len e) path
-        (else-some (ltb len 4) (Option·map without-terminator (used measure len (search (parents-in c) stack len e))) path
-        (then-some (member e marked) (cond (ltb len 4) none (Option·map without-terminator (used measure len (search (parents-in c) stack len e)))) path
-        (else-some (eqb h (handle-of nil)) (cond (member e marked) (cond (ltb len 4) none (Option·map without-terminator (used measure len (search (parents-in c) stack len e)))) none) path q)))
+        let result = Option·map without-terminator (used measure len (search (parents-in c) stack len e)) in
+        let named = else-some (eqb h (handle-of nil)) (cond (member e marked) (cond (ltb len 4) none result) none) path q in
+        let marks = then-some (member e marked) (cond (ltb len 4) none result) path (named .1) in
+        written len (search (parents-in c) stack len e) path (else-some (ltb len 4) result path (marks .1) .1)
 
     module _ (tr : ℕ → Tree) (linked : Linked (c .entries) tr) where
       record Path : Type 0 where

@@ -20,7 +20,8 @@ pub mod Coherence
 pub mod Closed
 pub mod FindPath
 pub mod FindPathLaws
-pub mod Counted
+pub mod Covering
+pub mod Documented
 pub mod Theorem
 pub mod Survivors
 pub mod Steps

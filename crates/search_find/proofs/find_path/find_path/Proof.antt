@@ -1,9 +1,11 @@
--- `search_find::find_path::find_path` meets its contract: the first bit of a path found is set, so the number of its bits gives what is counted.
+-- `search_find::find_path::find_path` meets its contract: the first bit of a path found is set, so the number of its bits gives what it is measured at.
 -- Assumes nothing.
 use native.Mathlib.Omega.{arith}
 use mathlib.Core.Path.{_≡_, _∙_}
+use mathlib.Core.Bool.{Bool}
+use mathlib.Core.List.{List}
 use lib.ListN.{length}
-use Rattle.path.specs.Measure as measure
+use Rattle.path.specs.Measure.{measure-of}
 use Rattle.search_passes.specs.declared.Way.the-variants.{By}
 use Rattle.search_passes.specs.Finds.{Finds}
 use Rattle.search_list.specs.State.{path-at}
@@ -13,7 +15,7 @@ use borrow.Author.Needs.{needs}
 use Rattle.search_find.proofs.find_path.find_path.Statement.{statement}
 use Rattle.search_find.proofs.find_path.find_path.Tie as tie
 
--- The call, from where a path is known to be found; what was found; how many bits it has, and what it is counted at.
+-- The call, from where a path is known to be found; what was found; the path, how many bits it has, and what it is measured at.
 abbrev start : tie.After-known-told → tie.Start
 start x = x .before .before .before .before .before .before .before .before
 
@@ -21,12 +23,14 @@ found : (x : tie.After-known-told)
     → Finds (start x .args .work .now) (x .before .before .before .before .before .search .last .0) (start x .args .depth) (start x .args .len) (start x .args .e .0) (By (x .before .i .given .0 .0))
 found x = rw (x .before .i .given .1) at (x .before .before .before .before .before .search .ensures)
 
-measured : (x : tie.After-size-of) → x .size-of .result ≡ length (path-at (x .before .before .before .before .before .before .before .search .last .0) (x .before .before .before .i .given .0 .0))
-measured x = x .size-of .ensures ∙ readable-size (x .before .before .before .before .before .before .before .search .last .0) _ (found (x .before .before) .usable)
+abbrev there : tie.After-known-told → List Bool
+there x = path-at (x .before .before .before .before .before .search .last .0) (x .before .i .given .0 .0)
 
-counted : (x : tie.After-counted-bits)
-    → x .counted-bits .result ≡ measure.counted (path-at (x .before .before .before .before .before .before .before .before .search .last .0) (x .before .before .before .before .i .given .0 .0))
-counted x = x .counted-bits .ensures _ (measured (x .before)) (path-ends (found (x .before .before .before)))
+sized : (x : tie.After-size-of) → x .size-of .result ≡ length (there (x .before .before))
+sized x = x .size-of .ensures ∙ readable-size (x .before .before .before .before .before .before .before .search .last .0) _ (found (x .before .before) .usable)
+
+measured : (x : tie.After-measured-bits) → x .measured-bits .result ≡ measure-of (start (x .before .before .before) .args .measure) (there (x .before .before .before))
+measured x = x .measured-bits .ensures _ (sized (x .before)) (path-ends (found (x .before .before .before)))
 
 search-requires : tie.Need-search-requires
 search-requires c κs = search needs
@@ -40,14 +44,14 @@ size-of-requires c κs =
     let u = found x .usable in
     (omega (arith, x .before .before .before .before .before .search .kept .0, start x .pre .0 .long), u .slot, u .chain .few)
 
-counted-bits-requires : tie.Need-counted-bits-requires
-counted-bits-requires c κs = let u = found (c .before .before) .usable in omega (arith, c .size-of .ensures, u .short, u .extra)
+measured-bits-requires : tie.Need-measured-bits-requires
+measured-bits-requires c κs = let u = found (c .before .before) .usable in omega (arith, c .size-of .ensures, u .short, u .extra)
 
 same-length : tie.Need-same-length
 same-length c = search needs
 
 returns : tie.Need-returns
-returns c = path-used (found (c .before .before .before .before)) (counted (c .before)) (c .if1 .taken)
+returns c = path-used (found (c .before .before .before .before)) (measured (c .before)) (c .if1 .taken)
 
 enum-told : tie.Need-enum-told
 enum-told c = search needs
@@ -56,7 +60,7 @@ same-length-2 : tie.Need-same-length-2
 same-length-2 c = search needs
 
 returns-2 : tie.Need-returns-2
-returns-2 c = path-long (found (c .before .before .before .before)) (counted (c .before)) (c .if1 .left)
+returns-2 c = path-long (found (c .before .before .before .before)) (measured (c .before)) (c .if1 .left)
 
 same-length-3 : tie.Need-same-length-3
 same-length-3 c = search needs
@@ -71,7 +75,7 @@ find-path-spec =
     search-requires
     enum-known-i
     size-of-requires
-    counted-bits-requires
+    measured-bits-requires
     same-length
     returns
     enum-told
