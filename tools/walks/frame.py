@@ -46,6 +46,7 @@ use denote.Index.{place-is, row, elem-out, elem-back, elem-put, opens-slice, clo
 use denote.Signature.{plain}
 use denote.Steps.{only, owned, peeks, facts, heard, nothing}
 use denote.Struct.Laws as LL
+use denote.Enum.Laws as EL
 use denote.Triple.Entry.{onEntry}
 use denote.Triple.Spec.{Meets, tripleOf}
 use denote.Triple.Statement.{Contract, Triple}
@@ -135,9 +136,9 @@ class Frame:
         known=' '.join(c.known for c in s.callees)
         args=[path(b,i) for b in ('κs','qs') for i in s.ids]+[path('a',i) for i in range(len(s.vs))]
         args+=['(%s .0 .1)'%unpar(path('are',i)) for i in s.ids]+s.last(lambda p: path('are',s.n))
-        vals=nest(['slice-vals']*s.n+s.last(lambda p: 'LL.vals S.the-type S′.the-laws'))
+        vals=nest(['slice-vals']*s.n+s.last(lambda p: p.row.law('vals')))
         tells=['%s-slice-tells (named %d) %s %s'%('shr' if k=='shared' else 'mut',i,path('κs',i),e) for i,(k,e) in enumerate(s.params)]
-        tells=nest(tells+s.last(lambda p: 'LL.tells S.the-type S′.the-laws'))
+        tells=nest(tells+s.last(lambda p: p.row.law('tells')))
         walk=' '.join(['walk',*args,*([s.asks[0]] if s.asks else []),'𝓣 (fmOf 𝓤 H (W .laws) 𝓣)',known])
         start=f'needs 𝓤 ({s.asks[2]}) _ (λ {s.asks[0]}. {walk})' if s.asks else f'via 𝓤 _ (fst∗ 𝓤 _ (emp 𝓤)) ({walk})'
         triples=''.join(' → '+c.triple for c in s.callees)

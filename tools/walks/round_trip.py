@@ -11,7 +11,8 @@ HEAD='''-- `round_trip::round_trip` meets its contract: a walk of its MIR. It kn
 -- to the calls for good. That the values keep the promise is `Returned`.
 -- Assumes nothing.
 '''
-USES='''use Rattle.spec_reading.specs.Call.{reading}
+USES='''use Rattle.path.specs.Measure.{counted}
+use Rattle.spec_reading.specs.Call.{reading}
 use Rattle.read_answer.specs.declared.ReadAnswer.{ReadAnswer}
 use Rattle.read_answer.specs.Answer.{slices as store-slices}
 use Rattle.read_answer.proofs.ReadAnswer as Q
@@ -55,7 +56,7 @@ OPEN='''    -- The lists that are lent, and what the two contracts say of the va
     Ran s w w₂ cs o = result-of s w w₂ cs o ≡ the-session (x₀ .now) before
 
     abbrev Back : SessionAnswer → (w w₂ : List ℕ) (cs : List Checkpoint) (o : List ℕ) → Type 0
-    Back s w w₂ cs o = ReadsBack (x₀ .now) (result-of s w w₂ cs o)
+    Back s w w₂ cs o = ReadsBack counted (x₀ .now) (result-of s w w₂ cs o)
 
     abbrev WasRead : SessionAnswer → (w o : List ℕ) → ReadAnswer → (w₁ ps ns bs : List ℕ) → Type 0
     WasRead s w o r w₁ ps ns bs = read-result-of r w₁ ps ns bs ≡ reading (take (s .size) o) (store-slices w (x₅ .now) (x₆ .now) (x₇ .now))

@@ -1,13 +1,14 @@
-# Writes the proof of run, of the program session, to the file that it is given.
+# Writes the proof of a function of the program session that makes a session call: to the file that it is given, of the function and the call named.
 import sys
 from frame import *
-CALL=Callee('Call','call','Rattle.session_call.proofs.nikvoldra_session')
-f=Frame('run.py','Rattle.session.proofs.run',[('shared','u8'),('given','u32'),('given','u32'),('given','u8')],[CALL])
-HEAD='''-- `session::run` is safe and ends: a walk of its MIR. It knows of `nikvoldra_session` that it meets its contract.
+FILE,FUNCTION,CALLED=sys.argv[1:]
+CALL=Callee('Call','call','Rattle.session_call.proofs.'+CALLED)
+f=Frame('run.py','Rattle.session.proofs.'+FUNCTION,[('shared','u8'),('given','u32'),('given','u32'),('given','u8')],[CALL])
+HEAD='''-- `session::%s` is safe and ends: a walk of its MIR. It knows of `%s` that it meets its contract.
 -- The sixteen records are a local array, which is lent whole for a lifetime of the call (`Lent`) and comes back as room; `work`, `words` and `output` go to
 -- the call for good.
 -- Assumes nothing.
-'''
+'''%(FUNCTION,CALLED)
 USES='''use Rattle.session_answer.specs.declared.SessionAnswer.{SessionAnswer}
 use Rattle.session_answer.proofs.SessionAnswer as R
 use Rattle.session_answer.proofs.SessionAnswer.Laws as R′
@@ -83,4 +84,4 @@ w.e('use3 W (later (‵ (froom (tyArray T′.mir 16) l₅ 0))) (array-back 𝓤 
 w.e('returns ! %s $'%w.look(0))
 w.forget([i for i in range(15) if i!=5]); w.free(); w.leave(*ENDS)
 w.e('by ! (exits r (zs .1 .0) (zs .1 .1 .0) (zs .1 .1 .1 .1 .0) e₁ e₂ e₃ %s)'%ANSWER.spelled('r','r-is'))
-write(f.head(HEAD,USES)+MACH+f.opens()+OPEN+f.calls()+f.walk(w.text(10))+f.tail('run-spec'),sys.argv[1])
+write(f.head(HEAD,USES)+MACH+f.opens()+OPEN+f.calls()+f.walk(w.text(10))+f.tail(FUNCTION.replace('_','-')+'-spec'),FILE)

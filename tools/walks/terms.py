@@ -38,20 +38,24 @@ shr-slice ℓ R = sliceTy (tyRef ℓ imm (pointee (R .written)))
 '''
 # What a walk knows of a type of values: its row, that it is lawful, what makes a value owned, what tells its machine value, and its MIR type.
 class Row:
-    def __init__(s,ty,row,lawful,makes,tells,mir): s.ty,s.row,s.lawful,s.makes,s.tells,s.mir=ty,row,lawful,makes,tells,mir
+    def __init__(s,ty,row,lawful,makes,tells,mir,laws=None): s.ty,s.row,s.lawful,s.makes,s.tells,s.mir,s.laws=ty,row,lawful,makes,tells,mir,laws
+    def law(s,n): return '%s.%s %s'%(s.laws[0],n,s.laws[1])   # A law of a declared type.
     def typed(s,x,is_): return '(%s .typed %s _ %s .0)'%(s.lawful,par(x),is_)
     def owned(s,x,is_): return 'owned ! %s (Is %s) (%s) %s _ %s'%(s.row,s.row,s.makes,par(x),is_)
     def spelled(s,x,is_): return '(subst (Is %s %s) %s %s)'%(s.row,par(x),s.tells(x,is_),is_)
     def is_(s,x,v): return 'Is %s %s (%s ∷ [])'%(s.row,par(x),v)
-def struct(ty,m):   # A struct, whose module here is m.
+def declared(ty,m,L,few=''):   # A declared type, whose module here is m, and whose laws are those of L.
     laws=f'{m}.the-type {m}′.the-laws'
-    return Row(ty,m+'.the-row',f'LL.lawful {laws} 𝓤 H A W',f'LL.makes {m}.the-type {m}′.the-plain 𝓤 H A',lambda x,i: f'(LL.tells {laws} {x} _ {i})',m+'′.mir')
+    return Row(ty,m+'.the-row',f'{L}.lawful {laws} 𝓤 H A W{few}',f'{L}.makes {m}.the-type {m}′.the-plain 𝓤 H A',lambda x,i: f'({L}.tells {laws} {x} _ {i})',m+'′.mir',(L,laws))
+def struct(ty,m): return declared(ty,m,'LL')
+def enum(ty,m): return declared(ty,m,'EL',' tt')
 USIZE=Row('ℕ','usize','uint-lawful 𝓤 H A W w64','uint-makes 𝓤 H A W w64',lambda x,i:'(%s .0)'%i,WORD)
 BOOL=Row('bool .Denot','bool',None,'bool-makes 𝓤 H A W',None,None)
 UNIT=Row('Unit {0}','unit','nothing-lawful 𝓤 H A W',None,None,'tyUnit')
 RECORD=struct('Checkpoint','T')
 ANSWER=struct('SessionAnswer','R')
 PROGRESS=struct('Progress','S')
+MEASURE=enum('Measure','D')
 # A text, with these parts for the marks @NAME@.
 def fill(t,**parts):
     for k,v in parts.items(): t=t.replace('@%s@'%k,v)

@@ -35,7 +35,7 @@ module _ (input : List ℕ) (before after : Lists) (work : List ℕ) (s : Sessio
   abbrev both : RoundTrip
   both = record { session = s; read = r }
 
-  module _ (ran : t ≡ the-session input before) (was-read : read-of both after ≡ the-reading t before) (back : ReadsBack input t) (same : length work ≡ length (before .work)) where
+  module _ (ran : t ≡ the-session input before) (was-read : read-of both after ≡ the-reading t before) (back : ReadsBack counted input t) (same : length work ≡ length (before .work)) where
     -- What was read is the tree of what reads back.
     whole : {f : File} {handles : List ℕ} {k : ℕ} {next : Option Step} → read.long-enough (store-slices (before .work) (before .pairs) (before .atoms) (before .bytes)) ≡ true
         → ReadBack counted version-1 f handles k next t → ReadWhole f handles k next t (read-of both after)

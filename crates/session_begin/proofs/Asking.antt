@@ -10,6 +10,7 @@ use lib.ListN.{length}
 use borrow.Author.Tests.{leb-true}
 use Rattle.words.specs.Choice.{clash}
 use Rattle.words.specs.Words.{WORK}
+use Rattle.path.specs.declared.Measure.{Measure}
 use Rattle.spec_session.specs.File.{Got, File, Step, refused, version-1, file}
 use Rattle.spec_session.specs.Places.{StepsAt}
 use Rattle.file_parts.specs.Loaded.{forgets}
@@ -41,7 +42,7 @@ lengths w ws cs e = go (leb WORK w) refl (leb 3072 ws) refl e
 
 -- ---- questions 1 to 8
 
-module _ (input w : List ℕ) (ws cs : ℕ) where
+module _ (measure : Measure) (input w : List ℕ) (ws cs : ℕ) where
   abbrev n : ℕ
   n = length w
 
@@ -51,19 +52,19 @@ module _ (input w : List ℕ) (ws cs : ℕ) where
   asked-file : are-long n ws cs ≡ true → asked input n ws cs ≡ file version-1 input
   asked-file e = ap (λ (x : Bool). cond x (file version-1 input) (refused 1)) e
 
-  refuses : (k : ℕ) → asked input n ws cs ≡ refused k → {b : Begun} → b ≡ record { start = refused-with k; records = 0 }
-      → Begins input w ws cs w b (asked input n ws cs)
-  refuses k e {b} q = subst (λ (g : Got File). Begins input w ws cs w b g) (sym e) (q, refl)
+  refuses : (k : ℕ) → asked input n ws cs ≡ refused k → {b : Begun} → b ≡ record { start = refused-with measure k; records = 0 }
+      → Begins measure input w ws cs w b (asked input n ws cs)
+  refuses k e {b} q = subst (λ (g : Got File). Begins measure input w ws cs w b g) (sym e) (q, refl)
 
   -- The slices are too short.
-  pub begin-short : are-long n ws cs ≡ false → {b : Begun} → b ≡ record { start = refused-with 1; records = 0 }
-      → Begins input w ws cs w b (asked input n ws cs)
+  pub begin-short : are-long n ws cs ≡ false → {b : Begun} → b ≡ record { start = refused-with measure 1; records = 0 }
+      → Begins measure input w ws cs w b (asked input n ws cs)
   begin-short z q = refuses 1 (asked-short z) q
 
   module _ (is-long : are-long n ws cs ≡ true) (c : Checked) (checks : Checks input c (file version-1 input)) where
     -- The file is turned down.
-    pub begin-refused : (c .number ≡ 0 → ⊥) → {b : Begun} → b ≡ record { start = refused-with (c .number); records = 0 }
-        → Begins input w ws cs w b (asked input n ws cs)
+    pub begin-refused : (c .number ≡ 0 → ⊥) → {b : Begun} → b ≡ record { start = refused-with measure (c .number); records = 0 }
+        → Begins measure input w ws cs w b (asked input n ws cs)
     begin-refused z q = refuses (c .number) (asked-file is-long ∙ rejected input c (file version-1 input) checks z) q
 
     module _ (z : c .number ≡ 0) where
@@ -82,17 +83,18 @@ module _ (input w : List ℕ) (ws cs : ℕ) where
 
       -- The tables are loaded, and the run can start.
       pub begin-run : (w′ : List ℕ) → length w′ ≡ n → Opened input (the-file input) w′ → {flag : Bool}
-          → ((ss : List Step) → StepsAt input (c .«steps_at») ss → flag ≡ forgets ss) → {b : Begun} → b ≡ record { start = start-at (c .«steps_at») flag; records = cs }
-          → Begins input w ws cs w′ b (asked input n ws cs)
+          → ((ss : List Step) → StepsAt input (c .«steps_at») ss → flag ≡ forgets ss) → {b : Begun} → b ≡ record { start = start-at measure (c .«steps_at») flag; records = cs }
+          → Begins measure input w ws cs w′ b (asked input n ws cs)
       begin-run w′ e o {flag} known {b} q =
-          subst (λ (g : Got File). Begins input w ws cs w′ b g) (sym (asked-file is-long ∙ accepted-file .is))
-          (subst (λ (x : Begun). Starts input w′ ws cs x) (sym q)
+          subst (λ (g : Got File). Begins measure input w ws cs w′ b g) (sym (asked-file is-long ∙ accepted-file .is))
+          (subst (λ (x : Begun). Starts measure input w′ ws cs x) (sym q)
           record {
             many-words = have .words;
             many-rows = have .records;
             all-records = refl;
             goes = refl;
-            ready = λ words rows out m r s. starts input (the-file input) c passed flag known w′ words rows out o (omega (arith, have .work)) m r s;
+            measure-is = refl;
+            ready = λ words rows out m r s. starts measure input (the-file input) c passed flag known w′ words rows out o (omega (arith, have .work)) m r s;
           })
         where
           have : Long n ws cs

@@ -18,7 +18,8 @@ use Rattle.file_parts.specs.Checked.{Passed, Contents}
 use Rattle.file_parts.specs.CheckedLaws.{pair-named}
 use Rattle.file_parts.specs.declared.session_file.Checked.{Checked}
 use Rattle.spec_session.specs.Writer.{start}
-use Rattle.path.specs.Measure.{counted}
+use Rattle.path.specs.declared.Measure.{Measure}
+use Rattle.path.specs.Measure.{measure-of}
 use Rattle.spec_session.specs.Steps.{at-start, Run, run-steps}
 use Rattle.work_layout.specs.Layout.{TOPS, WRITTEN, MAPS, PARENTS, ENTRIES}
 use Rattle.work_layout.specs.Rows.{stack-of}
@@ -51,7 +52,7 @@ sorted f c =
 no-mark : (k : ℕ) → odd (0 / 2 ^ k) ≡ false
 no-mark k = ap odd (zero-div (2 ^ k))
 
-module _ (input : List ℕ) (f : File) (c : Checked) (p : Passed input f c) (flag : Bool)
+module _ (measure : Measure) (input : List ℕ) (f : File) (c : Checked) (p : Passed input f c) (flag : Bool)
     (known : (ss : List Step) → StepsAt input (c .«steps_at») ss → flag ≡ forgets ss) (w words : List ℕ) (rows : List Checkpoint) (out : List ℕ) (o : Opened input f w)
     (long : WORK ≤ length w) (many-words : 3072 ≤ length words) (many-rows : 16 ≤ length rows) (short : length out ≤ 65535) where
   handles : Handles w
@@ -87,7 +88,7 @@ module _ (input : List ℕ) (f : File) (c : Checked) (p : Passed input f c) (fla
         waiting = refl;
       }
 
-  pub starts : Underway input f w words rows out (start-at (c .«steps_at») flag)
+  pub starts : Underway measure input f w words rows out (start-at measure (c .«steps_at») flag)
   unfolding whole-run
   starts =
       record {
@@ -122,11 +123,12 @@ module _ (input : List ℕ) (f : File) (c : Checked) (p : Passed input f c) (fla
         quote-saved = λ e. clash cc;
         state = at-start;
         shown = refl;
+        measure-is = refl;
         same = λ i. record { words = r .words; steps = none-before i; number = r .number; last = r .last };
       }
     where
       r : Run
-      r = run-steps counted (length out) f (f .steps) at-start
+      r = run-steps (measure-of measure) (length out) f (f .steps) at-start
 
       none-before : r .steps ≡ 0 + r .steps
       none-before = omega arith

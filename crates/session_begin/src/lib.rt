@@ -2,6 +2,7 @@
 mod session_lengths;
 
 use file_parts::Checked;
+use path::Measure;
 use session_state::progress::Progress;
 use words::slices;
 ghost use mathlib.Core.Path.{_≡_};
@@ -68,9 +69,9 @@ fn open(file: &[u8], work: &mut [u32], checked: Checked)
     work[work_layout::SENTINEL] = checked.sentinel;
 }
 
-// The start of the steps, which stand from this place of the file on; whether one of them forgets or quotes.
-fn start_at(at: usize, forgets: bool) -> Progress
-    ensures { λ r. ⌜ r ≡ start-at at forgets ⌝ }
+// The start of the steps, which stand from this place of the file on; whether one of them forgets or quotes; the measure of a path.
+fn start_at(measure: Measure, at: usize, forgets: bool) -> Progress
+    ensures { λ r. ⌜ r ≡ start-at measure at forgets ⌝ }
 {
     let counts = write_counts::none();
     Progress {
@@ -85,42 +86,43 @@ fn start_at(at: usize, forgets: bool) -> Progress
         done: false,
         forgets,
         quoted: false,
+        measure,
     }
 }
 
 // The call ends with this number.
-fn refused(number: u32) -> Begun
-    ensures { λ r. ⌜ r ≡ record { start = refused-with number; records = 0 } ⌝ }
+fn refused(measure: Measure, number: u32) -> Begun
+    ensures { λ r. ⌜ r ≡ record { start = refused-with measure number; records = 0 } ⌝ }
 {
-    let mut start = start_at(0, false);
+    let mut start = start_at(measure, 0, false);
     start.number = number;
     start.done = true;
     Begun { start, records: 0 }
 }
 
 // The steps come next, from this place of the file on.
-fn started(at: usize, forgets: bool, records: usize) -> Begun
-    ensures { λ r. ⌜ r ≡ record { start = start-at at forgets; records = records } ⌝ }
+fn started(measure: Measure, at: usize, forgets: bool, records: usize) -> Begun
+    ensures { λ r. ⌜ r ≡ record { start = start-at measure at forgets; records = records } ⌝ }
 {
-    let start = start_at(at, forgets);
+    let start = start_at(measure, at, forgets);
     Begun { start, records }
 }
 
 // Questions 1 to 8, of so many words and checkpoint records. Where all get yes, the tables of the file are loaded.
-pub fn begin(file: &[u8], work: &mut [u32], words: usize, records: usize) -> Begun
+pub fn begin(file: &[u8], work: &mut [u32], words: usize, records: usize, measure: Measure) -> Begun
     ensures { λ b. ⌜
         (Bytes (now (file .entry)))
-        × (Begins (now (file .entry)) (now (work .entry)) words records (now (work .exit)) b
+        × (Begins measure (now (file .entry)) (now (work .entry)) words records (now (work .exit)) b
         (asked (now (file .entry)) (length (now (work .entry))) words records)) ⌝ }
 {
     if !session_lengths::long_enough(work.len(), words, records) {
-        return refused(1);
+        return refused(measure, 1);
     }
     let checked = file_check::check(file);
     if checked.number != 0 {
-        return refused(checked.number);
+        return refused(measure, checked.number);
     }
     open(file, work, checked);
     let forgets = file_parts::has_forget(file, checked.steps_at);
-    started(checked.steps_at, forgets, records)
+    started(measure, checked.steps_at, forgets, records)
 }

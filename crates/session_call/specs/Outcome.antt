@@ -1,10 +1,10 @@
 -- What the session call's answer and slices mean, in the terms of the definition.
 use Prim.Native.Nat.{ℕ, suc, _<_}
 use mathlib.Core.Path.{_≡_}
+use mathlib.Core.Bool.{Bool}
 use mathlib.Core.List.{List, map}
 use mathlib.Core.Option.{Option}
 use lib.ListN.{take}
-use Rattle.path.specs.Measure.{counted}
 use Rattle.words.specs.Lists.{All}
 use Rattle.spec_session.specs.File.{File, Step, add, version-1, got, file}
 use Rattle.spec_session.specs.Unfold.{unfolded}
@@ -33,8 +33,8 @@ Claimed f r P =
     × ((handles : List ℕ) → f .steps ≡ map add handles → (k : ℕ) → k < r .answer .steps → Finished (r .slices .words) k
     → Apart (map (unfolded f) (take (suc k) handles)) → P (take (suc k) handles) k (nth (map add handles) (suc k)))
 
--- DEMAND 3, of the result r of a call with these bytes: reading the finished bytes gives the plain filling's whole tree, references stand exactly where the
+-- DEMAND 3, of the result r of a call with these bytes, by this measure of a path: reading the finished bytes gives the plain filling's whole tree, references stand exactly where the
 -- search rules put them, and all else that `ReadBack` says.
-abbrev pub ReadsBack : (input : List ℕ) → Result Checkpoint → Type 0
-ReadsBack input r =
-    (f : File) (rest : List ℕ) → file version-1 input ≡ got f rest → Claimed f r (λ handles k next. ReadBack counted version-1 f handles k next r)
+abbrev pub ReadsBack : (measure : List Bool → ℕ) → (input : List ℕ) → Result Checkpoint → Type 0
+ReadsBack measure input r =
+    (f : File) (rest : List ℕ) → file version-1 input ≡ got f rest → Claimed f r (λ handles k next. ReadBack measure version-1 f handles k next r)

@@ -24,6 +24,7 @@ refused-at p n =
       done = true;
       forgets = p .forgets;
       quoted = p .quoted;
+      measure = p .measure;
     }
 
 -- A step is finished; the next one stands at `next`.
@@ -41,6 +42,7 @@ noted-at p next =
       done = p .done;
       forgets = p .forgets;
       quoted = p .quoted;
+      measure = p .measure;
     }
 
 -- Another place of the writer, and another count of adds.
@@ -58,6 +60,7 @@ moved-to p q n b =
       done = false;
       forgets = p .forgets;
       quoted = false;
+      measure = p .measure;
     }
 
 -- A quote is open, or none.
@@ -75,6 +78,7 @@ with-quote p b =
       done = p .done;
       forgets = p .forgets;
       quoted = b;
+      measure = p .measure;
     }
 
 -- The progress after an add.

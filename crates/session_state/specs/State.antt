@@ -10,7 +10,8 @@ use Rattle.words.specs.Words.{at}
 use Rattle.words.specs.Lists.{All}
 use Rattle.session_state.specs.Records.{blank}
 use Rattle.session_state.specs.declared.checkpoints.Checkpoint.{Checkpoint}
-use Rattle.path.specs.Measure.{counted}
+use Rattle.path.specs.declared.Measure.{Measure}
+use Rattle.path.specs.Measure.{measure-of}
 use Rattle.spec_session.specs.File.{File, Got, got, refused, Step, add, restore, forget, quote, take-quote, file, version-1}
 use Rattle.spec_session.specs.Places.{StepsAt, StepNamed}
 use Rattle.spec_session.specs.Items.{size-of, output}
@@ -41,9 +42,9 @@ contents-of (refused n) = record { atoms = []; pairs = []; sentinel = none; step
 unfoldable pub the-file : List ℕ → File
 the-file input = contents-of (file version-1 input)
 
--- The run of its steps, with so many bytes of output.
-unfoldable pub whole-run : File → (space : ℕ) → Run
-whole-run f space = run-steps counted space f (f .steps) at-start
+-- The run of its steps, by this measure of a path and with so many bytes of output.
+unfoldable pub whole-run : Measure → File → (space : ℕ) → Run
+whole-run m f space = run-steps (measure-of m) space f (f .steps) at-start
 
 abbrev pub standing : (past : List Session) → Session → State
 standing past s = record { now = s; past = past; quoted = none }
@@ -101,9 +102,9 @@ pub record History (f : File) (w out : List ℕ) (rows : List Checkpoint) (forge
 -- ---- an open quote
 
 -- The state st of the definitions, where a session and those before its adds are held. While a quote is open its add stands: held is what the taking leaves.
-abbrev pub Shows : (quoted : Bool) → File → (space : ℕ) → State → (past : List Session) → Session → Type 0
-Shows false f space st past s = st ≡ standing past s
-Shows true f space st past s = (run-step counted space f take-quote st ≡ went (words-of s) (standing past s)) × (past ≡ st .past ++ st .now ∷ [])
+abbrev pub Shows : Measure → (quoted : Bool) → File → (space : ℕ) → State → (past : List Session) → Session → Type 0
+Shows m false f space st past s = st ≡ standing past s
+Shows m true f space st past s = (run-step (measure-of m) space f take-quote st ≡ went (words-of s) (standing past s)) × (past ≡ st .past ++ st .now ∷ [])
 
 -- ---- a run under way
 
@@ -114,7 +115,7 @@ pub record Stocked (input : List ℕ) (f : File) (w : List ℕ) (steps : ℕ) : 
   pub atoms-there : AtomsThere input f w
   pub room : Roomy w steps
 
-pub record Underway (input : List ℕ) (f : File) (w words : List ℕ) (rows : List Checkpoint) (out : List ℕ) (p : Progress) : Type 0 where
+pub record Underway (m : Measure) (input : List ℕ) (f : File) (w words : List ℕ) (rows : List Checkpoint) (out : List ℕ) (p : Progress) : Type 0 where
   pub left : List Step
   pub past : List Session
   pub session : Session
@@ -133,22 +134,23 @@ pub record Underway (input : List ℕ) (f : File) (w words : List ℕ) (rows : L
   -- The cache before an open quote is saved.
   pub quote-saved : p .quoted ≡ true → p .forgets ≡ true
   pub state : State
-  pub shown : Shows (p .quoted) f (length out) state past session
-  pub same : whole-run f (length out) ≡ after-words (p .steps) (take (3 * p .steps) words) (run-steps counted (length out) f left state)
+  pub shown : Shows m (p .quoted) f (length out) state past session
+  pub measure-is : p .measure ≡ m
+  pub same : whole-run m f (length out) ≡ after-words (p .steps) (take (3 * p .steps) words) (run-steps (measure-of m) (length out) f left state)
 
 -- The run is over: no step is left, or one is refused.
-pub record Ended (f : File) (words out : List ℕ) (p : Progress) : Type 0 where
+pub record Ended (m : Measure) (f : File) (words out : List ℕ) (p : Progress) : Type 0 where
   pub session : Session
   pub size-is : p .counts .size ≡ size-of (session .written .items)
   pub bytes-are : take (p .counts .size) out ≡ output (session .written .items)
   pub short : length out ≤ 65535
   pub few-steps : p .steps ≤ 1024
   pub many-words : 3072 ≤ length words
-  pub same : whole-run f (length out) ≡ record { words = take (3 * p .steps) words; steps = p .steps; number = p .number; last = session }
+  pub same : whole-run m f (length out) ≡ record { words = take (3 * p .steps) words; steps = p .steps; number = p .number; last = session }
 
-abbrev pub Stands : (input : List ℕ) (f : File) (w words : List ℕ) (rows : List Checkpoint) (out : List ℕ) (p : Progress) → Bool → Type 0
-Stands input f w words rows out p true = Ended f words out p
-Stands input f w words rows out p false = Underway input f w words rows out p
+abbrev pub Stands : (m : Measure) (input : List ℕ) (f : File) (w words : List ℕ) (rows : List Checkpoint) (out : List ℕ) (p : Progress) → Bool → Type 0
+Stands m input f w words rows out p true = Ended m f words out p
+Stands m input f w words rows out p false = Underway m input f w words rows out p
 
 -- A record's number, or 0.
 abbrev pub low-slot : ℕ → ℕ

@@ -10,7 +10,8 @@ use lib.ListN.{length, set}
 use borrow.Author.Tests.{ltb-true, ltb-false}
 use Rattle.words.specs.Choice.{clash}
 use Rattle.session_state.specs.declared.checkpoints.Checkpoint.{Checkpoint}
-use Rattle.path.specs.Measure.{counted}
+use Rattle.path.specs.declared.Measure.{Measure}
+use Rattle.path.specs.Measure.{measure-of}
 use Rattle.allocator.specs.declared.NodePtr.{NodePtr}
 use Rattle.spec_session.specs.File.{File, Step}
 use Rattle.spec_session.specs.Places.{StepsAt}
@@ -52,16 +53,16 @@ module _ {input : List ℕ} {f : File} {w words out : List ℕ} {p : Progress} {
     (none-open : p .quoted ≡ false) where
   pub stops-at-end : {a : StepAnswer} → a ≡ stopped-at p 0 c → Comes input (p .at) next-step.End → Onward input f w words out p c w words out a
   stops-at-end {a} is comes =
-      stops input f w words out p c none-open 0 a is (λ rows u.
+      stops input f w words out p c none-open 0 a is (λ measure rows u.
       let e = comes (u .left) (u .steps-there) in
-      ap (λ (ss : List Step). run-steps counted (length out) f ss (standing (u .past) (u .session))) e ∙ run-ends (length out) f (u .past) (u .session))
+      ap (λ (ss : List Step). run-steps (measure-of measure) (length out) f ss (standing (u .past) (u .session))) e ∙ run-ends measure (length out) f (u .past) (u .session))
 
   -- A taking with no quote open.
   pub stops-17 : {next : ℕ} {a : StepAnswer} → a ≡ stopped-at p 17 c → Comes input (p .at) (next-step.Take next) → Onward input f w words out p c w words out a
   stops-17 {next} {a} is comes =
-      stops input f w words out p c none-open 17 a is (λ rows u.
+      stops input f w words out p c none-open 17 a is (λ measure rows u.
       let e = comes (u .left) (u .steps-there) in
-      ap (λ (ss : List Step). run-steps counted (length out) f ss (standing (u .past) (u .session))) (e .1) ∙ run-none-open (length out) f (u .past) (u .session) (e .0))
+      ap (λ (ss : List Step). run-steps (measure-of measure) (length out) f ss (standing (u .past) (u .session))) (e .1) ∙ run-none-open measure (length out) f (u .past) (u .session) (e .0))
 
   module _ (quotes : Bool) (node : NodePtr) (next : ℕ) (told : Comes input (p .at) (told-add quotes node next)) where
     -- The steps that are left begin with it.
@@ -75,19 +76,19 @@ module _ {input : List ℕ} {f : File} {w words out : List ℕ} {p : Progress} {
     -- Question 9.
     stops-9 : (a : StepAnswer) → a ≡ stopped-at p 9 c → p .finished ≡ true → Onward input f w words out p c w words out a
     stops-9 a is fin =
-        stops input f w words out p c none-open 9 a is (λ rows u.
+        stops input f w words out p c none-open 9 a is (λ measure rows u.
         let e = comes (u .left) (u .steps-there) in
-        ap (λ (ss : List Step). run-steps counted (length out) f ss (standing (u .past) (u .session))) (e .1)
-        ∙ run-finished (length out) f (u .past) (u .session) quotes (node .0) (e .0)
+        ap (λ (ss : List Step). run-steps (measure-of measure) (length out) f ss (standing (u .past) (u .session))) (e .1)
+        ∙ run-finished measure (length out) f (u .past) (u .session) quotes (node .0) (e .0)
         (u .present .waiting ∙ ap (λ (b : Bool). waits b (todo-of f w (p .opens))) fin))
 
     -- Question 10.
     stops-10 : (a : StepAnswer) → a ≡ stopped-at p 10 c → p .finished ≡ false → 16 ≤ p .adds → Onward input f w words out p c w words out a
     stops-10 a is fin full =
-        stops input f w words out p c none-open 10 a is (λ rows u.
+        stops input f w words out p c none-open 10 a is (λ measure rows u.
         let e = comes (u .left) (u .steps-there) in
-        ap (λ (ss : List Step). run-steps counted (length out) f ss (standing (u .past) (u .session))) (e .1)
-        ∙ run-full (length out) f (u .past) (u .session) quotes (node .0) (e .0) (todo-of f w (p .opens))
+        ap (λ (ss : List Step). run-steps (measure-of measure) (length out) f ss (standing (u .past) (u .session))) (e .1)
+        ∙ run-full measure (length out) f (u .past) (u .session) quotes (node .0) (e .0) (todo-of f w (p .opens))
         (u .present .waiting ∙ ap (λ (b : Bool). waits b (todo-of f w (p .opens))) fin) (omega (arith, u .history .long)))
 
     -- Both questions.
@@ -135,10 +136,10 @@ module _ {input : List ℕ} {f : File} {w words out : List ℕ} {p : Progress} {
         -- A refused add.
         pub adds-off : (saved : Checkpoint) {t : Progress} → q .done ≡ true → t ≡ refusal-of quotes p q
             → Onward input f w words out p c w′ words out′ (record { state = t; saved = saved })
-        adds-off saved {t} d is rows u r-is =
+        adds-off saved {t} d is measure rows u r-is =
             let e = comes (u .left) (u .steps-there) in
             let r = refused-so quotes in (
-              stands-off input f w′ words (set rows (slot-for (p .quoted) (u .left) (p .adds)) saved) out′ t (ap (λ (x : Progress). x .done) is ∙ r .0)
+              stands-off measure input f w′ words (set rows (slot-for (p .quoted) (u .left) (p .adds)) saved) out′ t (ap (λ (x : Progress). x .done) is ∙ r .0)
                   (added-off quotes next u none-open (e .1) (e .2) (free .0) (free .1) ad d is),
               omega (arith, ap (λ (x : Progress). x .steps) is, r .1, ap (λ (x : Progress). bit (x .done)) is, ap bit (r .0), bit-most (not (p .quoted))),
             )
@@ -151,14 +152,14 @@ module _ {input : List ℕ} {f : File} {w words out : List ℕ} {p : Progress} {
         pub adds-on : {words′ : List ℕ} {saved : Checkpoint} {t : Progress} → saved ≡ record-of w p → q .done ≡ false
             → {k : Progress} → k ≡ with-quote q quotes → words′ ≡ noted-words words k → t ≡ noted-at k next
             → Onward input f w words out p c w′ words′ out′ (record { state = t; saved = saved })
-        adds-on {words′} {saved} {t} sv d {k} kept ws is rows u r-is =
+        adds-on {words′} {saved} {t} sv d {k} kept ws is measure rows u r-is =
             let e = comes (u .left) (u .steps-there) in
             let is′ : t ≡ noted-at (with-quote q quotes) next = is ∙ ap (λ (x : Progress). noted-at x next) kept in
             let ws′ : words′ ≡ noted-words words q =
             ws ∙ ap (λ (x : Progress). noted-words words x) kept in
             let s : t .steps ≡ q .steps + 1 = ap (λ (x : Progress). x .steps) is′ in (
-              stands-on input f w′ words′ (set rows (slot-for (p .quoted) (u .left) (p .adds)) saved) out′ t (ap (λ (x : Progress). x .done) is′ ∙ d)
-                  (subst (λ (x : Checkpoint). Underway input f w′ words′ (set rows (slot-for (p .quoted) (u .left) (p .adds)) x) out′ t) (sym sv)
+              stands-on measure input f w′ words′ (set rows (slot-for (p .quoted) (u .left) (p .adds)) saved) out′ t (ap (λ (x : Progress). x .done) is′ ∙ d)
+                  (subst (λ (x : Checkpoint). Underway measure input f w′ words′ (set rows (slot-for (p .quoted) (u .left) (p .adds)) x) out′ t) (sym sv)
                   (added-on quotes next u none-open (e .1) (e .2) (free .0) (free .1) ad d ws′ is′)),
               omega (arith, same-steps, bit-most (not (p .quoted))),
             )

@@ -41,12 +41,13 @@ fn add(file: &[u8], work: &mut [u32], output: &mut [u8], p: Progress, node: Node
     save_state(work, p);
     cache_update::update(work, node);
     let counts = p.counts;
+    let measure = p.measure;
     let place = Place {
         opens: p.opens,
         depth: p.depth,
         counts,
     };
-    let o = write_loop::resume(work, file, output, place, node);
+    let o = write_loop::resume(work, file, output, place, node, measure);
     progress::after_outcome(p, o)
 }
 

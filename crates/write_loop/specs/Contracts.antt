@@ -4,7 +4,9 @@ use mathlib.Core.Path.{_≡_}
 use mathlib.Core.List.{List, _∷_}
 use lib.ListN.{length, take}
 use Rattle.words.specs.Words.{at}
-use Rattle.path.specs.Measure.{counted}
+use Rattle.path.specs.declared.Measure.{Measure}
+use Rattle.path.specs.Measure.{measure-of}
+use Rattle.allocator.specs.declared.NodePtr.{NodePtr}
 use Rattle.allocator.specs.Handle.{node-of}
 use Rattle.spec_session.specs.File.{File}
 use Rattle.spec_session.specs.Unfold.{unfolded}
@@ -23,7 +25,7 @@ use Rattle.write_item.specs.declared.Put.the-variants as put-variants
 use Rattle.write_item.specs.Answers.{ItemPut}
 use Rattle.cache_entries.specs.Meaning.{bytes-named, Tables, Names}
 use Rattle.cache_entries.specs.lookup.Contracts.{PairEntry, EntryOf}
-use Rattle.search_find.specs.Contracts.{LengthOf, FindsIn}
+use Rattle.search_find.specs.Contracts.{LengthOf, Ready, FindsIn}
 use Rattle.write_place.specs.declared.Place.{Place}
 use Rattle.write_loop.specs.declared.write_turn.Next.{Next}
 use Rattle.write_loop.specs.declared.write_turn.Next.the-variants.{Parse, Close, Done, Stopped, Refused}
@@ -52,35 +54,35 @@ Fine w out (Done p) = Runs w out p 1 × (p .opens ≡ 0)
 Fine w out (Stopped p) = Runs w out p 0
 Fine w out (Refused n p) = Runs w out p 0
 
--- All that is left to write, in the definitions, with 01's measure of a path and an output of so many bytes.
-abbrev pub goes-on : Cache → (space : ℕ) → List Todo → Written → session.Outcome
-goes-on c space k s = resume (find-in counted) (room-in space) c k s
+-- All that is left to write, in the definitions, with this measure of a path and an output of so many bytes.
+abbrev pub goes-on : Measure → Cache → (space : ℕ) → List Todo → Written → session.Outcome
+goes-on m c space k s = resume (find-in (measure-of m)) (room-in space) c k s
 
 -- What the definitions make of what comes next.
-abbrev pub comes-to : File → Cache → (space : ℕ) → List ℕ → Next → Written → session.Outcome
-comes-to f c space w (Parse p h) s = goes-on c space (parse (unfolded f (h .0)) ∷ todo-of f w (p .opens)) s
-comes-to f c space w (Close p) s = goes-on c space (todo-of f w (p .opens)) s
-comes-to f c space w (Done p) s = session.done s
-comes-to f c space w (Stopped p) s = session.stopped (todo-of f w (p .opens)) s
-comes-to f c space w (Refused n p) s = session.refused n s
+abbrev pub comes-to : Measure → File → Cache → (space : ℕ) → List ℕ → Next → Written → session.Outcome
+comes-to m f c space w (Parse p h) s = goes-on m c space (parse (unfolded f (h .0)) ∷ todo-of f w (p .opens)) s
+comes-to m f c space w (Close p) s = goes-on m c space (todo-of f w (p .opens)) s
+comes-to m f c space w (Done p) s = session.done s
+comes-to m f c space w (Stopped p) s = session.stopped (todo-of f w (p .opens)) s
+comes-to m f c space w (Refused n p) s = session.refused n s
 
 -- ---- turns
 
 -- What is written is now this, and the outcome is that of what comes next.
-pub record Leads (f : File) (c : Cache) (space : ℕ) (w out : List ℕ) (r : Next) (o : session.Outcome) : Type 0 where
+pub record Leads (m : Measure) (f : File) (c : Cache) (space : ℕ) (w out : List ℕ) (r : Next) (o : session.Outcome) : Type 0 where
   pub last : Written
   pub writes : Writes f w out (place-of r .depth) (place-of r .counts) c last
-  pub same : o ≡ comes-to f c space w r last
+  pub same : o ≡ comes-to m f c space w r last
 
--- From b on, r comes next.
-pub record Turns (file w w′ out out′ : List ℕ) (b r : Next) : Type 0 where
+-- From b on, r comes next, by the measure m.
+pub record Turns (m : Measure) (file w w′ out out′ : List ℕ) (b r : Next) : Type 0 where
   pub fine : Fine w′ out′ r
   pub only : WriterOnly w w′
   pub grows : place-of b .counts .size ≤ place-of r .counts .size
   -- The bytes written before stay.
   pub before : take (place-of b .counts .size) out′ ≡ take (place-of b .counts .size) out
   pub leads : (f : File) (c : Cache) (s : Written) → Tables f w → AtomsThere file f w → Writes f w out (place-of b .depth) (place-of b .counts) c s
-      → Leads f c (length out) w′ out′ r (comes-to f c (length out) w b s)
+      → Leads m f c (length out) w′ out′ r (comes-to m f c (length out) w b s)
 
 -- How far the loop is from its end: a byte at least is written for each node, and 4,096 pairs at most are closed after it.
 abbrev pub ahead : (space : ℕ) → Next → ℕ
@@ -95,13 +97,18 @@ Falls space b r = ahead space r < ahead space b
 
 -- ---- an item
 
--- A place where the path for node h, of entry e, was looked for.
+-- A place where the path for node h, of entry e, was looked for, by some measure.
 pub record Found (w out : List ℕ) (p : Place) (h e : ℕ) (path : Path) : Type 0 where
   pub running : Runs w out p 0
   pub names : Names w (at w PAIR-COUNT) h
   pub inner : at w SENTINEL ≡ h → ⊥
   pub entry : EntryOf w h e
-  pub finds : FindsIn w w (p .depth) h e path
+  pub ready : Ready w path
+
+-- From there on, r comes next, by whichever measure the path was looked for.
+abbrev pub TurnsFound : (file w w′ out out′ : List ℕ) (p : Place) (node : NodePtr) (e : ℕ) (path : Path) → Next → Type 0
+TurnsFound file w w′ out out′ p node e path r =
+    ((m : Measure) → FindsIn m w w (p .depth) (node .0) e path → Turns m file w w′ out out′ (Parse p node) r) × Falls (length out) (Parse p node) r
 
 -- The bytes of the atom h were put into the output.
 pub record AtomPut (file w : List ℕ) (h : ℕ) (out out′ : List ℕ) (counts : Counts) (r : Put) : Type 0 where

@@ -3,6 +3,7 @@ pub mod write_turn;
 
 use allocator::NodePtr;
 use cache_entries::lookup;
+use path::Measure;
 use search_find::Path;
 use work_layout::EntryIndex;
 use write_place::Outcome;
@@ -17,7 +18,7 @@ ghost use Rattle.search_find.specs.declared.find_path.Path.the-variants.{NoPath
 ghost use Rattle.cache_entries.specs.Meaning.{Names};
 ghost use Rattle.write_loop.specs.declared.write_turn.Next.the-variants.{Parse};
 ghost use Rattle.write_place.specs.State.{AtomPlaces};
-ghost use Rattle.write_loop.specs.Contracts.{Runs, Turns, Falls, Found, ended};
+ghost use Rattle.write_loop.specs.Contracts.{Runs, Turns, TurnsFound, Falls, Found, ended};
 
 // A node for which no reference is written.
 fn write_full(
@@ -30,9 +31,8 @@ fn write_full(
 ) -> Next
     requires { ⌜ (AtomPlaces (now file) (now work)) × (Found (now work) (now output) place (node .0) (e .0) NoPath) ⌝ }
     ensures { λ r. ⌜
-        (Turns (now (file .entry)) (now (work .entry)) (now (work .exit)) (now (output .entry)) (now (output .exit))
-        (Parse place node) r)
-        × (Falls (length (now (output .entry))) (Parse place node) r) ⌝ }
+        TurnsFound (now (file .entry)) (now (work .entry)) (now (work .exit)) (now (output .entry)) (now (output .exit))
+        place node (e .0) NoPath r ⌝ }
 {
     if node.is_pair() {
         return open_pairs::open_pair(work, output, place, node, e);
@@ -42,10 +42,17 @@ fn write_full(
 }
 
 // The node that comes next is written: by a reference where one is found, or in full. The sentinel is the open place.
-fn parse(work: &mut [u32], file: &[u8], output: &mut [u8], place: Place, node: NodePtr) -> Next
+fn parse(
+    work: &mut [u32],
+    file: &[u8],
+    output: &mut [u8],
+    place: Place,
+    node: NodePtr,
+    measure: Measure,
+) -> Next
     requires { ⌜ (AtomPlaces (now file) (now work)) × (Runs (now work) (now output) place 0) × (Names (now work) (at (now work) PAIR-COUNT) (node .0)) ⌝ }
     ensures { λ r. ⌜
-        (Turns (now (file .entry)) (now (work .entry)) (now (work .exit)) (now (output .entry)) (now (output .exit))
+        (Turns measure (now (file .entry)) (now (work .entry)) (now (work .exit)) (now (output .entry)) (now (output .exit))
         (Parse place node) r)
         × (Falls (length (now (output .entry))) (Parse place node) r) ⌝ }
 {
@@ -53,7 +60,7 @@ fn parse(work: &mut [u32], file: &[u8], output: &mut [u8], place: Place, node: N
         return Next::Stopped(place);
     }
     let e = lookup::entry_of(work, node);
-    match search_find::find(work, node, e, place.depth) {
+    match search_find::find(work, node, e, place.depth, measure) {
         Path::At(slot) => write_turn::refer(work, output, place, node, e, slot),
         Path::NoPath => write_full(work, file, output, place, node, e),
     }
@@ -66,17 +73,18 @@ pub fn resume(
     output: &mut [u8],
     place: Place,
     node: NodePtr,
+    measure: Measure,
 ) -> Outcome
     requires { ⌜ (AtomPlaces (now file) (now work)) × (Runs (now work) (now output) place 0) × (Names (now work) (at (now work) PAIR-COUNT) (node .0)) ⌝ }
     ensures { λ r. ⌜
-        Turns (now (file .entry)) (now (work .entry)) (now (work .exit)) (now (output .entry)) (now (output .exit))
+        Turns measure (now (file .entry)) (now (work .entry)) (now (work .exit)) (now (output .entry)) (now (output .exit))
         (Parse place node) (ended r) ⌝ }
 {
     let mut next = Next::Parse(place, node);
     loop {
         match next {
             Next::Parse(p, h) => {
-                next = parse(work, file, output, p, h);
+                next = parse(work, file, output, p, h, measure);
             }
             Next::Close(p) => {
                 next = close_pairs::close_up(work, p);

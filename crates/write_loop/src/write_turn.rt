@@ -14,7 +14,6 @@ ghost use mathlib.Core.Path.{_≡_};
 ghost use mathlib.Core.Bool.{true};
 ghost use mathlib.Core.List.{List};
 ghost use Prim.Native.Nat.{ℕ, _<_};
-ghost use lib.ListN.{length};
 ghost use Rattle.words.specs.Words.{at};
 ghost use Rattle.allocator.specs.Handle.{node-of, is-atom};
 ghost use Rattle.spec_session.specs.Items.{atom-item};
@@ -24,10 +23,9 @@ ghost use Rattle.search_find.specs.declared.find_path.Path.the-variants.{At};
 ghost use Rattle.write_counts.specs.Counts.{Bounded};
 ghost use Rattle.write_item.specs.Answers.{ItemPut};
 ghost use Rattle.cache_entries.specs.Meaning.{Names, Whole};
-ghost use Rattle.write_loop.specs.declared.write_turn.Next.the-variants.{Parse};
 ghost use Rattle.work_layout.specs.Rows.{atom-bytes};
 ghost use Rattle.write_place.specs.State.{AtomPlaces};
-ghost use Rattle.write_loop.specs.Contracts.{Turns, Falls, Found, AtomPut, Pushes};
+ghost use Rattle.write_loop.specs.Contracts.{TurnsFound, Found, AtomPut, Pushes};
 
 // What comes next in the loop.
 pub enum Next {
@@ -105,8 +103,8 @@ pub fn refer(
     requires { ⌜ Found (now work) (now output) place (node .0) (e .0) (At slot) ⌝ }
     ensures { λ r. ⌜
         ((file : List ℕ)
-        → (Turns file (now (work .entry)) (now (work .exit)) (now (output .entry)) (now (output .exit)) (Parse place node) r)
-        × (Falls (length (now (output .entry))) (Parse place node) r)) ⌝ }
+        → TurnsFound file (now (work .entry)) (now (work .exit)) (now (output .entry)) (now (output .exit)) place node
+        (e .0) (At slot) r) ⌝ }
 {
     let item = write_reference::write_reference(work, slot, output, place.counts);
     push_value(work, place, e, item)

@@ -45,6 +45,7 @@ use denote.Triple.Walked.{goes-slice, goes-gave-slice, goes-none-slice}
 use denote.Exit.{yes}
 use Rattle.session_state.specs.declared.checkpoints.Checkpoint.{Checkpoint}
 use Rattle.session_state.proofs.checkpoints.Checkpoint as T
+use Rattle.path.specs.Measure.{counted}
 use Rattle.spec_reading.specs.Call.{reading}
 use Rattle.read_answer.specs.declared.ReadAnswer.{ReadAnswer}
 use Rattle.read_answer.specs.Answer.{slices as store-slices}
@@ -200,7 +201,7 @@ module _ {M : Type 1} (𝓤 : URA M) (H : Heap 𝓤) (A : Atoms 𝓤) (W : Given
     Ran s w w₂ cs o = result-of s w w₂ cs o ≡ the-session (x₀ .now) before
 
     abbrev Back : SessionAnswer → (w w₂ : List ℕ) (cs : List Checkpoint) (o : List ℕ) → Type 0
-    Back s w w₂ cs o = ReadsBack (x₀ .now) (result-of s w w₂ cs o)
+    Back s w w₂ cs o = ReadsBack counted (x₀ .now) (result-of s w w₂ cs o)
 
     abbrev WasRead : SessionAnswer → (w o : List ℕ) → ReadAnswer → (w₁ ps ns bs : List ℕ) → Type 0
     WasRead s w o r w₁ ps ns bs = read-result-of r w₁ ps ns bs ≡ reading (take (s .size) o) (store-slices w (x₅ .now) (x₆ .now) (x₇ .now))

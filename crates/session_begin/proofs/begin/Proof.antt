@@ -32,7 +32,7 @@ returns c =
     let l = c .before .before .long-enough in
     let known = c .before .before .before .before in
     let a = known .before .args in
-    (bytes known, begin-short (a .file .now) (a .work .now) (a .words) (a .records) (sym (l .ensures) ∙ not-true (l .result) (c .before .if1 .taken)) (c .refused .ensures))
+    (bytes known, begin-short (a .measure) (a .file .now) (a .work .now) (a .words) (a .records) (sym (l .ensures) ∙ not-true (l .result) (c .before .if1 .taken)) (c .refused .ensures))
 
 check-requires : tie.Need-check-requires
 check-requires c κs = search needs
@@ -46,14 +46,14 @@ returns-2 c =
     let known = checked .before .before .before .before in
     let a = known .before .args in
     let k = checked .check in
-    (bytes known, begin-refused (a .file .now) (a .work .now) (a .words) (a .records) (long (checked .before)) (k .result) (k .ensures) (c .before .if2 .taken) (c .refused2 .ensures))
+    (bytes known, begin-refused (a .measure) (a .file .now) (a .work .now) (a .words) (a .records) (long (checked .before)) (k .result) (k .ensures) (c .before .if2 .taken) (c .refused2 .ensures))
 
 open-requires : tie.Need-open-requires
 open-requires c κs =
     let checked = c .before .before .before in
     let a = checked .before .before .before .before .before .args in
     let k = checked .check in
-    open-asks (a .file .now) (a .work .now) (a .words) (a .records) (long (checked .before)) (k .result) (k .ensures) (c .before .if2 .left)
+    open-asks (a .measure) (a .file .now) (a .work .now) (a .words) (a .records) (long (checked .before)) (k .result) (k .ensures) (c .before .if2 .left)
 
 has-forget-requires : tie.Need-has-forget-requires
 has-forget-requires c κs = search needs
@@ -73,7 +73,7 @@ returns-3 c =
     let a = known .before .args in
     let k = checked .check in (
       bytes known,
-      begin-run (a .file .now) (a .work .now) (a .words) (a .records) (long (checked .before)) (k .result) (k .ensures) (passed .if2 .left)
+      begin-run (a .measure) (a .file .now) (a .work .now) (a .words) (a .records) (long (checked .before)) (k .result) (k .ensures) (passed .if2 .left)
           (o .last .1 .0) (o .kept .1 .0) (o .ensures) (c .before .has-forget .ensures) (c .started .ensures),
     )
 

@@ -57,7 +57,7 @@ module _ (input : List ℕ) (first : Values) where
   -- A run that was over is as it was. Any other is under way, or it has ended.
   abbrev Since : Values → Bool → Type 0
   Since m true = m ≡ first
-  Since m false = Stands input (the-file input) (m .work) (m .words) (m .rows) (take 65535 (m .out)) (m .progress) (m .progress .done)
+  Since m false = Stands (first .progress .measure) input (the-file input) (m .work) (m .words) (m .rows) (take 65535 (m .out)) (m .progress) (m .progress .done)
 
   abbrev pub Between : Values → Type 0
   Between m = Since m (first .progress .done)
@@ -67,7 +67,7 @@ module _ (input : List ℕ) (first : Values) where
     where
       go : (b : Bool) → first .progress .done ≡ b → Going input (first .work) (first .words) (first .rows) (first .out) (first .progress) b → Since first b
       go true e h = refl
-      go false e h = stands-on input (the-file input) (first .work) (first .words) (first .rows) (take 65535 (first .out)) (first .progress) e h
+      go false e h = stands-on (first .progress .measure) input (the-file input) (first .work) (first .words) (first .rows) (take 65535 (first .out)) (first .progress) e h
 
   -- A run that goes on was not over.
   was-not-over : (m : Values) → Between m → m .progress .done ≡ false → first .progress .done ≡ false
@@ -78,12 +78,12 @@ module _ (input : List ℕ) (first : Values) where
       go false d h = refl
 
   under-way : (m : Values) → Between m → m .progress .done ≡ false
-      → Underway input (the-file input) (m .work) (m .words) (m .rows) (take 65535 (m .out)) (m .progress)
+      → Underway (first .progress .measure) input (the-file input) (m .work) (m .words) (m .rows) (take 65535 (m .out)) (m .progress)
   under-way m s e =
-      under input (the-file input) (m .work) (m .words) (m .rows) (take 65535 (m .out)) (m .progress) e (subst (λ (b : Bool). Since m b) (was-not-over m s e) s)
+      under (first .progress .measure) input (the-file input) (m .work) (m .words) (m .rows) (take 65535 (m .out)) (m .progress) e (subst (λ (b : Bool). Since m b) (was-not-over m s e) s)
 
   module _ (m : Values) (s : Between m) (e : m .progress .done ≡ false) (k : ℕ) (slot : Slot input (m .progress) k) where
-    abbrev u : Underway input (the-file input) (m .work) (m .words) (m .rows) (take 65535 (m .out)) (m .progress)
+    abbrev u : Underway (first .progress .measure) input (the-file input) (m .work) (m .words) (m .rows) (take 65535 (m .out)) (m .progress)
     u = under-way m s e
 
     pub in-rows : k < length (m .rows)
@@ -96,17 +96,17 @@ module _ (input : List ℕ) (first : Values) where
     record-is = ap (λ (j : ℕ). getD (m .rows) j blank) (sym is-slot)
 
     pub ready : Ready input (the-file input) (m .work) (m .words) (take 65535 (m .out)) (m .progress) (getD (m .rows) k blank)
-    ready = record { rows = m .rows; underway = u; record-is = record-is }
+    ready = record { measure = first .progress .measure; rows = m .rows; underway = u; record-is = record-is }
 
     module _ (a : StepAnswer) (w words out : List ℕ) (st : Stepped input m k w words out a) where
       pub goes-on : Between (after-step m k a w words out)
       goes-on =
           subst (λ (b : Bool). Since (after-step m k a w words out) b) (sym (was-not-over m s e))
-          (subst (λ (j : ℕ). Stands input (the-file input) w words (set (m .rows) j (a .saved)) (take 65535 out) (a .state) (a .state .done)) (sym is-slot)
-          (st (m .rows) u record-is .0))
+          (subst (λ (j : ℕ). Stands (first .progress .measure) input (the-file input) w words (set (m .rows) j (a .saved)) (take 65535 out) (a .state) (a .state .done)) (sym is-slot)
+          (st (first .progress .measure) (m .rows) u record-is .0))
 
       pub falls : ahead (a .state) < ahead (m .progress)
-      falls = omega (arith, st (m .rows) u record-is .1, u .few-steps, ap bit e, bit-most (not (m .progress .quoted)))
+      falls = omega (arith, st (first .progress .measure) (m .rows) u record-is .1, u .few-steps, ap bit e, bit-most (not (m .progress .quoted)))
 
   -- The run is over.
   pub at-end : (m : Values) → Between m → m .progress .done ≡ true
@@ -122,4 +122,4 @@ module _ (input : List ℕ) (first : Values) where
         ap (λ (x : Values). x .out) h,
         ap (λ (x : Values). x .progress) h,
       )
-      go false h = ended input (the-file input) (m .work) (m .words) (m .rows) (take 65535 (m .out)) (m .progress) e h
+      go false h = ended (first .progress .measure) input (the-file input) (m .work) (m .words) (m .rows) (take 65535 (m .out)) (m .progress) e h

@@ -5,11 +5,12 @@ use Prim.Native.Nat.{ℕ}
 use native.Mathlib.Omega.{arith}
 use mathlib.Core.Path.{_≡_, sym, _∙_}
 use mathlib.Core.List.{List}
+use lib.ListN.{length}
 use Rattle.search_find.specs.declared.find_path.Path.{Path}
 use Rattle.write_loop.specs.declared.write_turn.Next.{Next}
 use Rattle.write_loop.specs.declared.write_turn.Next.the-variants.{Parse}
-use Rattle.write_loop.specs.Contracts.{Turns, Found}
-use Rattle.write_loop.proofs.write_turn.Turning.{turns-stop, search-places, after-search, found-there}
+use Rattle.write_loop.specs.Contracts.{Turns, Falls, Found, TurnsFound}
+use Rattle.write_loop.proofs.write_turn.Turning.{turns-stop, search-places, after-search, found-there, finds-there}
 use borrow.Author.Needs.{needs}
 use Rattle.write_loop.proofs.parse.Statement.{statement}
 use Rattle.write_loop.proofs.parse.Tie as tie
@@ -21,20 +22,32 @@ Searched = tie.After-find
 abbrev start : Searched → tie.Start
 start x = x .before .before .before .before .before .before .before .before .before .before
 
+-- The node is next.
+abbrev begun : Searched → Next
+begun x = Parse (start x .args .place) (start x .args .node)
+
 found : (x : Searched) (r : Path) → x .find .result ≡ r
     → Found (x .find .last .0) (start x .args .output .now) (start x .args .place) (start x .args .node .0) (x .before .before .entry-of .result .0) r
 found x r q =
     let s = start x in
     let f = rw q at (x .find .ensures) in
     found-there (x .find .kept .0) (f .kept) (s .args .place) (s .pre .1) (s .args .node) (s .pre .2)
-    (eqb-false _ (s .args .node .0) (sym (x .before .before .before .before .before .is-sentinel .ensures) ∙ x .before .before .before .before .if1 .left)) (x .before .before .entry-of .ensures) f
+    (eqb-false _ (s .args .node .0) (sym (x .before .before .before .before .before .is-sentinel .ensures) ∙ x .before .before .before .before .if1 .left))
+    (x .before .before .entry-of .ensures) (f .ready)
 
-turns : (x : Searched) {w₂ out₂ : List ℕ} {r : Next}
-    → Turns (start x .args .file .now) (x .find .last .0) w₂ (start x .args .output .now) out₂ (Parse (start x .args .place) (start x .args .node)) r
-    → Turns (start x .args .file .now) (start x .args .work .now) w₂ (start x .args .output .now) out₂ (Parse (start x .args .place) (start x .args .node)) r
-turns x y =
+turns : (x : Searched) (path : Path) → x .find .result ≡ path → {w₂ out₂ : List ℕ} {r : Next}
+    → TurnsFound (start x .args .file .now) (x .find .last .0) w₂ (start x .args .output .now) out₂ (start x .args .place) (start x .args .node)
+    (x .before .before .entry-of .result .0) path r
+    → (Turns (start x .args .measure) (start x .args .file .now) (start x .args .work .now) w₂ (start x .args .output .now) out₂ (begun x) r)
+    × Falls (length (start x .args .output .now)) (begun x) r
+turns x path q y =
     let s = start x in
-    after-search (x .find .kept .0) (x .find .ensures .kept) (s .args .place) (s .pre .1) (s .args .node) (s .pre .2) y
+    let f = rw q at (x .find .ensures) in
+    let k = x .find .kept .0 in (
+      after-search k (f .kept) (s .args .place) (s .pre .1) (s .args .node) (s .pre .2)
+          (y .0 (s .args .measure) (finds-there k (f .kept) (s .args .place) (s .pre .1) (s .args .node) (s .pre .2) f)),
+      y .1,
+    )
 
 is-sentinel-requires : tie.Need-is-sentinel-requires
 is-sentinel-requires c κs = search needs
@@ -79,8 +92,7 @@ returns-2 : tie.Need-returns-2
 returns-2 c =
     let after = c .before .before .before .before in
     let x = after .before .before .before .before .before .before .before .before in
-    let r = after .refer .ensures (start x .args .file .now) in
-    (turns x (r .0), r .1)
+    turns x _ (after .before .before .before .before .slot .given .1) (after .refer .ensures (start x .args .file .now))
 
 same-length-4 : tie.Need-same-length-4
 same-length-4 c = search needs
@@ -91,8 +103,7 @@ same-length-5 c = search needs
 returns-3 : tie.Need-returns-3
 returns-3 c =
     let after = c .before .before .before .before in
-    let r = after .write-full .ensures in
-    (turns (after .before .before .before .before .before .before .before) (r .0), r .1)
+    turns (after .before .before .before .before .before .before .before) _ (after .before .before .before .enum-told .given .1) (after .write-full .ensures)
 
 pub parse-spec : {M : Type 1} → statement M
 parse-spec =

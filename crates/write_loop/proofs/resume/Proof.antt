@@ -9,10 +9,10 @@ use Rattle.write_loop.proofs.resume.Statement.{statement}
 use Rattle.write_loop.proofs.resume.Tie as tie
 
 abbrev Inv-loop : tie.InvT-loop
-Inv-loop work₀ file output₀ next₀ work output next = Looping file work₀ output₀ next₀ work output next
+Inv-loop work₀ file output₀ measure next₀ work output next = Looping measure file work₀ output₀ next₀ work output next
 
 abbrev μ-loop : tie.MeasureT-loop
-μ-loop work₀ file output₀ next₀ work output next = ahead (length output) next
+μ-loop work₀ file output₀ measure next₀ work output next = ahead (length output) next
 
 loop-holds : tie.Need-loop-holds Inv-loop μ-loop
 loop-holds c = let s = c .before .before .before in loop-starts (s .args .place) (s .args .node) (s .pre .0) (s .pre .1) (s .pre .2)
@@ -54,7 +54,7 @@ loop-less-2 c =
     let k = at-close .before .before .loop in
     let s = at-close .before .before .before .before .before .before in
     let f = fine-now (at-close .next2 .given .1) (k .inv) in
-    loop-falls (closed .close-up .result) (k .output) (k .output) (at-close .next2 .given .1) refl (closed .close-up .ensures (s .args .file .now) (k .output) f .1)
+    loop-falls (closed .close-up .result) (k .output) (k .output) (at-close .next2 .given .1) refl (closed .close-up .ensures (s .args .measure) (s .args .file .now) (k .output) f .1)
 
 loop-again-2 : tie.Need-loop-again-2 Inv-loop μ-loop
 loop-again-2 c =
@@ -63,7 +63,7 @@ loop-again-2 c =
     let k = at-close .before .before .loop in
     let s = at-close .before .before .before .before .before .before in
     let f = fine-now (at-close .next2 .given .1) (k .inv) in
-    loop-turns (at-close .next2 .given .1) (k .inv) (closed .close-up .kept .0) refl (closed .close-up .ensures (s .args .file .now) (k .output) f .0)
+    loop-turns (at-close .next2 .given .1) (k .inv) (closed .close-up .kept .0) refl (closed .close-up .ensures (s .args .measure) (s .args .file .now) (k .output) f .0)
 
 enum-known-next-3 : tie.Need-enum-known-next-3 Inv-loop μ-loop
 enum-known-next-3 c = search needs

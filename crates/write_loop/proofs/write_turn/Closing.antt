@@ -6,7 +6,8 @@ use mathlib.Core.List.{List, _∷_}
 use native.Mathlib.Omega.{arith}
 use lib.ListN.{length, set, length-set}
 use Rattle.words.specs.Words.{at}
-use Rattle.path.specs.Measure.{counted}
+use Rattle.path.specs.declared.Measure.{Measure}
+use Rattle.path.specs.Measure.{measure-of}
 use Rattle.allocator.specs.declared.NodePtr.{NodePtr}
 use Rattle.spec_session.specs.File.{File}
 use Rattle.spec_session.specs.Unfold.{unfolded}
@@ -32,9 +33,9 @@ use Rattle.write_loop.proofs.write_turn.Values.{push-beside, push-marks
 
 -- ---- no pair is open
 
-pub done-turns : (w : List ℕ) (p : Place) → p .opens ≡ 0 → (file out : List ℕ) → Runs w out p 1
-    → (Turns file w w out out (Close p) (Done p)) × Falls (length out) (Close p) (Done p)
-done-turns w p q file out run = (
+pub done-turns : (w : List ℕ) (p : Place) → p .opens ≡ 0 → (m : Measure) (file out : List ℕ) → Runs w out p 1
+    → (Turns m file w w out out (Close p) (Done p)) × Falls (length out) (Close p) (Done p)
+done-turns w p q m file out run = (
   record {
     fine = (run, q);
     only = only-same w;
@@ -45,8 +46,8 @@ done-turns w p q file out run = (
           last = s;
           writes = wr;
           same =
-              ap (λ (n : ℕ). goes-on c (length out) (todo-of f w n) s) q ∙ ap (λ (k : List Todo). goes-on c (length out) k s) (todo-none f w)
-              ∙ turn-done (find-in counted) (room-in (length out)) c s;
+              ap (λ (n : ℕ). goes-on m c (length out) (todo-of f w n) s) q ∙ ap (λ (k : List Todo). goes-on m c (length out) k s) (todo-none f w)
+              ∙ turn-done (find-in (measure-of m)) (room-in (length out)) c s;
         };
   },
   omega arith,
@@ -119,10 +120,10 @@ module _ (w : List ℕ) (p : Place) (st : Standing w (p .opens) (p .depth) 1) (n
         (names-grow w (v / 2) (at w PAIR-COUNT) (right .0) (omega (arith, innermost-low))
         (subst (λ (x : ℕ). Names w (v / 2) x) (sym there) (wh .handles .rights (v / 2) innermost-low)))
 
-    pub right-turns : (file out : List ℕ) → Runs w out p 1
-        → (Turns file w (set w (OPEN + n) (at w (OPEN + n) - 1)) out out (Close p) (Parse p right)) × Falls (length out) (Close p) (Parse p right)
+    pub right-turns : (m : Measure) (file out : List ℕ) → Runs w out p 1
+        → (Turns m file w (set w (OPEN + n) (at w (OPEN + n) - 1)) out out (Close p) (Parse p right)) × Falls (length out) (Close p) (Parse p right)
     unfolding w′ v
-    right-turns file out run = (
+    right-turns m file out run = (
       record {
         fine = (record { stands = right-standing; fits = run .fits; bounded = run .bounded; short = run .short }, right-names);
         only = store-only w n (v - 1) few (st .whole);
@@ -133,9 +134,9 @@ module _ (w : List ℕ) (p : Place) (st : Standing w (p .opens) (p .depth) 1) (n
               last = s;
               writes = store-writes w n (v - 1) few (st .whole) f c out (p .depth) (p .counts) s (st .stacked) t wr;
               same =
-                  ap (λ (k : List Todo). goes-on c (length out) k s) (todo-is f ∙ left-odd f w v (todo-of f w n) odd)
-                  ∙ ap (λ (k : List Todo). goes-on c (length out) (parse (unfolded f (at w (PAIRS + 2 * (v / 2) + 1))) ∷ k) s) (sym (right-todo f))
-                  ∙ ap (λ (x : ℕ). goes-on c (length out) (parse (unfolded f x) ∷ todo-of f w′ (p .opens)) s) (sym there);
+                  ap (λ (k : List Todo). goes-on m c (length out) k s) (todo-is f ∙ left-odd f w v (todo-of f w n) odd)
+                  ∙ ap (λ (k : List Todo). goes-on m c (length out) (parse (unfolded f (at w (PAIRS + 2 * (v / 2) + 1))) ∷ k) s) (sym (right-todo f))
+                  ∙ ap (λ (x : ℕ). goes-on m c (length out) (parse (unfolded f x) ∷ todo-of f w′ (p .opens)) s) (sym there);
             };
       },
       omega arith,
@@ -216,27 +217,27 @@ module _ (w : List ℕ) (p : Place) (st : Standing w (p .opens) (p .depth) 1) (n
       close-standing =
           standing-stays w w′ both n (p .depth) 2 outer-two (p .depth - 1) 1 (rw one-less at (cl .stacks .pushed .stacked)) (omega (arith, two-there))
 
-      close-same : (f : File) (c : Cache) (out : List ℕ) (s : Written) → Tables f w → Writes f w out (p .depth) (p .counts) c s
-          → goes-on c (length out) (todo-of f w (p .opens)) s ≡ goes-on c (length out) (todo-of f w′ n) (closed c s)
+      close-same : (m : Measure) (f : File) (c : Cache) (out : List ℕ) (s : Written) → Tables f w → Writes f w out (p .depth) (p .counts) c s
+          → goes-on m c (length out) (todo-of f w (p .opens)) s ≡ goes-on m c (length out) (todo-of f w′ n) (closed c s)
       unfolding mid i
-      close-same f c out s t wr =
+      close-same m f c out s t wr =
           let k = todo-of f w n in
-          ap (λ (j : List Todo). goes-on c (length out) j s) (todo-is f ∙ left-even f w (at w (OPEN + n)) k even)
-          ∙ turn-close (find-in counted) (room-in (length out)) c i k s
-          ∙ ap (λ (x : ℕ). goes-on c (length out) k (push c x (record { stack = pop2 (s .stack); marked = s .marked; items = s .items })))
+          ap (λ (j : List Todo). goes-on m c (length out) j s) (todo-is f ∙ left-even f w (at w (OPEN + n)) k even)
+          ∙ turn-close (find-in (measure-of m)) (room-in (length out)) c i k s
+          ∙ ap (λ (x : ℕ). goes-on m c (length out) k (push c x (record { stack = pop2 (s .stack); marked = s .marked; items = s .items })))
           (cl .entry-is .is f c (tables-mid f t) (holds-mid f c t (wr .cache)))
-          ∙ ap (λ (j : List Todo). goes-on c (length out) j (closed c s)) (sym (todo-stays w w′ both n (p .depth) 2 outer-two f))
+          ∙ ap (λ (j : List Todo). goes-on m c (length out) j (closed c s)) (sym (todo-stays w w′ both n (p .depth) 2 outer-two f))
 
-      pub close-turns : (file out : List ℕ) → Runs w out p 1
-          → (Turns file w w′ out out (Close p) (Close (record { opens = n; depth = p .depth - 1; counts = p .counts })))
+      pub close-turns : (m : Measure) (file out : List ℕ) → Runs w out p 1
+          → (Turns m file w w′ out out (Close p) (Close (record { opens = n; depth = p .depth - 1; counts = p .counts })))
           × Falls (length out) (Close p) (Close (record { opens = n; depth = p .depth - 1; counts = p .counts }))
-      close-turns file out run = (
+      close-turns m file out run = (
         record {
           fine = record { stands = close-standing; fits = run .fits; bounded = run .bounded; short = run .short };
           only = beside-only w w′ both;
           grows = omega arith;
           before = refl;
-          leads = λ f c s t th wr. record { last = closed c s; writes = close-writes f c out s t wr; same = close-same f c out s t wr };
+          leads = λ f c s t th wr. record { last = closed c s; writes = close-writes f c out s t wr; same = close-same m f c out s t wr };
         },
         omega (arith, is),
       )
@@ -266,13 +267,13 @@ module _ {w : List ℕ} {p : Place} {v i : ℕ} (o : Innermost w p v i) where
   pub pair-few : i < 1024
   pair-few = rw number-is at (innermost-few w p (o .stands) (p .opens - 1) more)
 
-  pub goes-right : v % 2 ≡ 1 → (right : NodePtr) → right .0 ≡ at w (PAIRS + 2 * i + 1) → (file out : List ℕ) → Runs w out p 1
-      → (Turns file w (set w (OPEN + (p .opens - 1)) (v - 1)) out out (Close p) (Parse p right)) × Falls (length out) (Close p) (Parse p right)
-  goes-right odd right there file out run =
+  pub goes-right : v % 2 ≡ 1 → (right : NodePtr) → right .0 ≡ at w (PAIRS + 2 * i + 1) → (m : Measure) (file out : List ℕ) → Runs w out p 1
+      → (Turns m file w (set w (OPEN + (p .opens - 1)) (v - 1)) out out (Close p) (Parse p right)) × Falls (length out) (Close p) (Parse p right)
+  goes-right odd right there m file out run =
       let n = p .opens - 1 in
-      subst (λ (x : ℕ). (Turns file w (set w (OPEN + n) (x - 1)) out out (Close p) (Parse p right)) × Falls (length out) (Close p) (Parse p right)) (sym (o .word))
+      subst (λ (x : ℕ). (Turns m file w (set w (OPEN + n) (x - 1)) out out (Close p) (Parse p right)) × Falls (length out) (Close p) (Parse p right)) (sym (o .word))
       (right-turns w p (o .stands) n more (ap (λ (x : ℕ). x % 2) (sym (o .word)) ∙ odd) right
-      (there ∙ ap (λ (x : ℕ). at w (PAIRS + 2 * x + 1)) (sym number-is)) file out run)
+      (there ∙ ap (λ (x : ℕ). at w (PAIRS + 2 * x + 1)) (sym number-is)) m file out run)
 
   module _ (even : v % 2 ≡ 1 → ⊥) where
     not-odd : at w (OPEN + (p .opens - 1)) % 2 ≡ 1 → ⊥
@@ -281,12 +282,12 @@ module _ {w : List ℕ} {p : Place} {v i : ℕ} (o : Innermost w p v i) where
     pub values-there : 2 ≤ p .depth
     values-there = two-there w p (o .stands) (p .opens - 1) more not-odd
 
-    pub closes-one : {w′ : List ℕ} → length w′ ≡ length w → Closes w w′ (p .depth) i → (file out : List ℕ) → Runs w out p 1
-        → (Turns file w w′ out out (Close p) (Close (record { opens = p .opens - 1; depth = p .depth - 1; counts = p .counts })))
+    pub closes-one : {w′ : List ℕ} → length w′ ≡ length w → Closes w w′ (p .depth) i → (m : Measure) (file out : List ℕ) → Runs w out p 1
+        → (Turns m file w w′ out out (Close p) (Close (record { opens = p .opens - 1; depth = p .depth - 1; counts = p .counts })))
         × Falls (length out) (Close p) (Close (record { opens = p .opens - 1; depth = p .depth - 1; counts = p .counts }))
-    closes-one {w′} len cl file out run =
+    closes-one {w′} len cl m file out run =
         close-turns w p (o .stands) (p .opens - 1) more not-odd w′ len
-        (subst (λ (x : ℕ). Closes w w′ (p .depth) x) (sym number-is) cl) file out run
+        (subst (λ (x : ℕ). Closes w w′ (p .depth) x) (sym number-is) cl) m file out run
 
 -- Two entries popped leave the words whole.
 module _ {w w′ : List ℕ} {d : ℕ} (len : length w′ ≡ length w) (pop : PoppedTwo w w′ d) (wh : Whole w) where

@@ -5,6 +5,7 @@ use mathlib.Core.Path.{_≡_, refl, sym, _∙_, subst}
 use mathlib.Core.List.{List}
 use lib.ListN.{length}
 use Rattle.words.specs.Words.{at}
+use Rattle.path.specs.declared.Measure.{Measure}
 use Rattle.allocator.specs.declared.NodePtr.{NodePtr}
 use Rattle.work_layout.specs.Layout.{PAIR-COUNT}
 use Rattle.cache_entries.specs.Meaning.{Names, Whole}
@@ -17,23 +18,23 @@ use Rattle.write_loop.proofs.write_turn.Frames.{places-stay}
 use Rattle.write_loop.proofs.write_turn.Turning.{turns-none, turns-then}
 
 -- From `first`, the loop has come to `next`.
-pub record Looping (file w₀ out₀ : List ℕ) (first : Next) (w out : List ℕ) (next : Next) : Type 0 where
+pub record Looping (m : Measure) (file w₀ out₀ : List ℕ) (first : Next) (w out : List ℕ) (next : Next) : Type 0 where
   pub whole : Whole w₀
   pub places : AtomPlaces file w₀
   pub long : length w ≡ length w₀
   pub space : length out ≡ length out₀
-  pub turns : Turns file w₀ w out₀ out first next
+  pub turns : Turns m file w₀ w out₀ out first next
 
-pub loop-starts : {file w out : List ℕ} (p : Place) (h : NodePtr) → AtomPlaces file w → Runs w out p 0 → Names w (at w PAIR-COUNT) (h .0)
-    → Looping file w out (Parse p h) w out (Parse p h)
-loop-starts {file} {w} {out} p h a run n =
-    record { whole = run .stands .whole; places = a; long = refl; space = refl; turns = turns-none file w out (Parse p h) (run, n) }
+pub loop-starts : {m : Measure} {file w out : List ℕ} (p : Place) (h : NodePtr) → AtomPlaces file w → Runs w out p 0 → Names w (at w PAIR-COUNT) (h .0)
+    → Looping m file w out (Parse p h) w out (Parse p h)
+loop-starts {m} {file} {w} {out} p h a run n =
+    record { whole = run .stands .whole; places = a; long = refl; space = refl; turns = turns-none m file w out (Parse p h) (run, n) }
 
-pub loop-turns : {file w₀ out₀ : List ℕ} {first : Next} {w out : List ℕ} {next b : Next} {w′ out′ : List ℕ} {r : Next}
-    → next ≡ b → Looping file w₀ out₀ first w out next → length w′ ≡ length w → length out′ ≡ length out → Turns file w w′ out out′ b r
-    → Looping file w₀ out₀ first w′ out′ r
-loop-turns {file} {w₀} {out₀} {first} {w} {out} {next} {b} {w′} {out′} {r} q k lw lo t =
-    let x = subst (λ (y : Next). Turns file w₀ w out₀ out first y) q (k .turns) in
+pub loop-turns : {m : Measure} {file w₀ out₀ : List ℕ} {first : Next} {w out : List ℕ} {next b : Next} {w′ out′ : List ℕ} {r : Next}
+    → next ≡ b → Looping m file w₀ out₀ first w out next → length w′ ≡ length w → length out′ ≡ length out → Turns m file w w′ out out′ b r
+    → Looping m file w₀ out₀ first w′ out′ r
+loop-turns {m} {file} {w₀} {out₀} {first} {w} {out} {next} {b} {w′} {out′} {r} q k lw lo t =
+    let x = subst (λ (y : Next). Turns m file w₀ w out₀ out first y) q (k .turns) in
     let wh = k .whole in
     record {
       whole = k .whole;
@@ -44,15 +45,15 @@ loop-turns {file} {w₀} {out₀} {first} {w} {out} {next} {b} {w′} {out′} {
     }
 
 -- What the next turn may rely on.
-module _ {file w₀ out₀ : List ℕ} {first : Next} {w out : List ℕ} {next b : Next} (q : next ≡ b) (k : Looping file w₀ out₀ first w out next) where
+module _ {m : Measure} {file w₀ out₀ : List ℕ} {first : Next} {w out : List ℕ} {next b : Next} (q : next ≡ b) (k : Looping m file w₀ out₀ first w out next) where
   pub fine-now : Fine w out b
   fine-now = subst (Fine w out) q (k .turns .fine)
 
   pub places-now : AtomPlaces file w
   places-now = places-stay w₀ w (k .long) (k .turns .only) (k .whole) file (k .places)
 
-  pub loop-ends : Turns file w₀ w out₀ out first b
-  loop-ends = subst (λ (y : Next). Turns file w₀ w out₀ out first y) q (k .turns)
+  pub loop-ends : Turns m file w₀ w out₀ out first b
+  loop-ends = subst (λ (y : Next). Turns m file w₀ w out₀ out first y) q (k .turns)
 
 -- The loop falls.
 pub loop-falls : {next b : Next} (r : Next) (out out′ : List ℕ) → next ≡ b → length out′ ≡ length out → Falls (length out) b r

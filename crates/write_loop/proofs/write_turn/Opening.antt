@@ -12,7 +12,8 @@ use borrow.Author.Tests.{lt-ltb, le-ltb}
 use Rattle.allocator.specs.HandleLaws.{is-pair-handle, pair-of-index}
 use Rattle.words.specs.Choice.{by-cond}
 use Rattle.words.specs.Words.{at}
-use Rattle.path.specs.Measure.{counted}
+use Rattle.path.specs.declared.Measure.{Measure}
+use Rattle.path.specs.Measure.{measure-of}
 use Rattle.allocator.specs.declared.NodePtr.{NodePtr}
 use Rattle.allocator.specs.Handle.{pair, node-of, index-of, is-pair}
 use Rattle.spec_session.specs.File.{File}
@@ -31,12 +32,13 @@ use Rattle.write_item.specs.Answers.{ItemPut}
 use Rattle.write_item.proofs.Counting.{put-none}
 use Rattle.cache_entries.specs.Meaning.{Tables, Names}
 use Rattle.cache_entries.proofs.Entering.{names-grow, pair-low, is-node}
+use Rattle.search_find.specs.Contracts.{FindsIn}
 use Rattle.write_place.specs.declared.Place.{Place}
 use Rattle.write_loop.specs.declared.write_turn.Next.{Next}
 use Rattle.write_loop.specs.declared.write_turn.Next.the-variants.{Parse, Refused}
 use Rattle.write_place.specs.State.{todo-of, Standing, Writes}
 use Rattle.write_place.proofs.Sizes.{size-written}
-use Rattle.write_loop.specs.Contracts.{goes-on, Turns, Falls, Found}
+use Rattle.write_loop.specs.Contracts.{goes-on, Turns, Falls, Found, TurnsFound}
 use Rattle.write_loop.proofs.write_turn.Frames.{only-same, pairs-stay, names-stay, pairs-few}
 use Rattle.write_loop.proofs.write_turn.Items.{put-there, taken-before, running-more, counts-written, bytes-written, room-there, room-gone}
 use Rattle.write_loop.proofs.write_turn.Values.{found-is, pair-is}
@@ -73,20 +75,21 @@ module _ {w out : List ℕ} {p : Place} (h : NodePtr) {e : ℕ} (fo : Found w ou
   sides f k = parse (unfolded f (at w (PAIRS + 2 * number))) ∷ parse (unfolded f (at w (PAIRS + 2 * number + 1))) ∷ close number ∷ k
 
   -- The equation of a pair in full.
-  in-full : (f : File) (c : Cache) (s : Written) → Tables f w → Writes f w out (p .depth) (p .counts) c s → (k : List Todo)
-      → goes-on c (length out) (parse (unfolded f (h .0)) ∷ k) s
-      ≡ and-then (put-if (room-in (length out) k (s .items) cons-item) cons-item s) (goes-on c (length out) (sides f k))
+  in-full : (m : Measure) → FindsIn m w w (p .depth) (h .0) e NoPath → (f : File) (c : Cache) (s : Written) → Tables f w → Writes f w out (p .depth) (p .counts) c s → (k : List Todo)
+      → goes-on m c (length out) (parse (unfolded f (h .0)) ∷ k) s
+      ≡ and-then (put-if (room-in (length out) k (s .items) cons-item) cons-item s) (goes-on m c (length out) (sides f k))
   unfolding number
-  in-full f c s t wr k =
+  in-full m finds f c s t wr k =
       let i = index-of (node-of (h .0)) in
-      ap (λ (u : Unfolded). goes-on c (length out) (parse u ∷ k) s) (is-node w (h .0) i (fo .running .stands .whole) (fo .names) (fo .inner) is-number f t)
-      ∙ turn-pair (find-in counted) (room-in (length out)) c i (unfolded f (at w (PAIRS + 2 * i))) (unfolded f (at w (PAIRS + 2 * i + 1))) k s
-      (ap (λ (g : ℕ). find-in counted c (s .marked) (s .stack) g (pair-entry c i)) (sym (is-pair-handle (h .0) i is-number))
-      ∙ found-is fo t wr (pair-is fo t wr i is-number))
+      ap (λ (u : Unfolded). goes-on m c (length out) (parse u ∷ k) s) (is-node w (h .0) i (fo .running .stands .whole) (fo .names) (fo .inner) is-number f t)
+      ∙ turn-pair (find-in (measure-of m)) (room-in (length out)) c i (unfolded f (at w (PAIRS + 2 * i))) (unfolded f (at w (PAIRS + 2 * i + 1))) k s
+      (ap (λ (g : ℕ). find-in (measure-of m) c (s .marked) (s .stack) g (pair-entry c i)) (sym (is-pair-handle (h .0) i is-number))
+      ∙ found-is finds t wr (pair-is fo t wr i is-number))
 
   refused : (file : List ℕ) (n : ℕ) → ((f : File) (c : Cache) (s : Written) → Writes f w out (p .depth) (p .counts) c s
-      → room-in (length out) (todo-of f w (p .opens)) (s .items) cons-item ≡ suc n) → Turns file w w out out (Parse p h) (Refused (suc n) p)
-  refused file n room =
+      → room-in (length out) (todo-of f w (p .opens)) (s .items) cons-item ≡ suc n)
+      → (m : Measure) → FindsIn m w w (p .depth) (h .0) e NoPath → Turns m file w w out out (Parse p h) (Refused (suc n) p)
+  refused file n room m finds =
       record {
         fine = fo .running;
         only = only-same w;
@@ -98,13 +101,13 @@ module _ {w out : List ℕ} {p : Place} (h : NodePtr) {e : ℕ} (fo : Found w ou
               last = s;
               writes = wr;
               same =
-                  in-full f c s t wr k
-                  ∙ ap (λ (x : ℕ). and-then (put-if x cons-item s) (goes-on c (length out) (sides f k))) (room f c s wr);
+                  in-full m finds f c s t wr k
+                  ∙ ap (λ (x : ℕ). and-then (put-if x cons-item s) (goes-on m c (length out) (sides f k))) (room f c s wr);
             };
       }
 
   -- Question 12.
-  pub deep-turns : 4096 ≤ p .opens → (file : List ℕ) → (Turns file w w out out (Parse p h) (Refused 12 p)) × Falls (length out) (Parse p h) (Refused 12 p)
+  pub deep-turns : 4096 ≤ p .opens → (file : List ℕ) → TurnsFound file w w out out p h e NoPath (Refused 12 p)
   deep-turns q file =
       (refused file 11 (λ f c s wr. rw (open-count f w (p .opens), lt-ltb 4095 (p .opens) (omega arith))), omega arith)
 
@@ -113,21 +116,21 @@ module _ {w out : List ℕ} {p : Place} (h : NodePtr) {e : ℕ} (fo : Found w ou
     not-deep f = rw (open-count f w (p .opens), le-ltb 4095 (p .opens) (omega arith))
 
     -- Question 13.
-    pub lacks-turns : ItemPut out out′ (p .counts) cons-item item.Full → (file : List ℕ)
-        → (Turns file w w out out′ (Parse p h) (Refused 13 p)) × Falls (length out) (Parse p h) (Refused 13 p)
+    pub lacks-turns : ItemPut out out′ (p .counts) cons-item item.Full → (file : List ℕ) → TurnsFound file w w out out′ p h e NoPath (Refused 13 p)
     lacks-turns a file =
         let n = put-none out out′ (p .counts .size) (item-bytes cons-item) (a .bytes) in (
-          subst (λ (x : List ℕ). Turns file w w out x (Parse p h) (Refused 13 p)) (sym (n .1))
-              (refused file 12 (λ f c s wr. room-gone (length out) (todo-of f w (p .opens)) (s .items) cons-item (not-deep f) (omega (arith, n .0, size-written wr)))),
+          λ m finds.
+              subst (λ (x : List ℕ). Turns m file w w out x (Parse p h) (Refused 13 p)) (sym (n .1))
+              (refused file 12 (λ f c s wr. room-gone (length out) (todo-of f w (p .opens)) (s .items) cons-item (not-deep f) (omega (arith, n .0, size-written wr))) m finds),
           omega arith,
         )
 
-    module _ (m : Counts) (l : NodePtr) (left : l .0 ≡ at w (PAIRS + 2 * index-of (node-of (h .0)))) (a : ItemPut out out′ (p .counts) cons-item (item.Next m)) where
+    module _ (n : Counts) (l : NodePtr) (left : l .0 ≡ at w (PAIRS + 2 * index-of (node-of (h .0)))) (a : ItemPut out out′ (p .counts) cons-item (item.Next n)) where
       w′ : List ℕ
       w′ = set w (OPEN + p .opens) (number * 2 + 1)
 
       after : Place
-      after = record { opens = p .opens + 1; depth = p .depth; counts = m }
+      after = record { opens = p .opens + 1; depth = p .depth; counts = n }
 
       abbrev with-mark : Written → Written
       with-mark s = record { stack = s .stack; marked = s .marked; items = s .items ++ cons-item ∷ [] }
@@ -149,7 +152,7 @@ module _ {w out : List ℕ} {p : Place} (h : NodePtr) {e : ℕ} (fo : Found w ou
           ∙ ap (λ (x : ℕ). parse (unfolded f x) ∷ close number ∷ k)
           (store-only w (p .opens) v shallow (fo .running .stands .whole) .low (PAIRS + 2 * number + 1) (omega arith))
 
-      opened-writes : (f : File) (c : Cache) (s : Written) → Tables f w → Writes f w out (p .depth) (p .counts) c s → Writes f w′ out′ (p .depth) m c (with-mark s)
+      opened-writes : (f : File) (c : Cache) (s : Written) → Tables f w → Writes f w out (p .depth) (p .counts) c s → Writes f w′ out′ (p .depth) n c (with-mark s)
       unfolding w′
       opened-writes f c s t wr =
           let y =
@@ -162,17 +165,18 @@ module _ {w out : List ℕ} {p : Place} (h : NodePtr) {e : ℕ} (fo : Found w ou
             bytes-are = bytes-written a (s .items) (wr .bytes-are);
           }
 
-      opened-same : (f : File) (c : Cache) (s : Written) → Tables f w → Writes f w out (p .depth) (p .counts) c s
-          → goes-on c (length out) (parse (unfolded f (h .0)) ∷ todo-of f w (p .opens)) s
-          ≡ goes-on c (length out) (parse (unfolded f (l .0)) ∷ todo-of f w′ (p .opens + 1)) (with-mark s)
+      opened-same : (m : Measure) → FindsIn m w w (p .depth) (h .0) e NoPath → (f : File) (c : Cache) (s : Written) → Tables f w
+          → Writes f w out (p .depth) (p .counts) c s
+          → goes-on m c (length out) (parse (unfolded f (h .0)) ∷ todo-of f w (p .opens)) s
+          ≡ goes-on m c (length out) (parse (unfolded f (l .0)) ∷ todo-of f w′ (p .opens + 1)) (with-mark s)
       unfolding number
-      opened-same f c s t wr =
+      opened-same m finds f c s t wr =
           let k = todo-of f w (p .opens) in
-          in-full f c s t wr k
-          ∙ ap (λ (x : ℕ). and-then (put-if x cons-item s) (goes-on c (length out) (sides f k)))
+          in-full m finds f c s t wr k
+          ∙ ap (λ (x : ℕ). and-then (put-if x cons-item s) (goes-on m c (length out) (sides f k)))
           (room-there (length out) k (s .items) cons-item (not-deep f) (omega (arith, put-there a .fits, size-written wr)))
-          ∙ ap (λ (j : List Todo). goes-on c (length out) (parse (unfolded f (at w (PAIRS + 2 * number))) ∷ j) (with-mark s)) (sym (opened-todo f))
-          ∙ ap (λ (x : ℕ). goes-on c (length out) (parse (unfolded f x) ∷ todo-of f w′ (p .opens + 1)) (with-mark s)) (sym left)
+          ∙ ap (λ (j : List Todo). goes-on m c (length out) (parse (unfolded f (at w (PAIRS + 2 * number))) ∷ j) (with-mark s)) (sym (opened-todo f))
+          ∙ ap (λ (x : ℕ). goes-on m c (length out) (parse (unfolded f x) ∷ todo-of f w′ (p .opens + 1)) (with-mark s)) (sym left)
 
       opened-standing : Standing w′ (p .opens + 1) (p .depth) 0
       unfolding w′ number
@@ -192,15 +196,15 @@ module _ {w out : List ℕ} {p : Place} (h : NodePtr) {e : ℕ} (fo : Found w ou
           (names-grow w (index-of (node-of (h .0))) (at w PAIR-COUNT) (l .0) (omega (arith, number-low))
           (subst (λ (x : ℕ). Names w (index-of (node-of (h .0))) x) (sym left) (wh .handles .lefts (index-of (node-of (h .0))) number-low)))
 
-      opened-turns : (file : List ℕ) → Turns file w w′ out out′ (Parse p h) (Parse after l)
+      opened-turns : (file : List ℕ) (m : Measure) → FindsIn m w w (p .depth) (h .0) e NoPath → Turns m file w w′ out out′ (Parse p h) (Parse after l)
       unfolding after w′
-      opened-turns file =
+      opened-turns file m finds =
           record {
             fine = (running-more a (fo .running) opened-standing, left-names);
             only = store-only w (p .opens) (number * 2 + 1) shallow (fo .running .stands .whole);
             grows = omega (arith, put-there a .end);
             before = taken-before a;
-            leads = λ f c s t th wr. record { last = with-mark s; writes = opened-writes f c s t wr; same = opened-same f c s t wr };
+            leads = λ f c s t th wr. record { last = with-mark s; writes = opened-writes f c s t wr; same = opened-same m finds f c s t wr };
           }
 
       opened-falls : Falls (length out) (Parse p h) (Parse after l)
@@ -208,9 +212,8 @@ module _ {w out : List ℕ} {p : Place} (h : NodePtr) {e : ℕ} (fo : Found w ou
       opened-falls = omega (arith, put-there a .end, put-there a .fits)
 
     -- The `ff` is written, and the pair's word stored, at a number x that is the pair's.
-    pub opens-turns : (m : Counts) (x : ℕ) (l : NodePtr) → x ≡ index-of (node-of (h .0)) → l .0 ≡ at w (PAIRS + 2 * index-of (node-of (h .0)))
-        → ItemPut out out′ (p .counts) cons-item (item.Next m) → (file : List ℕ)
-        → (Turns file w (set w (OPEN + p .opens) (x * 2 + 1)) out out′ (Parse p h) (Parse (record { opens = p .opens + 1; depth = p .depth; counts = m }) l))
-        × Falls (length out) (Parse p h) (Parse (record { opens = p .opens + 1; depth = p .depth; counts = m }) l)
+    pub opens-turns : (n : Counts) (x : ℕ) (l : NodePtr) → x ≡ index-of (node-of (h .0)) → l .0 ≡ at w (PAIRS + 2 * index-of (node-of (h .0)))
+        → ItemPut out out′ (p .counts) cons-item (item.Next n) → (file : List ℕ)
+        → TurnsFound file w (set w (OPEN + p .opens) (x * 2 + 1)) out out′ p h e NoPath (Parse (record { opens = p .opens + 1; depth = p .depth; counts = n }) l)
     unfolding w′ after number
-    opens-turns m x l e left a file = rw e (opened-turns m l left a file, opened-falls m l left a)
+    opens-turns n x l q left a file = rw q (opened-turns n l left a file, opened-falls n l left a)

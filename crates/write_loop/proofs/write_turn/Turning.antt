@@ -7,7 +7,8 @@ use native.Mathlib.Omega.{arith}
 use lib.ListN.{length, take}
 use lib.Seq.{take-take}
 use Rattle.words.specs.Words.{at}
-use Rattle.path.specs.Measure.{counted}
+use Rattle.path.specs.declared.Measure.{Measure}
+use Rattle.path.specs.Measure.{measure-of}
 use Rattle.allocator.specs.declared.NodePtr.{NodePtr}
 use Rattle.spec_session.specs.File.{File}
 use Rattle.spec_session.specs.Unfold.{unfolded}
@@ -26,7 +27,7 @@ use Rattle.cache_stack.proofs.marks.Bits.{marked-same}
 use Rattle.cache_entries.specs.Meaning.{Tables, Names, Whole, Holds}
 use Rattle.cache_entries.proofs.Entering.{sentinel-is}
 use Rattle.cache_entries.specs.lookup.Contracts.{EntryOf}
-use Rattle.search_find.specs.Contracts.{FindsIn}
+use Rattle.search_find.specs.Contracts.{Ready, FindsIn}
 use Rattle.write_place.specs.declared.Place.{Place}
 use Rattle.write_loop.specs.declared.write_turn.Next.{Next}
 use Rattle.write_loop.specs.declared.write_turn.Next.the-variants.{Parse, Stopped}
@@ -36,19 +37,19 @@ use Rattle.write_loop.proofs.write_turn.Frames.{only-both, only-same, h
 
 -- ---- one after the other
 
-module _ {file w w₁ w₂ out out₁ out₂ : List ℕ} {a b r : Next} (wh : Whole w) (lw : length w₁ ≡ length w) (lo : length out₁ ≡ length out)
-    (x : Turns file w w₁ out out₁ a b) (y : Turns file w₁ w₂ out₁ out₂ b r) where
+module _ {m : Measure} {file w w₁ w₂ out out₁ out₂ : List ℕ} {a b r : Next} (wh : Whole w) (lw : length w₁ ≡ length w) (lo : length out₁ ≡ length out)
+    (x : Turns m file w w₁ out out₁ a b) (y : Turns m file w₁ w₂ out₁ out₂ b r) where
   then-leads : (f : File) (c : Cache) (s : Written) → Tables f w → AtomsThere file f w → Writes f w out (place-of a .depth) (place-of a .counts) c s
-      → Leads f c (length out) w₂ out₂ r (comes-to f c (length out) w a s)
+      → Leads m f c (length out) w₂ out₂ r (comes-to m f c (length out) w a s)
   then-leads f c s t th wr =
       let l = x .leads f c s t th wr in
-      let m =
+      let n =
       y .leads f c (l .last) (tables-stay w w₁ lw (x .only) wh f t) (atoms-stay w w₁ lw (x .only) wh file f t th) (l .writes) in
-      let n : Leads f c (length out) w₂ out₂ r (comes-to f c (length out) w₁ b (l .last)) =
-      subst (λ (space : ℕ). Leads f c space w₂ out₂ r (comes-to f c space w₁ b (l .last))) lo m in
-      record { last = n .last; writes = n .writes; same = l .same ∙ n .same }
+      let o : Leads m f c (length out) w₂ out₂ r (comes-to m f c (length out) w₁ b (l .last)) =
+      subst (λ (space : ℕ). Leads m f c space w₂ out₂ r (comes-to m f c space w₁ b (l .last))) lo n in
+      record { last = o .last; writes = o .writes; same = l .same ∙ o .same }
 
-  pub turns-then : Turns file w w₂ out out₂ a r
+  pub turns-then : Turns m file w w₂ out out₂ a r
   turns-then =
       record {
         fine = y .fine;
@@ -60,8 +61,8 @@ module _ {file w w₁ w₂ out out₁ out₂ : List ℕ} {a b r : Next} (wh : Wh
         leads = then-leads;
       }
 
-pub turns-none : (file w out : List ℕ) (b : Next) → Fine w out b → Turns file w w out out b b
-turns-none file w out b g =
+pub turns-none : (m : Measure) (file w out : List ℕ) (b : Next) → Fine w out b → Turns m file w w out out b b
+turns-none m file w out b g =
     record {
       fine = g;
       only = only-same w;
@@ -72,9 +73,9 @@ turns-none file w out b g =
 
 -- ---- the open place
 
-pub turns-stop : {file w out : List ℕ} (p : Place) (h : NodePtr) → Runs w out p 0 → Names w (at w PAIR-COUNT) (h .0) → at w SENTINEL ≡ h .0
-    → Turns file w w out out (Parse p h) (Stopped p)
-turns-stop {file} {w} {out} p h run n q =
+pub turns-stop : {m : Measure} {file w out : List ℕ} (p : Place) (h : NodePtr) → Runs w out p 0 → Names w (at w PAIR-COUNT) (h .0) → at w SENTINEL ≡ h .0
+    → Turns m file w w out out (Parse p h) (Stopped p)
+turns-stop {m} {file} {w} {out} p h run n q =
     record {
       fine = run;
       only = only-same w;
@@ -85,8 +86,8 @@ turns-stop {file} {w} {out} p h run n q =
             last = s;
             writes = wr;
             same =
-                ap (λ u. goes-on c (length out) (parse u ∷ todo-of f w (p .opens)) s) (unfolded-sentinel f (h .0) (sentinel-is f w (h .0) t n q))
-                ∙ turn-hole (find-in counted) (room-in (length out)) c (todo-of f w (p .opens)) s;
+                ap (λ u. goes-on m c (length out) (parse u ∷ todo-of f w (p .opens)) s) (unfolded-sentinel f (h .0) (sentinel-is f w (h .0) t n q))
+                ∙ turn-hole (find-in (measure-of m)) (room-in (length out)) c (todo-of f w (p .opens)) s;
           };
     }
 
@@ -138,8 +139,8 @@ module _ {w w₁ : List ℕ} (len : length w₁ ≡ length w) (k : Kept w w₁) 
           names-stay w w₁ len search-only (run .stands .whole) (at w PAIR-COUNT) (at w₁ PAIR-COUNT) (h .0)
           (pairs-stay w w₁ len search-only (run .stands .whole)) n
 
-      turns-search : (file : List ℕ) → Turns file w w₁ out out (Parse p h) (Parse p h)
-      turns-search file =
+      turns-search : (m : Measure) (file : List ℕ) → Turns m file w w₁ out out (Parse p h) (Parse p h)
+      turns-search m file =
           record {
             fine = (run-stays, names-there);
             only = search-only;
@@ -150,14 +151,14 @@ module _ {w w₁ : List ℕ} (len : length w₁ ≡ length w) (k : Kept w w₁) 
                   last = s;
                   writes = writes-stay f c s t wr;
                   same =
-                      ap (λ (j : List Todo). goes-on c (length out) (parse (unfolded f (h .0)) ∷ j) s)
+                      ap (λ (j : List Todo). goes-on m c (length out) (parse (unfolded f (h .0)) ∷ j) s)
                       (sym (todo-stays w w₁ search-beside (p .opens) (p .depth) 0 (run .stands) f));
                 };
           }
 
       -- The search, and what is made of it.
-      pub after-search : {file w₂ out₂ : List ℕ} {r : Next} → Turns file w₁ w₂ out out₂ (Parse p h) r → Turns file w w₂ out out₂ (Parse p h) r
-      after-search {file} y = turns-then (run .stands .whole) len refl (turns-search file) y
+      pub after-search : {m : Measure} {file w₂ out₂ : List ℕ} {r : Next} → Turns m file w₁ w₂ out out₂ (Parse p h) r → Turns m file w w₂ out out₂ (Parse p h) r
+      after-search {m} {file} y = turns-then (run .stands .whole) len refl (turns-search m file) y
 
       back : (f : File) → Tables f w₁ → Tables f w
       back f t = tables-stay w₁ w (sym len) search-back (run-stays .stands .whole) f t
@@ -165,9 +166,9 @@ module _ {w w₁ : List ℕ} (len : length w₁ ≡ length w) (k : Kept w w₁) 
       holds-back : (f : File) (c : Cache) → Tables f w₁ → Holds f w₁ c → Holds f w c
       holds-back f c t ho = holds-stay w₁ w (sym len) search-back (run-stays .stands .whole) f c t ho
 
-      -- Where the search was made, the rest may forget how it was made.
-      pub found-there : {e : ℕ} {r : Path} → (at w SENTINEL ≡ h .0 → ⊥) → EntryOf w (h .0) e → FindsIn w w₁ (p .depth) (h .0) e r → Found w₁ out p (h .0) e r
-      found-there {e} {r} inner en fi =
+      -- The place where a path was looked for.
+      pub found-there : {e : ℕ} {r : Path} → (at w SENTINEL ≡ h .0 → ⊥) → EntryOf w (h .0) e → Ready w₁ r → Found w₁ out p (h .0) e r
+      found-there {e} {r} inner en re =
           record {
             running = run-stays;
             names = names-there;
@@ -178,13 +179,17 @@ module _ {w w₁ : List ℕ} (len : length w₁ ≡ length w) (k : Kept w w₁) 
                   of-pair = λ i q. record { low = en .low; is = λ f c t ho. en .of-pair i q .is f c (back f t) (holds-back f c t ho) };
                   of-atom = λ q. record { low = en .low; is = λ f c t ho. en .of-atom q .is f c (back f t) (holds-back f c t ho) };
                 };
-            finds =
-                record {
-                  answer = λ f c m t ho mk.
-                      ap (λ (st : List ℕ). find-in counted c m st (h .0) e) stack-stays
-                      ∙ fi .answer f c m (back f t) (holds-back f c t ho)
-                      (λ x l. mk x l ∙ marked-same w w₁ x l (λ i j. k .low (WRITTEN + i) (omega arith)));
-                  ready = fi .ready;
-                  kept = record { low = λ j l. refl; high = λ j l. refl };
-                };
+            ready = re;
+          }
+
+      -- Where the search was made, the rest may forget how it was made.
+      pub finds-there : {m : Measure} {e : ℕ} {r : Path} → FindsIn m w w₁ (p .depth) (h .0) e r → FindsIn m w₁ w₁ (p .depth) (h .0) e r
+      finds-there {m} {e} fi =
+          record {
+            answer = λ f c marked t ho mk.
+                ap (λ (st : List ℕ). find-in (measure-of m) c marked st (h .0) e) stack-stays
+                ∙ fi .answer f c marked (back f t) (holds-back f c t ho)
+                (λ x l. mk x l ∙ marked-same w w₁ x l (λ i j. k .low (WRITTEN + i) (omega arith)));
+            ready = fi .ready;
+            kept = record { low = λ j l. refl; high = λ j l. refl };
           }

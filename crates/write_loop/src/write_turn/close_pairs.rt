@@ -9,6 +9,7 @@ ghost use mathlib.Core.List.{List};
 ghost use Prim.Native.Nat.{ℕ, _+_, _-_, _≤_, _<_};
 ghost use lib.ListN.{length};
 ghost use Rattle.words.specs.Words.{at, WORK};
+ghost use Rattle.path.specs.declared.Measure.{Measure};
 ghost use Rattle.work_layout.specs.Layout.{OPEN, PAIR-COUNT};
 ghost use Rattle.cache_stack.specs.Contracts.{Stacked};
 ghost use Rattle.cache_entries.specs.Meaning.{Whole};
@@ -39,8 +40,8 @@ fn innermost(work: &[u32], opens: usize) -> u32
 pub fn close_up(work: &mut [u32], place: Place) -> Next
     requires { ⌜ Standing (now work) (place .opens) (place .depth) 1 ⌝ }
     ensures { λ r. ⌜
-        ((file out : List ℕ) → Runs (now (work .entry)) out place 1
-        → (Turns file (now (work .entry)) (now (work .exit)) out out (Close place) r) ×
+        ((m : Measure) (file out : List ℕ) → Runs (now (work .entry)) out place 1
+        → (Turns m file (now (work .entry)) (now (work .exit)) out out (Close place) r) ×
         (Falls (length out) (Close place) r)) ⌝ }
 {
     let opens = place.opens;

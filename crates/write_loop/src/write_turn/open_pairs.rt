@@ -9,11 +9,9 @@ ghost use mathlib.Core.Path.{_≡_};
 ghost use mathlib.Core.Bool.{true};
 ghost use mathlib.Core.List.{List};
 ghost use Prim.Native.Nat.{ℕ};
-ghost use lib.ListN.{length};
 ghost use Rattle.allocator.specs.Handle.{node-of, is-pair};
 ghost use Rattle.search_find.specs.declared.find_path.Path.the-variants.{NoPath};
-ghost use Rattle.write_loop.specs.declared.write_turn.Next.the-variants.{Parse};
-ghost use Rattle.write_loop.specs.Contracts.{Turns, Falls, Found};
+ghost use Rattle.write_loop.specs.Contracts.{TurnsFound, Found};
 
 // The most pairs that may be open: question 12.
 const MAX_OPEN: usize = 4096;
@@ -29,8 +27,8 @@ pub fn open_pair(
     requires { ⌜ (Found (now work) (now output) place (node .0) (e .0) NoPath) × (is-pair (node-of (node .0)) ≡ true) ⌝ }
     ensures { λ r. ⌜
         ((file : List ℕ)
-        → (Turns file (now (work .entry)) (now (work .exit)) (now (output .entry)) (now (output .exit)) (Parse place node) r)
-        × (Falls (length (now (output .entry))) (Parse place node) r)) ⌝ }
+        → TurnsFound file (now (work .entry)) (now (work .exit)) (now (output .entry)) (now (output .exit)) place node
+        (e .0) NoPath r) ⌝ }
 {
     let opens = place.opens;
     if opens >= MAX_OPEN {

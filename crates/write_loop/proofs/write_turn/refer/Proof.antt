@@ -22,7 +22,7 @@ returns c =
     let pushed = c .before .before .push-value in
     let put = c .before .before .before .before .before .before in
     let p = put .before .before .before .before .before .pre in
-    refer-turns (pushed .kept .0) (put .write-reference .result) (pushed .ensures) p (p .finds .ready .1) (put .write-reference .ensures)
+    refer-turns (pushed .kept .0) (put .write-reference .result) (pushed .ensures) p (put .write-reference .ensures)
 
 pub refer-spec : {M : Type 1} → statement M
 refer-spec =
