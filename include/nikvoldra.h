@@ -1,7 +1,7 @@
 /*
- * The two calls of Nikvoldra, for C and C++ on x86-64 Linux.
+ * The calls of Nikvoldra, for C and C++ on x86-64 Linux.
  *
- * Link target/staticlib/libnikvoldra.a, which has both; the command `tools/libraries` proves the calls and writes it.
+ * Link target/staticlib/libnikvoldra.a, which has them all; the command `tools/libraries` proves the calls and writes it.
  *
  * A slice is passed as a pointer to its first element, then its length in elements, not in bytes. The callee keeps no pointer.
  * The caller sees to it that
@@ -12,7 +12,7 @@
  *   - nobody else writes to them, or reads those that aren't const, while the call runs.
  *
  * No slice has to be cleared before a call, and none is ever too short for memory safety: question 1 asks the lengths.
- * nikvoldra_session goes down a tree by recursion, at most 1,024 deep; the tests run that with a stack of 256 KiB.
+ * The session calls go down a tree by recursion, at most 1,024 deep; the tests run that with a stack of 256 KiB.
  */
 #ifndef NIKVOLDRA_H
 #define NIKVOLDRA_H
@@ -142,6 +142,19 @@ struct nikvoldra_read_answer {
  * items written, of a refused quote none.
  */
 struct nikvoldra_session_answer nikvoldra_session(
+    const uint8_t *file, size_t file_length,
+    uint32_t *work, size_t work_length,
+    uint32_t *words, size_t words_length,
+    struct nikvoldra_checkpoint *checkpoints, size_t checkpoints_length,
+    uint8_t *output, size_t output_length);
+
+/*
+ * The same, with one difference: where a path was found, the reference is written if it is no longer than what it stands for in full,
+ * by the prefix lengths of the CLVM serialization documentation. nikvoldra_session has the Rust's, which count a byte too many for
+ * a path of 512 to 8,191 bytes. So the answers and slices of the two differ only where a found path has 512 bytes or more, and that
+ * and 3 bytes are the length in full.
+ */
+struct nikvoldra_session_answer nikvoldra_session_documented(
     const uint8_t *file, size_t file_length,
     uint32_t *work, size_t work_length,
     uint32_t *words, size_t words_length,

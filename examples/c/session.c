@@ -1,7 +1,8 @@
 /*
- * Runs a session, reads its bytes back, and prints both: session [FILE]
+ * Runs a session, reads its bytes back, and prints both: session [--documented] [FILE]
  *
  * Without FILE the session is made by hand: foobar is added with an open place beside it, and then foobar at that place.
+ * With --documented references are measured as the documentation has it, not as in the Rust.
  * The status is 0; 1 where a question got no; 2 where the file can't be read or memory is short.
  */
 #include <inttypes.h>
@@ -11,7 +12,7 @@
 
 #include "nikvoldra.h"
 
-/* The lent slices. Nothing has to be cleared before a call, and both calls can use the same work. */
+/* The lent slices. Nothing has to be cleared before a call, and all calls can use the same work. */
 static uint32_t *work;
 static uint32_t *words;
 static struct nikvoldra_checkpoint *checkpoints;
@@ -135,10 +136,10 @@ static void print_tree(uint32_t node, int *nodes_left) {
     }
 }
 
-static int run_session(void) {
-    struct nikvoldra_session_answer answer =
-        nikvoldra_session(file, file_length, work, NIKVOLDRA_WORK_LENGTH, words, NIKVOLDRA_WORDS_LENGTH, checkpoints,
-                          NIKVOLDRA_CHECKPOINTS_LENGTH, output, NIKVOLDRA_OUTPUT_MOST);
+static int run_session(int documented) {
+    struct nikvoldra_session_answer answer = (documented ? nikvoldra_session_documented : nikvoldra_session)(
+        file, file_length, work, NIKVOLDRA_WORK_LENGTH, words, NIKVOLDRA_WORDS_LENGTH, checkpoints,
+        NIKVOLDRA_CHECKPOINTS_LENGTH, output, NIKVOLDRA_OUTPUT_MOST);
     for (uint32_t i = 0; i < answer.steps; i++) {
         const uint32_t *step = words + 3 * i;
         printf("step %" PRIu32 ": %" PRIu32 " bytes%s", i + 1, step[0] / 2, step[0] % 2 ? ", finished" : "");
@@ -171,18 +172,20 @@ static int run_session(void) {
 }
 
 int main(int count, char **arguments) {
-    if (count > 2 || (count == 2 && arguments[1][0] == '-')) {
-        fprintf(stderr, "usage: session [FILE]\n");
+    int documented = count > 1 && strcmp(arguments[1], "--documented") == 0;
+    const char *name = arguments[1 + documented];
+    if (count > 2 + documented || (name != NULL && name[0] == '-')) {
+        fprintf(stderr, "usage: session [--documented] [FILE]\n");
         return 2;
     }
-    if (count < 2) {
+    if (name == NULL) {
         make_session();
-    } else if (!load_session(arguments[1])) {
+    } else if (!load_session(name)) {
         return 2;
     }
     int status = 2;
     if (make_slices()) {
-        status = run_session();
+        status = run_session(documented);
     } else {
         fprintf(stderr, "there is no memory for the slices\n");
     }

@@ -44,6 +44,7 @@ fn main() {
     println!("cargo:rerun-if-env-changed=CLVM_RS");
     let out = PathBuf::from(std::env::var_os("OUT_DIR").expect("cargo sets it"));
     let source = folder();
+    println!("cargo:source={}", source.display());
     fs::write(out.join("root.rs"), modules(&source, &ROOT)).expect("OUT_DIR can be written");
     fs::write(out.join("serde.rs"), modules(&source.join("serde"), &SERDE))
         .expect("OUT_DIR can be written");

@@ -1,6 +1,8 @@
 //! Cases of 01's "Corners, file by file" and of its questions, each run on the
 //! unchanged Rust and compared with what 01 says; and cases of the steps `03`, `04` and
-//! `05`, and of the counts.
+//! `05`, of the counts, and of the measures.
+
+mod measures;
 
 use crate::hex;
 use crate::leaves::{parse_blob, path_of_bits};
@@ -1513,6 +1515,7 @@ pub fn run_all() -> Vec<Case> {
     forgets(&mut c);
     quotes(&mut c);
     counts(&mut c);
+    measures::all(&mut c);
     premises(&mut c);
     c.0
 }

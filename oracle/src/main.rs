@@ -1,13 +1,16 @@
 //! The oracle's commands.
 
+use oracle::writer::Measure;
 use oracle::{corners, generate, hex, leaves, plain, reading, selfcheck, session};
 use std::io::Write;
 
 const USAGE: &str = "\
 usage: oracle COMMAND ..
-  session [--counts] FILE [OUTPUT_LENGTH]
-                                 the session on a session file; with each step's references and prefix bytes
-  items [--counts] FILE          the same, with a line for each item of the output
+  session [--counts] [--documented] FILE [OUTPUT_LENGTH]
+                                 the session on a session file; with each step's references and prefix bytes;
+                                 with found paths measured by the documentation
+  items [--counts] [--documented] FILE
+                                 the same, with a line for each item of the output
   read FILE                      the reading of an encoded tree
   leaves FILE                    answers to a file of leaf cases
   fill FILE                      the plain filling of a session file, in full
@@ -15,7 +18,8 @@ usage: oracle COMMAND ..
   corners                        01's corner cases, each compared with 01
   selfcheck N SEED               N generated sessions and trees, checked
   exhaustive PART                every small session and tree, or each PARTth
-  wrong                          wrong ways of a 03, of a 04 and a 05, and of the counts, each noticed by the kinds made for it
+  wrong                          wrong ways of a 03, of a 04 and a 05, of the counts and of the measures, each noticed by the
+                                 kinds made for it
   gen-session SEED KIND          writes a session file
   gen-tree SEED KIND             writes an encoded tree
   gen-leaves SEED                writes a file of leaf cases
@@ -45,20 +49,37 @@ fn of_kind(args: &[String], make: fn(u64, &str) -> Option<Vec<u8>>) -> Result<Ve
     make(number(args, 1)?, kind).ok_or(format!("no such kind: {kind}"))
 }
 
+/// Takes an option out of the words, and says whether it was there.
+fn option(args: &mut Vec<String>, name: &str) -> bool {
+    let count = args.len();
+    args.retain(|word| word != name);
+    args.len() < count
+}
+
+/// The commands `session` and `items`.
+fn run_session(mut args: Vec<String>) -> Result<String, String> {
+    let counts = option(&mut args, "--counts");
+    let measure = match option(&mut args, "--documented") {
+        false => Measure::Counted,
+        true => Measure::Documented,
+    };
+    let bytes = file(&args, 1)?;
+    if args[0] == "items" {
+        return Ok(session::print_items(measure, &bytes, counts));
+    }
+    let length = if args.len() > 2 {
+        number(&args, 2)?
+    } else {
+        session::MAX_OUTPUT
+    };
+    let answer = session::run_by(measure, &bytes, length, true);
+    Ok(session::print(&answer, counts))
+}
+
 fn command(args: &[String]) -> Result<Vec<u8>, String> {
     let name = args.first().map_or("", String::as_str);
-    let counts = args.get(1).is_some_and(|word| word == "--counts");
     Ok(match name {
-        "session" => {
-            let at = 1 + usize::from(counts);
-            let length = if args.len() > at + 1 {
-                number(args, at + 1)?
-            } else {
-                session::MAX_OUTPUT
-            };
-            session::print(&session::run(&file(args, at)?, length, true), counts).into_bytes()
-        }
-        "items" => session::print_items(&file(args, 1 + usize::from(counts))?, counts).into_bytes(),
+        "session" | "items" => run_session(args.to_vec())?.into_bytes(),
         "read" => reading::print(&reading::read(&file(args, 1)?)).into_bytes(),
         "leaves" => leaves::print(&file(args, 1)?)?.into_bytes(),
         "fill" => match plain::fill(&parsed(args)?) {

@@ -4,12 +4,14 @@
 //! difference is one between 01 and the Rust. A `03` takes a copy of all that
 //! there was, where `session` does the steps before it again; a `04` does the add and
 //! takes such a copy. References and prefix bytes are counted item by item as they are
-//! written, where `session` counts them in the bytes.
+//! written, where `session` counts them in the bytes. A found path is measured by the
+//! ranges that 01 gives for the Rust, or by the documentation's.
 
 use crate::counts::Counts;
 use crate::node::{ATOM, NIL, PAIR, index, kind};
 use crate::plain::{atom_in_full, small_bytes};
 use crate::session::{MAX_ADDS, MAX_OPEN, MAX_OUTPUT, SessionAnswer, SessionFile, Step, parse};
+use crate::writer::Measure;
 use std::collections::HashMap;
 
 /// What the search and the parent lists met, to see what inputs reach.
@@ -27,6 +29,8 @@ pub struct Met {
     pub front_dropped: usize,
     pub second_handles: usize,
     pub longest_path: usize,
+    /// found paths of 511, 512, 513 and more bytes whose entry's length is theirs and 2, 3 or 4
+    pub by_bytes: [[usize; 3]; 4],
     pub most_open: usize,
     pub most_entries: usize,
     /// atoms, and paths, by the width of their prefix
@@ -48,6 +52,9 @@ impl Met {
         self.front_dropped += m.front_dropped;
         self.second_handles += m.second_handles;
         self.longest_path = self.longest_path.max(m.longest_path);
+        for (mine, theirs) in self.by_bytes.iter_mut().zip(m.by_bytes) {
+            mine.iter_mut().zip(theirs).for_each(|(a, b)| *a += b);
+        }
         self.most_open = self.most_open.max(m.most_open);
         self.most_entries = self.most_entries.max(m.most_entries);
         for width in 0..4 {
@@ -183,12 +190,53 @@ pub enum Count {
     PathOneByte,
 }
 
+/// The right measures of a found path, and wrong ones in the place of the documentation's.
+#[derive(Debug, Clone, Copy, PartialEq, Eq)]
+pub enum Length {
+    By(Measure),
+    /// one less: also a reference that is a byte longer than what it stands for
+    Longer,
+    /// one more: only a reference that is shorter than what it stands for
+    Shorter,
+    /// prefix 1 for 64 bytes
+    Short64,
+    /// prefix 3 for 512 bytes
+    Long512,
+    /// prefix 3 from 513 bytes on
+    Long513,
+    /// a `04` measures as the Rust does
+    NotQuoted,
+    /// a `05` measures as the Rust does
+    NotTaken,
+    /// after a `02` all steps do
+    LostByRestore,
+    /// after a `03` all steps do
+    LostByForget,
+}
+
+impl Default for Length {
+    fn default() -> Self {
+        Self::By(Measure::Counted)
+    }
+}
+
 /// How a session is run: right, or wrong in some way.
 #[derive(Debug, Default, Clone, Copy)]
 pub struct Ways {
     pub forget: Forget,
     pub quote: Quote,
     pub count: Count,
+    pub length: Length,
+}
+
+impl Ways {
+    /// Right, by a measure.
+    pub fn by(measure: Measure) -> Self {
+        Self {
+            length: Length::By(measure),
+            ..Self::default()
+        }
+    }
 }
 
 impl Cache {
@@ -245,11 +293,40 @@ struct Model<'a> {
     /// the handle of the open quote
     quoted: Option<u32>,
     count: Count,
+    /// the measure of a found path in this step
+    length: Length,
     met: Met,
 }
 
+impl Length {
+    /// What a path is counted at.
+    fn of(self, bits: &[bool]) -> u64 {
+        let documented = atom_in_full(&path_bytes(bits)).len() as u64;
+        match (self, bits.len().div_ceil(8)) {
+            (Length::By(Measure::Counted), _) => counted_length(bits),
+            (Length::Longer, _) | (Length::Short64, 64) => documented - 1,
+            (Length::Shorter, _) | (Length::Long512, 512) | (Length::Long513, 513..) => {
+                documented + 1
+            }
+            _ => documented,
+        }
+    }
+
+    /// That of a step, and that of the steps after it.
+    fn at(self, step: Step) -> (Self, Self) {
+        let rust = Length::By(Measure::Counted);
+        match (self, step) {
+            (Length::NotQuoted, Step::Quote(_)) | (Length::NotTaken, Step::Take) => (rust, self),
+            (Length::LostByRestore, Step::Restore(_)) | (Length::LostByForget, Step::Forget(_)) => {
+                (rust, rust)
+            }
+            _ => (self, self),
+        }
+    }
+}
+
 /// `serialized_length` of path_builder.rs, by the ranges that 01 gives.
-fn path_length(bits: &[bool]) -> u64 {
+fn counted_length(bits: &[bool]) -> u64 {
     let bytes = bits.len().div_ceil(8) as u64;
     match bytes {
         0 => 1,
@@ -465,7 +542,13 @@ impl Model<'_> {
         }
         self.met.searches += 1;
         let bits = self.search(e)?;
-        if path_length(&bits) >= self.cache.entries[e].length {
+        let (bytes, length) = (bits.len().div_ceil(8), self.cache.entries[e].length);
+        if bytes >= 511
+            && let Some(more @ 2..=4) = (length as usize).checked_sub(bytes)
+        {
+            self.met.by_bytes[bytes.min(514) - 511][more - 2] += 1;
+        }
+        if self.length.of(&bits) >= length {
             self.met.not_used += 1;
             return None;
         }
@@ -696,8 +779,8 @@ impl Model<'_> {
     }
 }
 
-pub fn run(file: &[u8], output_length: usize) -> (SessionAnswer, Met) {
-    run_with(Ways::default(), file, output_length)
+pub fn run(measure: Measure, file: &[u8], output_length: usize) -> (SessionAnswer, Met) {
+    run_with(Ways::by(measure), file, output_length)
 }
 
 /// The same, in ways that may be wrong.
@@ -721,10 +804,13 @@ pub fn run_with(ways: Ways, file: &[u8], output_length: usize) -> (SessionAnswer
         output_length: output_length.min(MAX_OUTPUT),
         quoted: None,
         count: ways.count,
+        length: ways.length,
         met: Met::default(),
     };
     let mut answer = SessionAnswer::default();
+    let mut length = ways.length;
     for step in &s.steps {
+        (m.length, length) = length.at(*step);
         match m.step(*step, ways.forget, ways.quote) {
             Ok((word, counts)) => {
                 answer.words.push(word);

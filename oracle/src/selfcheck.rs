@@ -1,20 +1,25 @@
 //! The rig against itself: the driver against `Serializer` and against 01's
-//! text (`model`), the reader against
+//! text (`model`), by both measures of a found path, the reader against
 //! the plain reader and `node_from_bytes_backrefs_old`, and read-back.
 
 use crate::generate::exhaustive;
-use crate::model::{Count, Forget, Met, Quote, Ways};
+use crate::generate::sessions::MEASURES;
+use crate::model::{Count, Forget, Length, Met, Quote, Ways};
 use crate::plain::{self, Interner};
 use crate::reading::{self, MAX_INPUT, ReadAnswer};
 use crate::rng::Rng;
 use crate::session::{self, MAX_OUTPUT, SessionAnswer, SessionFile, Step};
+use crate::writer::Measure;
 use crate::{generate, model, node};
 use clvm_rs::Allocator;
 use clvm_rs::serde::node_from_bytes_backrefs_old;
 
 #[derive(Debug, Default)]
 pub struct Counts {
+    /// each by both measures
     pub sessions: usize,
+    /// those that differ between the measures
+    pub differ: usize,
     /// sessions with `03`, `04` or `05`, compared with those of the adds that survive
     pub survivors: usize,
     pub finished: usize,
@@ -74,6 +79,7 @@ pub fn check_tree(input: &[u8], counts: &mut Counts) -> Result<(), String> {
 /// With `03`, `04` or `05` and no `02` the session is that of the adds that survive, and
 /// of the step that is refused. Whether the file is such a one.
 fn check_survivors(
+    measure: Measure,
     s: &SessionFile,
     output_length: usize,
     r: &SessionAnswer,
@@ -99,20 +105,38 @@ fn check_survivors(
         counts: adds.iter().map(|(i, _)| r.counts[*i]).collect(),
         ..r.clone()
     };
-    if session::run_parsed(&alone, output_length, true) != expected {
+    if session::run_parsed(measure, &alone, output_length, true) != expected {
         return Err("the survivors alone give something else".to_string());
     }
     Ok(true)
 }
 
+/// A session by both measures.
 pub fn check_session(file: &[u8], output_length: usize, counts: &mut Counts) -> Result<(), String> {
+    let mut check = |measure| {
+        let answer = session::run_by(measure, file, output_length, true);
+        check_answer(measure, file, output_length, &answer, counts)
+            .map_err(|e| format!("{measure:?}: {e}"))?;
+        Ok::<_, String>(answer)
+    };
+    let differ = check(Measure::Counted)? != check(Measure::Documented)?;
     counts.sessions += 1;
-    // panics where the driver and Serializer differ
-    let r = session::run(file, output_length, true);
+    counts.differ += usize::from(differ);
+    Ok(())
+}
+
+/// What the Rust, whose driver and `Serializer` agree, gives by a measure.
+fn check_answer(
+    measure: Measure,
+    file: &[u8],
+    output_length: usize,
+    r: &SessionAnswer,
+    counts: &mut Counts,
+) -> Result<(), String> {
     counts.numbers[r.number as usize] += 1;
-    let (by_text, met) = model::run(file, output_length);
+    let (by_text, met) = model::run(measure, file, output_length);
     counts.met.add(&met);
-    if by_text != r {
+    if by_text != *r {
         return Err(format!(
             "01's text gives {} {:?} {}",
             by_text.number,
@@ -129,7 +153,8 @@ pub fn check_session(file: &[u8], output_length: usize, counts: &mut Counts) -> 
     let Ok(s) = parsed else {
         return Ok(());
     };
-    counts.survivors += usize::from(check_survivors(&s, output_length, &r)?);
+    let survivors = check_survivors(measure, &s, output_length, r)?;
+    counts.survivors += usize::from(survivors);
     if !r.is_finished(&s) {
         return Ok(());
     }
@@ -216,8 +241,48 @@ const WRONG_COUNTS: &[(Count, &[&str])] = &[
     (Count::OneByte, &["counts-widths", "atom-sizes"]),
     (Count::PathOneByte, &["counts-widths", "visits"]),
 ];
+/// A measure, wrong ones in its place, and the kinds made for each.
+const WRONG_MEASURES: &[(Measure, Length, &[&str])] = &[
+    (Measure::Counted, Length::By(Measure::Documented), &MEASURES),
+    (Measure::Documented, Length::By(Measure::Counted), &MEASURES),
+    (
+        Measure::Documented,
+        Length::Longer,
+        &["measure-atoms", "measure-pairs", "long-paths"],
+    ),
+    (
+        Measure::Documented,
+        Length::Shorter,
+        &["measure-atoms", "measure-pairs", "long-paths"],
+    ),
+    (Measure::Documented, Length::Short64, &["long-paths"]),
+    (
+        Measure::Documented,
+        Length::Long512,
+        &["measure-atoms", "measure-pairs", "measure-steps"],
+    ),
+    (
+        Measure::Documented,
+        Length::Long513,
+        &["measure-atoms", "measure-pairs", "measure-open"],
+    ),
+    (Measure::Documented, Length::NotQuoted, &["measure-steps"]),
+    (Measure::Documented, Length::NotTaken, &["measure-steps"]),
+    (
+        Measure::Documented,
+        Length::LostByRestore,
+        &["measure-steps"],
+    ),
+    (
+        Measure::Documented,
+        Length::LostByForget,
+        &["measure-steps"],
+    ),
+];
 /// Files of each kind.
 const FILES: u64 = 60;
+/// Files of each kind for the measures that are also compared with the Rust.
+const MEASURE_FILES: u64 = 30;
 
 /// Each wrong way gives another answer on some files of its kinds: a line for each.
 pub fn run_wrong() -> Result<String, String> {
@@ -228,38 +293,48 @@ pub fn run_wrong() -> Result<String, String> {
             forget: *forget,
             ..right
         };
-        text += &noticed(&format!("{forget:?}"), kinds, ways)?;
+        text += &noticed(&format!("{forget:?}"), kinds, ways, right)?;
     }
     for (quote, kinds) in WRONG_QUOTES {
         let ways = Ways {
             quote: *quote,
             ..right
         };
-        text += &noticed(&format!("{quote:?}"), kinds, ways)?;
+        text += &noticed(&format!("{quote:?}"), kinds, ways, right)?;
     }
     for (count, kinds) in WRONG_COUNTS {
         let ways = Ways {
             count: *count,
             ..right
         };
-        text += &noticed(&format!("{count:?}"), kinds, ways)?;
+        text += &noticed(&format!("{count:?}"), kinds, ways, right)?;
+    }
+    for (measure, length, kinds) in WRONG_MEASURES {
+        let ways = Ways {
+            length: *length,
+            ..right
+        };
+        let way = format!("{length:?} for {measure:?}");
+        text += &noticed(&way, kinds, ways, Ways::by(*measure))?;
     }
     text += &format!(
-        "{} wrong ways of a 03, {} of a 04 and a 05 and {} of the counts, each noticed\n",
+        "{} wrong ways of a 03, {} of a 04 and a 05, {} of the counts and {} of the measures, each noticed\n",
         WRONG.len(),
         WRONG_QUOTES.len(),
-        WRONG_COUNTS.len()
+        WRONG_COUNTS.len(),
+        WRONG_MEASURES.len()
     );
     Ok(text)
 }
 
 /// How many files of each kind notice a wrong way.
-fn noticed(way: &str, kinds: &[&str], ways: Ways) -> Result<String, String> {
+fn noticed(way: &str, kinds: &[&str], wrong: Ways, right: Ways) -> Result<String, String> {
     let mut text = String::new();
     for kind in kinds {
         let differs = |seed: &u64| {
             let file = generate::session(*seed, kind).expect("a kind");
-            model::run_with(ways, &file, MAX_OUTPUT).0 != model::run(&file, MAX_OUTPUT).0
+            let [wrong, right] = [wrong, right].map(|w| model::run_with(w, &file, MAX_OUTPUT).0);
+            wrong != right
         };
         let count = (0..FILES).filter(differs).count();
         if count == 0 {
@@ -293,7 +368,26 @@ pub fn run_exhaustive(part: usize) -> Result<Counts, String> {
     failure.map(|()| counts)
 }
 
-/// `n` sessions and `n` trees; the first failure with its input's kind.
+/// Sessions of each kind made for the measures, of which some differ between them.
+fn check_measures(seed: u64, counts: &mut Counts) -> Result<(), String> {
+    for kind in MEASURES {
+        let before = counts.differ;
+        for i in 0..MEASURE_FILES {
+            let file = generate::session(seed.wrapping_mul(1_000_003) + i, kind).expect("a kind");
+            check_session(&file, MAX_OUTPUT, counts).map_err(|e| format!("{kind} {i}: {e}"))?;
+        }
+        if counts.differ == before {
+            return Err(format!("no file of {kind} differs between the measures"));
+        }
+    }
+    match counts.met.by_bytes.iter().flatten().all(|n| *n > 0) {
+        true => Ok(()),
+        false => Err(format!("not reached: {:?}", counts.met.by_bytes)),
+    }
+}
+
+/// `n` sessions and `n` trees, and sessions for the measures; the first failure with its
+/// input's kind.
 pub fn run(n: usize, seed: u64) -> Result<Counts, String> {
     let mut rng = Rng::new(seed);
     let mut counts = Counts::default();
@@ -311,13 +405,21 @@ pub fn run(n: usize, seed: u64) -> Result<Counts, String> {
         check_tree(&tree, &mut counts)
             .map_err(|e| format!("tree {i} ({kind}): {e}\n{}", crate::hex::encode(&tree)))?;
     }
+    check_measures(seed, &mut counts)?;
     Ok(counts)
 }
 
 pub fn print(c: &Counts) -> String {
     let mut s = format!(
-        "sessions {}, as their survivors {}, finished {}, read back {} with {} references\ntrees {}, accepted {}\nnumbers",
-        c.sessions, c.survivors, c.finished, c.read_back, c.references, c.trees, c.accepted
+        "sessions {}, each by both measures, {} of them otherwise; as their survivors {}, finished {}, read back {} with {} references\ntrees {}, accepted {}\nnumbers",
+        c.sessions,
+        c.differ,
+        c.survivors,
+        c.finished,
+        c.read_back,
+        c.references,
+        c.trees,
+        c.accepted
     );
     for (n, count) in c.numbers.iter().enumerate() {
         if n != 1 {
@@ -339,6 +441,10 @@ pub fn print(c: &Counts) -> String {
     s += &format!(
         "parents overwritten {}, moved {}, front dropped {}; second handles {}; most open pairs {}, most entries {}\n",
         m.overwritten, m.moved, m.front_dropped, m.second_handles, m.most_open, m.most_entries
+    );
+    s += &format!(
+        "paths of 511, 512, 513 and more bytes, whose entry has 2, 3 and 4 more: {:?}\n",
+        m.by_bytes
     );
     s += &format!(
         "prefixes of 0, 1, 2 and 3 bytes: of atoms {:?}, of paths {:?}\n",

@@ -1,11 +1,11 @@
 //! A session file: questions 2 to 8, and the steps on the unchanged Rust with
-//! questions 9 to 13 and 17.
+//! questions 9 to 13 and 17; on that with the documentation's prefix lengths, too.
 
 use crate::counts::{self, Counts};
 use crate::node::{ATOM, INDEX_BITS, NONE, PAIR, SMALL, from_word, index, kind};
+use crate::writer::{Cache, Measure, Writer};
 use clvm_rs::allocator::fits_in_small_atom;
 use clvm_rs::serde::write_atom::write_atom;
-use clvm_rs::serde::{Serializer, TreeCache, TreeCacheCheckpoint, UndoState};
 use clvm_rs::{Allocator, NodePtr, SExp};
 use std::fmt::Write;
 
@@ -239,13 +239,14 @@ enum ReadOp {
     Cons(NodePtr),
 }
 
-/// `Serializer` as incremental.rs has it, on the unchanged `TreeCache`, with
+/// `Serializer` as incremental.rs has it, on the Rust's own `TreeCache`, with
 /// questions 12 and 13 asked before each item.
-pub struct Driver<'a> {
+struct Driver<'a, C> {
     a: &'a Allocator,
+    sentinel: Option<NodePtr>,
     read_op_stack: Vec<ReadOp>,
     write_stack: Vec<NodePtr>,
-    tree_cache: TreeCache,
+    tree_cache: C,
     output: Vec<u8>,
     /// The items of `output`
     items: Vec<Item>,
@@ -254,23 +255,23 @@ pub struct Driver<'a> {
     open: usize,
 }
 
-#[derive(Clone)]
-pub struct DriverState {
+struct DriverState<C: Cache> {
     read_op_stack: Vec<ReadOp>,
     write_stack: Vec<NodePtr>,
-    tree_cache: TreeCacheCheckpoint,
+    tree_cache: C::Checkpoint,
     size: usize,
     items: usize,
     open: usize,
 }
 
-impl<'a> Driver<'a> {
-    pub fn new(a: &'a Allocator, sentinel: Option<NodePtr>, output_length: usize) -> Self {
+impl<'a, C: Cache> Driver<'a, C> {
+    fn new(a: &'a Allocator, sentinel: Option<NodePtr>, output_length: usize) -> Self {
         Self {
             a,
+            sentinel,
             read_op_stack: vec![ReadOp::Parse],
             write_stack: vec![],
-            tree_cache: TreeCache::new(sentinel),
+            tree_cache: C::new(sentinel),
             output: vec![],
             items: vec![],
             output_length: output_length.min(MAX_OUTPUT),
@@ -278,7 +279,7 @@ impl<'a> Driver<'a> {
         }
     }
 
-    pub fn finished(&self) -> bool {
+    fn finished(&self) -> bool {
         self.read_op_stack.is_empty()
     }
 
@@ -291,7 +292,7 @@ impl<'a> Driver<'a> {
         Ok(())
     }
 
-    pub fn state(&self) -> DriverState {
+    fn state(&self) -> DriverState<C> {
         DriverState {
             read_op_stack: self.read_op_stack.clone(),
             write_stack: self.write_stack.clone(),
@@ -304,13 +305,13 @@ impl<'a> Driver<'a> {
 
     /// The loop of `Serializer::add`: whether the session is finished, or 12 or
     /// 13, after which the driver is not to be used except for its output.
-    pub fn add(&mut self, node: NodePtr) -> Result<bool, u32> {
+    fn add(&mut self, node: NodePtr) -> Result<bool, u32> {
         assert!(!self.finished());
         self.tree_cache.update(self.a, node);
         self.write_stack.push(node);
 
         while let Some(node_to_write) = self.write_stack.pop() {
-            if Some(node_to_write) == self.tree_cache.sentinel_node {
+            if Some(node_to_write) == self.sentinel {
                 return Ok(false);
             }
             let op = self.read_op_stack.pop();
@@ -359,7 +360,7 @@ impl<'a> Driver<'a> {
         Ok(true)
     }
 
-    pub fn restore(&mut self, state: DriverState) {
+    fn restore(&mut self, state: DriverState<C>) {
         self.read_op_stack = state.read_op_stack;
         self.write_stack = state.write_stack;
         self.tree_cache.restore(state.tree_cache);
@@ -369,18 +370,16 @@ impl<'a> Driver<'a> {
     }
 }
 
-/// A session on the unchanged Rust.
-struct Session<'a> {
-    a: &'a Allocator,
-    sentinel: Option<NodePtr>,
-    driver: Driver<'a>,
+/// A session on the Rust.
+struct Session<'a, W: Writer> {
+    driver: Driver<'a, W::Cache>,
     /// Does each step too, if the two are compared.
-    serializer: Option<Serializer>,
+    serializer: Option<W>,
     /// The steps that count: after them a fresh session is this one. Each is an add,
     /// also for a `05`, or a `02`.
     steps: Vec<Step>,
     /// The state before add k, for each k below the adds on the present history.
-    history: Vec<Before>,
+    history: Vec<Before<W>>,
     /// The handle of the open quote.
     quoted: Option<u32>,
 }
@@ -392,14 +391,14 @@ struct Told {
     counts: Counts,
 }
 
-struct Before {
-    driver: DriverState,
-    serializer: Option<UndoState>,
+struct Before<W: Writer> {
+    driver: DriverState<W::Cache>,
+    serializer: Option<W::Undo>,
     /// How many of the steps that count led to it.
     steps: usize,
 }
 
-impl<'a> Session<'a> {
+impl<'a, W: Writer> Session<'a, W> {
     fn new(
         a: &'a Allocator,
         sentinel: Option<NodePtr>,
@@ -407,10 +406,8 @@ impl<'a> Session<'a> {
         compare: bool,
     ) -> Self {
         Self {
-            a,
-            sentinel,
             driver: Driver::new(a, sentinel, output_length),
-            serializer: compare.then(|| Serializer::new(sentinel)),
+            serializer: compare.then(|| W::new(sentinel)),
             steps: vec![],
             history: vec![],
             quoted: None,
@@ -420,8 +417,9 @@ impl<'a> Session<'a> {
     /// A fresh session that did the first `count` of the steps that count. The Rust
     /// can't copy a `Serializer`.
     fn again(&self, count: usize) -> Self {
-        let length = self.driver.output_length;
-        let mut again = Self::new(self.a, self.sentinel, length, self.serializer.is_some());
+        let Driver { a, sentinel, .. } = self.driver;
+        let (length, compare) = (self.driver.output_length, self.serializer.is_some());
+        let mut again = Self::new(a, sentinel, length, compare);
         for step in &self.steps[..count] {
             again.make(*step, None).expect("a step that went before");
         }
@@ -439,7 +437,7 @@ impl<'a> Session<'a> {
         let before = self.driver.state();
         let finished = self.driver.add(from_word(h))?;
         let undo = self.serializer.as_mut().map(|ser| {
-            let (done, undo) = ser.add(self.a, from_word(h)).expect("Serializer::add");
+            let (done, undo) = ser.add(self.driver.a, from_word(h));
             assert_eq!(done, finished, "finished differs from Serializer");
             undo
         });
@@ -486,7 +484,7 @@ impl<'a> Session<'a> {
         Ok(again.told())
     }
 
-    fn before(&mut self, k: u16) -> Result<Before, u32> {
+    fn before(&mut self, k: u16) -> Result<Before<W>, u32> {
         let k = usize::from(k);
         if k >= self.history.len() {
             return Err(11);
@@ -507,8 +505,7 @@ impl<'a> Session<'a> {
                 .expect("an add that was quoted"),
         }
         if let Some(ser) = self.serializer.as_ref() {
-            assert_eq!(ser.size(), self.driver.output.len() as u64, "size differs");
-            assert_eq!(ser.get_ref(), &self.driver.output, "bytes differ");
+            assert_eq!(ser.written(), self.driver.output, "bytes differ");
         }
         Ok(())
     }
@@ -528,7 +525,7 @@ impl<'a> Session<'a> {
     /// writer has written.
     fn told(&self) -> Told {
         let written = match &self.serializer {
-            Some(ser) => ser.get_ref(),
+            Some(ser) => ser.written(),
             None => &self.driver.output,
         };
         let counts = counts::of(written);
@@ -542,27 +539,53 @@ impl<'a> Session<'a> {
     }
 }
 
-/// The whole session. With `compare` every step that 12 and 13 let through is
-/// also done by the unchanged `Serializer`; a difference panics.
+/// The whole session by the Rust as it is. With `compare` every step that 12 and 13 let
+/// through is also done by the unchanged `Serializer`; a difference panics.
 pub fn run(file: &[u8], output_length: usize, compare: bool) -> SessionAnswer {
+    run_by(Measure::Counted, file, output_length, compare)
+}
+
+/// The whole session by a measure, with `compare` as before by the `Serializer` that has it.
+pub fn run_by(measure: Measure, file: &[u8], output_length: usize, compare: bool) -> SessionAnswer {
     match parse(file) {
         Err(number) => SessionAnswer {
             number,
             ..SessionAnswer::default()
         },
-        Ok(s) => run_parsed(&s, output_length, compare),
+        Ok(s) => run_parsed(measure, &s, output_length, compare),
     }
 }
 
-pub fn run_parsed(s: &SessionFile, output_length: usize, compare: bool) -> SessionAnswer {
-    run_items(s, output_length, compare).0
+pub fn run_parsed(
+    measure: Measure,
+    s: &SessionFile,
+    output_length: usize,
+    compare: bool,
+) -> SessionAnswer {
+    run_items(measure, s, output_length, compare).0
 }
 
 /// The whole session, and the items of its output.
-fn run_items(s: &SessionFile, output_length: usize, compare: bool) -> (SessionAnswer, Vec<Item>) {
+fn run_items(
+    measure: Measure,
+    s: &SessionFile,
+    output_length: usize,
+    compare: bool,
+) -> (SessionAnswer, Vec<Item>) {
+    match measure {
+        Measure::Counted => run_on::<clvm_rs::serde::Serializer>(s, output_length, compare),
+        Measure::Documented => run_on::<documented::serde::Serializer>(s, output_length, compare),
+    }
+}
+
+fn run_on<W: Writer>(
+    s: &SessionFile,
+    output_length: usize,
+    compare: bool,
+) -> (SessionAnswer, Vec<Item>) {
     let a = s.allocator();
     let sentinel = s.sentinel.map(from_word);
-    let mut session = Session::new(&a, sentinel, output_length, compare);
+    let mut session = Session::<W>::new(&a, sentinel, output_length, compare);
     let mut all: Vec<Told> = vec![];
     let mut number = 0;
     for step in &s.steps {
@@ -613,12 +636,12 @@ pub fn print(r: &SessionAnswer, counts: bool) -> String {
     text(r, counts, &(crate::hex::encode(&r.output) + "\n"))
 }
 
-/// The text that `session --items FILE` prints, or with `--counts` too: a line for each item
-/// of the output.
-pub fn print_items(file: &[u8], counts: bool) -> String {
+/// The text that `session --items FILE` prints, or with `--counts` or `--documented` too: a
+/// line for each item of the output.
+pub fn print_items(measure: Measure, file: &[u8], counts: bool) -> String {
     let (answer, items) = match parse(file) {
         Err(_) => (run(file, MAX_OUTPUT, true), vec![]),
-        Ok(s) => run_items(&s, MAX_OUTPUT, true),
+        Ok(s) => run_items(measure, &s, MAX_OUTPUT, true),
     };
     let line = |item: &Item| match item {
         Item::Reference(path) => format!("reference {}\n", crate::hex::encode(path)),

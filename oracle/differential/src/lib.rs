@@ -9,6 +9,7 @@ pub mod compare;
 pub mod count_benchmark;
 pub mod inputs;
 pub mod lent;
+pub mod measure_benchmark;
 pub mod numbers;
 pub mod one_atom;
 pub mod quote_benchmark;

@@ -41,9 +41,11 @@ fn run(args: &[&str]) -> Result<(), String> {
         }
         ["session", count, seed, rest @ ..] => {
             let (count, seed, most) = (number(count)? as usize, number(seed)?, most(rest)?);
-            session_compare::run(call::session, count, seed, most, |line| {
-                println!("session: {line}")
-            })?;
+            let calls = session_compare::Calls {
+                counted: call::session,
+                documented: call::session_documented,
+            };
+            session_compare::run(calls, count, seed, most, |line| println!("session: {line}"))?;
         }
         ["benchmark"] => {
             benchmark::run();

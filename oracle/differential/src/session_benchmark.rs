@@ -1,8 +1,9 @@
-//! How long the port's session call takes, and the unchanged `Serializer`, on the
+//! How long the port's session calls take, and the unchanged `Serializer`, on the
 //! same sessions.
 
+use crate::session_compare::SessionCall;
 use crate::times::measure;
-use crate::{cache_benchmark, count_benchmark, quote_benchmark, undo_benchmark};
+use crate::{cache_benchmark, count_benchmark, measure_benchmark, quote_benchmark, undo_benchmark};
 use clvm_rs::Allocator;
 use clvm_rs::serde::{Serializer, UndoState};
 use nikvoldra::call::{
@@ -217,12 +218,14 @@ fn one_add_cases() -> Vec<Case> {
     all
 }
 
-/// The files of `cases`, then those that take back by `02` and by `03`, then those that quote, numbered from 1, in a folder.
+/// The files of `cases`, then those that take back by `02` and by `03`, then those that quote, then those with long paths, numbered
+/// from 1, in a folder.
 pub fn write(folder: &str) -> std::io::Result<()> {
     std::fs::create_dir_all(folder)?;
     let mut files: Vec<Vec<u8>> = cases().into_iter().map(|c| c.file).collect();
     files.extend(undo_benchmark::cases().into_iter().flat_map(|c| c.files));
     files.extend(quote_benchmark::cases().into_iter().flat_map(|c| c.files));
+    files.extend(measure_benchmark::cases().into_iter().map(|c| c.file));
     for (i, file) in files.iter().enumerate() {
         std::fs::write(format!("{folder}/{}.session", i + 1), file)?;
     }
@@ -305,8 +308,8 @@ pub fn run() {
     let (mut work, mut words) = (vec![0; WORK_LENGTH], vec![0; WORDS_LENGTH]);
     let mut checkpoints = vec![Checkpoint::default(); CHECKPOINTS_LENGTH];
     let mut output = vec![0; MAX_OUTPUT];
-    let mut port = |file: &[u8], length: usize| {
-        black_box(call::session(
+    let mut any_port = |call: SessionCall, file: &[u8], length: usize| {
+        black_box(call(
             black_box(file),
             &mut work,
             &mut words,
@@ -314,6 +317,7 @@ pub fn run() {
             &mut output[..length],
         ))
     };
+    let mut port = |file: &[u8], length: usize| any_port(call::session, file, length);
     heading();
     for c in cases() {
         println!("{}", row(&c, &mut port));
@@ -337,6 +341,11 @@ pub fn run() {
     count_benchmark::heading();
     for c in cases() {
         println!("{}", count_benchmark::row(&c, &mut port));
+    }
+    let mut any_port = |call: SessionCall, file: &[u8]| any_port(call, file, MAX_OUTPUT);
+    measure_benchmark::heading();
+    for c in cases().into_iter().chain(measure_benchmark::cases()) {
+        println!("{}", measure_benchmark::row(&c, &mut any_port));
     }
 }
 

@@ -1,4 +1,5 @@
-//! The session call on a file, compared with the unchanged Rust's `Serializer`.
+//! The session calls on a file, compared with the unchanged Rust's `Serializer`, and with the one
+//! that has the documentation's prefix lengths.
 
 use crate::lent::{ABOVE, lengths, shorten};
 use crate::numbers::Numbers;
@@ -8,11 +9,19 @@ use crate::trial::{Call, Expected, Trial};
 use nikvoldra::call::{self, CHECKPOINTS_LENGTH, Checkpoint, WORDS_LENGTH, WORK_LENGTH};
 use oracle::plain::{self, Interner};
 use oracle::session::{self, MAX_OUTPUT, SessionAnswer};
+use oracle::writer::Measure;
 use oracle::{hex, reading};
 use std::collections::BTreeMap;
 
-/// `nikvoldra::call::session`, or what a test has in its place.
+/// `nikvoldra::call::session` or `session_documented`, or what a test has in its place.
 pub type SessionCall = Call<Checkpoint, call::SessionAnswer>;
+
+/// The two calls.
+#[derive(Clone, Copy)]
+pub struct Calls {
+    pub counted: SessionCall,
+    pub documented: SessionCall,
+}
 
 /// The least lengths of work, words and checkpoints.
 const LEAST: [usize; 3] = [WORK_LENGTH, WORDS_LENGTH, CHECKPOINTS_LENGTH];
@@ -20,12 +29,19 @@ const LEAST: [usize; 3] = [WORK_LENGTH, WORDS_LENGTH, CHECKPOINTS_LENGTH];
 const ONE_WORD_EACH: usize = WORDS_LENGTH / 3;
 /// Of so many files one is also tried with slices that are too short.
 const SHORT_EACH: usize = 8;
+/// Of so many files one is also run by the documentation, as are all that are made for the measures.
+const DOCUMENTED_EACH: usize = 2;
 
 /// Files and calls by kind, and what else was met.
 #[derive(Default)]
 pub struct Tally {
     files: u64,
+    /// those that both calls ran, and that differ between them
+    by_both: u64,
+    differ: u64,
     calls: u64,
+    /// those of them by the documentation
+    documented: u64,
     steps: u64,
     finished: u64,
     read_back: u64,
@@ -35,7 +51,10 @@ pub struct Tally {
 impl Count for Tally {
     fn add(&mut self, other: &Self) {
         self.files += other.files;
+        self.by_both += other.by_both;
+        self.differ += other.differ;
         self.calls += other.calls;
+        self.documented += other.documented;
         self.steps += other.steps;
         self.finished += other.finished;
         self.read_back += other.read_back;
@@ -80,14 +99,16 @@ fn expected(r: &SessionAnswer) -> Expected<Checkpoint, call::SessionAnswer> {
     Expected { answer, left }
 }
 
-/// The call with the slices that it is lent, and a tally.
+/// The calls with the slices that they are lent, and a tally.
 struct Comparison {
+    calls: Calls,
+    /// of the call that has its turn
     trial: Trial<Checkpoint, call::SessionAnswer>,
     tally: Tally,
 }
 
 impl Comparison {
-    fn new(call: SessionCall, seed: u64) -> Self {
+    fn new(calls: Calls, seed: u64) -> Self {
         let slices = [
             ("work", WORK_LENGTH),
             ("words", WORDS_LENGTH),
@@ -95,7 +116,8 @@ impl Comparison {
             ("output", MAX_OUTPUT),
         ];
         Self {
-            trial: Trial::new(call, slices, seed),
+            calls,
+            trial: Trial::new(calls.counted, slices, seed),
             tally: Tally::default(),
         }
     }
@@ -117,14 +139,19 @@ impl Comparison {
             .map_err(|text| format!("{text}\nlengths: {lengths:?}, output {output}"))
     }
 
-    /// What the Rust gives with so long an output; `full` with the longest.
-    fn rust_gives(file: &[u8], full: &SessionAnswer, output: usize) -> SessionAnswer {
+    /// What the Rust gives by a measure with so long an output; `full` with the longest.
+    fn rust_gives(
+        measure: Measure,
+        file: &[u8],
+        full: &SessionAnswer,
+        output: usize,
+    ) -> SessionAnswer {
         // a quote that 12 refuses had bytes that no word counts
         let other = matches!(full.number, 12 | 13) || output < needed(full);
         if output >= MAX_OUTPUT || !other {
             full.clone()
         } else {
-            session::run(file, output, true)
+            session::run_by(measure, file, output, true)
         }
     }
 
@@ -149,19 +176,45 @@ impl Comparison {
         outputs
     }
 
-    /// A call for each of `outputs`, and at times one with slices that are too short.
+    /// Both calls, or the one by the Rust's ranges.
     fn compare(&mut self, kind: &'static str, file: &[u8], turn: usize) -> Result<(), String> {
+        let full = self.by(Measure::Counted, kind, file, turn)?;
+        self.tally.files += 1;
+        if turn.is_multiple_of(DOCUMENTED_EACH) || kind.starts_with("measure") {
+            let before = self.tally.calls;
+            let documented = self.by(Measure::Documented, kind, file, turn / DOCUMENTED_EACH)?;
+            self.tally.by_both += 1;
+            self.tally.differ += u64::from(documented != full);
+            self.tally.documented += self.tally.calls - before;
+        }
+        Ok(())
+    }
+
+    /// A call for each of `outputs`, and at times one with slices that are too short: the answer
+    /// with an output that is long enough.
+    fn by(
+        &mut self,
+        measure: Measure,
+        kind: &'static str,
+        file: &[u8],
+        turn: usize,
+    ) -> Result<SessionAnswer, String> {
+        self.trial.call = match measure {
+            Measure::Counted => self.calls.counted,
+            Measure::Documented => self.calls.documented,
+        };
+        let of_call = |text| format!("{measure:?}: {text}");
         // panics where the rig's driver and Serializer differ
-        let full = session::run(file, MAX_OUTPUT, true);
+        let full = session::run_by(measure, file, MAX_OUTPUT, true);
         let outputs = self.outputs(&full, turn);
         for output in &outputs {
-            let answer = Self::rust_gives(file, &full, *output);
+            let answer = Self::rust_gives(measure, file, &full, *output);
             let lengths = lengths(&mut self.trial.rng, LEAST);
-            self.once(file, lengths, *output, &answer)?;
+            self.once(file, lengths, *output, &answer)
+                .map_err(of_call)?;
             self.count(kind, answer.number);
-            self.read_back(file, &answer)?;
+            self.read_back(file, &answer).map_err(of_call)?;
         }
-        self.tally.files += 1;
         if turn % SHORT_EACH == 1 {
             let rng = &mut self.trial.rng;
             let lengths = lengths(rng, LEAST);
@@ -174,10 +227,11 @@ impl Comparison {
                 number: 1,
                 ..SessionAnswer::default()
             };
-            self.once(file, lengths, outputs[0], &refused)?;
+            self.once(file, lengths, outputs[0], &refused)
+                .map_err(of_call)?;
             self.count(kind, 1);
         }
-        Ok(())
+        Ok(full)
     }
 
     /// A finished session within demand 3's premises: the bytes that the port has
@@ -231,25 +285,28 @@ impl Compare for Comparison {
 
 fn summary(t: &Tally) -> String {
     format!(
-        "{} calls with three words of {} steps, by number {}; {} calls finished, {} of them read back",
+        "{} calls with three words of {} steps, by number {}; {} calls finished, {} of them read back; {} calls by the documentation on {} files, of which {} differ between the calls",
         t.calls,
         t.steps,
         t.numbers(),
         t.finished,
-        t.read_back
+        t.read_back,
+        t.documented,
+        t.by_both,
+        t.differ
     )
 }
 
 /// All sets, at most `most` files of each but the generated ones; `say` gets a
 /// line for each set, one for each kind, and a last one.
 pub fn run(
-    call: SessionCall,
+    calls: Calls,
     generated: usize,
     seed: u64,
     most: usize,
     mut say: impl FnMut(&str),
 ) -> Result<Tally, String> {
-    let new = |seed| Comparison::new(call, seed);
+    let new = |seed| Comparison::new(calls, seed);
     let sets = session_inputs::sets(generated, seed);
     let total = sets::run(new, sets, seed, most, |name, tally, seconds| {
         say(&format!(
@@ -271,17 +328,20 @@ pub fn run(
 
 #[cfg(test)]
 mod tests {
-    use super::{Comparison, LEAST, SessionCall, and_output, expected, run};
+    use super::{Calls, Comparison, LEAST, SessionCall, and_output, expected, run};
     use crate::lent::lengths;
-    use crate::session_stand_in::{Fault, with_fault};
+    use crate::session_stand_in::{Fault, documented, with_fault};
     use oracle::session::{self, MAX_OUTPUT};
 
-    const RIGHT: SessionCall = with_fault::<{ Fault::None as u8 }>;
+    const RIGHT: Calls = Calls {
+        counted: with_fault::<{ Fault::None as u8 }>,
+        documented: documented::<{ Fault::None as u8 }>,
+    };
     /// No atoms, pairs and sentinel; one step, which adds the small atom 5.
     const FILE: &[u8] = b"BRS\0\x01\0\0\0\0\xff\xff\xff\xff\x01\x08\0\0\x05";
 
-    fn verdict(call: SessionCall) -> Result<(), String> {
-        run(call, 200, 1, 100, |_| ()).map(|_| ())
+    fn verdict(calls: Calls) -> Result<(), String> {
+        run(calls, 200, 1, 100, |_| ()).map(|_| ())
     }
 
     #[test]
@@ -289,46 +349,45 @@ mod tests {
         assert_eq!(verdict(RIGHT), Ok(()));
     }
 
+    /// A call with each fault.
+    macro_rules! faulty {
+        ($call:ident: $($fault:ident)*) => {
+            [$((stringify!($fault), $call::<{ Fault::$fault as u8 }> as SessionCall)),*]
+        };
+    }
+    /// The faults that either call may have.
+    macro_rules! all_faulty {
+        ($call:ident) => {
+            faulty!($call: Number Steps Size Finished DropsItems Byte WordsBeyond OutputBeyond WorkEnd WorkBeyond
+                Checkpoint TouchedBy8 TouchedBy1 LongOutput UnknownForget ForgetRestores UnknownQuote QuoteRestores
+                QuoteLeavesItems Number17 OneWordEach OneWordShort WordsApart WordsSwapped LastReferences LastPrefixBytes
+                RestoreLeavesCounts ForgetLeavesCounts QuoteLeavesCounts QuoteShowsBefore NoPaths NoNil OneByte OtherMeasure)
+        };
+    }
+
     #[test]
     fn each_fault_is_noticed() {
-        let faulty: [SessionCall; 33] = [
-            with_fault::<{ Fault::Number as u8 }>,
-            with_fault::<{ Fault::Steps as u8 }>,
-            with_fault::<{ Fault::Size as u8 }>,
-            with_fault::<{ Fault::Finished as u8 }>,
-            with_fault::<{ Fault::DropsItems as u8 }>,
-            with_fault::<{ Fault::Byte as u8 }>,
-            with_fault::<{ Fault::WordsBeyond as u8 }>,
-            with_fault::<{ Fault::OutputBeyond as u8 }>,
-            with_fault::<{ Fault::WorkEnd as u8 }>,
-            with_fault::<{ Fault::WorkBeyond as u8 }>,
-            with_fault::<{ Fault::Checkpoint as u8 }>,
-            with_fault::<{ Fault::TouchedBy8 as u8 }>,
-            with_fault::<{ Fault::TouchedBy1 as u8 }>,
-            with_fault::<{ Fault::LongOutput as u8 }>,
-            with_fault::<{ Fault::UnknownForget as u8 }>,
-            with_fault::<{ Fault::ForgetRestores as u8 }>,
-            with_fault::<{ Fault::UnknownQuote as u8 }>,
-            with_fault::<{ Fault::QuoteRestores as u8 }>,
-            with_fault::<{ Fault::QuoteLeavesItems as u8 }>,
-            with_fault::<{ Fault::Number17 as u8 }>,
-            with_fault::<{ Fault::OneWordEach as u8 }>,
-            with_fault::<{ Fault::OneWordShort as u8 }>,
-            with_fault::<{ Fault::WordsApart as u8 }>,
-            with_fault::<{ Fault::WordsSwapped as u8 }>,
-            with_fault::<{ Fault::LastReferences as u8 }>,
-            with_fault::<{ Fault::LastPrefixBytes as u8 }>,
-            with_fault::<{ Fault::RestoreLeavesCounts as u8 }>,
-            with_fault::<{ Fault::ForgetLeavesCounts as u8 }>,
-            with_fault::<{ Fault::QuoteLeavesCounts as u8 }>,
-            with_fault::<{ Fault::QuoteShowsBefore as u8 }>,
-            with_fault::<{ Fault::NoPaths as u8 }>,
-            with_fault::<{ Fault::NoNil as u8 }>,
-            with_fault::<{ Fault::OneByte as u8 }>,
-        ];
-        for (i, call) in faulty.into_iter().enumerate() {
-            assert!(verdict(call).is_err(), "fault {} is not noticed", i + 1);
+        let mut count = 0;
+        for (name, counted) in all_faulty!(with_fault) {
+            assert!(verdict(Calls { counted, ..RIGHT }).is_err(), "{name}");
+            count += 1;
         }
+        assert_eq!(count, 34);
+    }
+
+    #[test]
+    fn each_fault_by_the_documentation_is_noticed() {
+        let more = faulty!(documented: LongerReference ShorterReference Prefix512 Prefix513 QuoteMeasures RestoreMeasures ForgetMeasures);
+        let mut count = 0;
+        for (name, documented) in all_faulty!(documented).into_iter().chain(more) {
+            let calls = Calls {
+                documented,
+                ..RIGHT
+            };
+            assert!(verdict(calls).is_err(), "{name}");
+            count += 1;
+        }
+        assert_eq!(count, 41);
     }
 
     /// Both where the slices are cleared and where they are untouched.

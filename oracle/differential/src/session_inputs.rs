@@ -5,7 +5,7 @@ use oracle::generate::exhaustive::{
     SESSIONS, UNDO_SESSIONS, forget_session, forget_sessions, quote_session, quote_sessions,
     session, undo_session,
 };
-use oracle::generate::sessions::KINDS;
+use oracle::generate::sessions::{KINDS, MEASURES};
 use oracle::generate::{self, any_session};
 use oracle::rng::Rng;
 
@@ -23,6 +23,11 @@ pub fn sets(generated: usize, seed: u64) -> Vec<Set<Input>> {
         Set::new("of each kind", KINDS.len() * OF_EACH, move |i| {
             let kind = KINDS[i / OF_EACH].0;
             let own = seed.wrapping_mul(1_000_003) + (i % OF_EACH) as u64;
+            (kind, generate::session(own, kind).expect("a kind"))
+        }),
+        Set::new("for the measures", MEASURES.len() * OF_EACH, move |i| {
+            let kind = MEASURES[i % MEASURES.len()];
+            let own = seed.wrapping_mul(1_000_003) + (OF_EACH + i) as u64;
             (kind, generate::session(own, kind).expect("a kind"))
         }),
         Set::new("generated", generated, move |i| {

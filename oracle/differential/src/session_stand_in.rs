@@ -1,9 +1,10 @@
-//! The session call made of `oracle::model` (01's text), right or with one
+//! The session calls made of `oracle::model` (01's text), right or with one
 //! fault, to try the comparison itself.
 
 use nikvoldra::call::{CHECKPOINTS_LENGTH, Checkpoint, SessionAnswer, WORDS_LENGTH, WORK_LENGTH};
-use oracle::model::{self, Count, Forget, Quote, Ways};
+use oracle::model::{self, Count, Forget, Length, Quote, Ways};
 use oracle::session::{self, MAX_OUTPUT, Step};
+use oracle::writer::Measure;
 
 #[derive(Clone, Copy, PartialEq)]
 #[repr(u8)]
@@ -75,6 +76,23 @@ pub enum Fault {
     NoNil,
     /// no prefix has more than a byte
     OneByte,
+    /// the other call's measure
+    OtherMeasure,
+    /// a reference may be a byte longer than what it stands for; `oracle wrong` has other wrong
+    /// measures
+    LongerReference,
+    /// a reference must be shorter
+    ShorterReference,
+    /// prefix 3 for 512 bytes
+    Prefix512,
+    /// prefix 3 from 513 bytes on
+    Prefix513,
+    /// a `04` has the Rust's measure
+    QuoteMeasures,
+    /// after a `02` all steps have it
+    RestoreMeasures,
+    /// after a `03` all steps have it
+    ForgetMeasures,
 }
 
 struct Slices<'a> {
@@ -97,10 +115,48 @@ pub fn with_fault<const FAULT: u8>(
         checkpoints,
         output,
     };
-    answer(FAULT, file, &mut slices)
+    answer(Measure::Counted, FAULT, file, &mut slices)
 }
 
-fn answer(fault: u8, file: &[u8], s: &mut Slices) -> SessionAnswer {
+pub fn documented<const FAULT: u8>(
+    file: &[u8],
+    work: &mut [u32],
+    words: &mut [u32],
+    checkpoints: &mut [Checkpoint],
+    output: &mut [u8],
+) -> SessionAnswer {
+    let mut slices = Slices {
+        work,
+        words,
+        checkpoints,
+        output,
+    };
+    answer(Measure::Documented, FAULT, file, &mut slices)
+}
+
+/// A measure, or a wrong one in its place.
+fn length(measure: Measure, fault: &impl Fn(Fault) -> bool) -> Length {
+    let wrong = [
+        (
+            Fault::OtherMeasure,
+            Length::By(match measure {
+                Measure::Counted => Measure::Documented,
+                Measure::Documented => Measure::Counted,
+            }),
+        ),
+        (Fault::LongerReference, Length::Longer),
+        (Fault::ShorterReference, Length::Shorter),
+        (Fault::Prefix512, Length::Long512),
+        (Fault::Prefix513, Length::Long513),
+        (Fault::QuoteMeasures, Length::NotQuoted),
+        (Fault::RestoreMeasures, Length::LostByRestore),
+        (Fault::ForgetMeasures, Length::LostByForget),
+    ];
+    let found = wrong.into_iter().find(|(f, _)| fault(*f));
+    found.map_or(Length::By(measure), |(_, length)| length)
+}
+
+fn answer(measure: Measure, fault: u8, file: &[u8], s: &mut Slices) -> SessionAnswer {
     let fault = |f: Fault| f as u8 == fault;
     let refusal = |number| SessionAnswer {
         number,
@@ -162,6 +218,7 @@ fn answer(fault: u8, file: &[u8], s: &mut Slices) -> SessionAnswer {
         forget,
         quote,
         count: count.map_or(Count::Right, |(_, count)| *count),
+        length: length(measure, &fault),
     };
     let (mut r, _) = model::run_with(ways, file, s.output.len());
     if fault(Fault::LongOutput) && r.number == 13 && s.output.len() > MAX_OUTPUT {

@@ -63,10 +63,10 @@ pub fn measure_in_turns<const N: usize>(
 
 /// A row for each input, all with the times of the Rust's ways. A round is calls on an input and the empty one in turns, for each
 /// input, then calls of each of the Rust's ways.
-pub fn measure_beside<const N: usize>(
-    port: &mut dyn FnMut(&[u8]),
-    inputs: [&[u8]; N],
-    empty: &[u8],
+pub fn measure_beside<I: Copy, const N: usize>(
+    port: &mut dyn FnMut(I),
+    inputs: [I; N],
+    empty: I,
     rust: &mut [&mut dyn FnMut()],
 ) -> [Row; N] {
     let began = Instant::now();

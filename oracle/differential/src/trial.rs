@@ -18,7 +18,7 @@ pub struct Expected<T, A> {
 }
 
 pub struct Trial<T, A> {
-    call: Call<T, A>,
+    pub call: Call<T, A>,
     pub rng: Rng,
     work: Lent<u32>,
     words: Lent<u32>,

@@ -2,6 +2,7 @@
 
 mod counts;
 mod forgets;
+mod measures;
 mod quotes;
 
 use super::{Kind, damage};
@@ -11,6 +12,15 @@ use crate::session::{
     self, MAX_ATOM_BYTES, MAX_ATOMS, MAX_FILE, MAX_OUTPUT, MAX_PAIRS, MAX_STEPS, SessionFile, Step,
 };
 use clvm_rs::allocator::fits_in_small_atom;
+
+/// The kinds made for the measures of a found path.
+pub const MEASURES: [&str; 5] = [
+    "measure-least",
+    "measure-atoms",
+    "measure-pairs",
+    "measure-steps",
+    "measure-open",
+];
 
 pub const KINDS: &[Kind] = &[
     ("tiny", 300, tiny),
@@ -62,6 +72,11 @@ pub const KINDS: &[Kind] = &[
     ("long-paths", 6, long_paths),
     ("far-stack", 2, far_stack),
     ("far-deep", 2, far_deep),
+    ("measure-least", 2, measures::least),
+    ("measure-atoms", 4, |rng| measures::again(rng, false)),
+    ("measure-pairs", 4, |rng| measures::again(rng, true)),
+    ("measure-steps", 6, measures::steps),
+    ("measure-open", 2, measures::open),
     ("atom-sizes", 8, atom_sizes),
     ("counts-widths", 20, counts::widths),
     ("counts-twice", 1, counts::twice),

@@ -1,4 +1,4 @@
-//! The two calls over slices that the caller lends, and their answers. All that is unsafe in this crate stands here.
+//! The calls over slices that the caller lends, and their answers. All that is unsafe in this crate stands here.
 //!
 //! A slice's contents before a call don't matter, and nothing is kept between two calls. What each slice holds afterwards is
 //! said in the repository's `include/nikvoldra.h`.
@@ -20,7 +20,7 @@ pub const INPUT_MOST: usize = 65_535;
 /// The most bytes of an output that are used (question 13).
 pub const OUTPUT_MOST: usize = 65_535;
 
-/// A checkpoint record: room that [`session()`] is lent. After a run all its words are zero.
+/// A checkpoint record: room that [`session()`] and [`session_documented`] are lent. After a run all its words are zero.
 #[repr(C)]
 #[derive(Clone, Copy, Debug, Default, PartialEq, Eq)]
 pub struct Checkpoint {
@@ -38,7 +38,7 @@ pub struct Checkpoint {
     pub sentinel: u32,
 }
 
-/// What [`session()`] answers.
+/// What [`session()`] and [`session_documented`] answer.
 #[repr(C)]
 #[derive(Clone, Copy, Debug, Default, PartialEq, Eq)]
 pub struct SessionAnswer {
@@ -70,6 +70,19 @@ pub struct ReadAnswer {
 
 extern "C" {
     fn nikvoldra_session(
+        file: *const u8,
+        file_length: usize,
+        work: *mut u32,
+        work_length: usize,
+        words: *mut u32,
+        words_length: usize,
+        checkpoints: *mut Checkpoint,
+        checkpoints_length: usize,
+        output: *mut u8,
+        output_length: usize,
+    ) -> SessionAnswer;
+
+    fn nikvoldra_session_documented(
         file: *const u8,
         file_length: usize,
         work: *mut u32,
@@ -121,11 +134,71 @@ pub fn session(
     checkpoints: &mut [Checkpoint],
     output: &mut [u8],
 ) -> SessionAnswer {
+    lend(nikvoldra_session, file, work, words, checkpoints, output)
+}
+
+/// The same, with one difference: where a path was found, the reference is written if it is no longer than what it stands for in full,
+/// by the prefix lengths of the CLVM serialization documentation.
+///
+/// [`session()`] has the Rust's prefix lengths, which count a byte too many for a path of 512 to 8,191 bytes. So the two differ only
+/// where a found path has 512 bytes or more, and that and 3 bytes are the length in full.
+///
+/// ```
+/// use nikvoldra::call::{self, Checkpoint};
+///
+/// let mut work = vec![0; call::WORK_LENGTH];
+/// let mut words = vec![0; call::WORDS_LENGTH];
+/// let mut checkpoints = vec![Checkpoint::default(); call::CHECKPOINTS_LENGTH];
+/// let mut output = [0; 100];
+/// let file = b"BRS\0\x01\0\0\0\0\xff\xff\xff\xff\x01\x08\0\0\0";
+/// let answer = call::session_documented(file, &mut work, &mut words, &mut checkpoints, &mut output);
+/// assert_eq!(answer, call::session(file, &mut work, &mut words, &mut checkpoints, &mut output));
+/// ```
+pub fn session_documented(
+    file: &[u8],
+    work: &mut [u32],
+    words: &mut [u32],
+    checkpoints: &mut [Checkpoint],
+    output: &mut [u8],
+) -> SessionAnswer {
+    lend(
+        nikvoldra_session_documented,
+        file,
+        work,
+        words,
+        checkpoints,
+        output,
+    )
+}
+
+/// A session call as it is declared above.
+type DeclaredSession = unsafe extern "C" fn(
+    *const u8,
+    usize,
+    *mut u32,
+    usize,
+    *mut u32,
+    usize,
+    *mut Checkpoint,
+    usize,
+    *mut u8,
+    usize,
+) -> SessionAnswer;
+
+/// Lends the slices to one of the two session calls.
+fn lend(
+    call: DeclaredSession,
+    file: &[u8],
+    work: &mut [u32],
+    words: &mut [u32],
+    checkpoints: &mut [Checkpoint],
+    output: &mut [u8],
+) -> SessionAnswer {
     // SAFETY: each pointer and length are those of a Rust slice, so they are aligned and valid for the whole call, and no
-    // `&mut` overlaps another slice. The call has no `requires`, keeps no pointer, and touches nothing outside its slices; it
-    // is declared as the Rattle source has it (tests/declaration.rs compares them).
+    // `&mut` overlaps another slice. Both calls have no `requires`, keep no pointer, and touch nothing outside their slices; they
+    // are declared as the Rattle source has them (tests/declaration.rs compares them).
     unsafe {
-        nikvoldra_session(
+        call(
             file.as_ptr(),
             file.len(),
             work.as_mut_ptr(),
@@ -148,7 +221,7 @@ pub fn read(
     atoms: &mut [u32],
     bytes: &mut [u8],
 ) -> ReadAnswer {
-    // SAFETY: as in `session`: pointers and lengths of Rust slices, of which no `&mut` overlaps another, and a call without
+    // SAFETY: as in `lend`: pointers and lengths of Rust slices, of which no `&mut` overlaps another, and a call without
     // a `requires`, declared as the Rattle source has it.
     unsafe {
         nikvoldra_read(

@@ -1,9 +1,9 @@
 //! Nikvoldra for Rust: trees are added one after the other at the open place of a block's tree, written with repeated
 //! subtrees replaced by short references, and read back.
 //!
-//! The work is done by two calls whose contracts are proved, `nikvoldra_session` and `nikvoldra_read`. This crate owns the
-//! slices that they are lent, makes the session file, and turns their numbers into errors. It is itself tested and not
-//! proved.
+//! The work is done by calls whose contracts are proved, `nikvoldra_session` and `nikvoldra_read`, and
+//! `nikvoldra_session_documented` beside the first. This crate owns the slices that they are lent, makes the session file, and
+//! turns their numbers into errors. It is itself tested and not proved.
 //!
 //! ```
 //! use nikvoldra::{read, Node, Session};
@@ -32,6 +32,12 @@
 //!
 //! [`Session::run`] and [`read`] make fresh slices each time. A [`Writer`] and a [`Reader`] keep theirs, of about 2 MiB and
 //! 3.6 MiB, from call to call. Who has slices of their own uses the functions of [`call`].
+//!
+//! # Two measures of a reference
+//!
+//! Before a reference is written, its path is measured. [`Session::run`] does that as the Rust does, whose prefix lengths count a byte
+//! too many for paths of 512 bytes and more; [`Session::run_documented`] has those of the CLVM serialization documentation, and writes a
+//! reference wherever it is no longer than what it stands for in full. The two differ only where a path has 512 bytes or more.
 //!
 //! # What is promised
 //!

@@ -358,4 +358,39 @@ impl Session {
     pub fn run(&self) -> Result<Run, SessionError> {
         Writer::new().run(self)
     }
+
+    /// Runs it like [`run`](Session::run), with references measured as the CLVM serialization documentation has it.
+    ///
+    /// Where a path to a subtree that was written before is found, the reference is written if it is no longer than the subtree in full.
+    /// The Rust, and [`run`](Session::run), count a byte too many for paths of 512 to 8,191 bytes, so they leave some references out that are just
+    /// as long as what they stand for. Paths of that length need thousands of values between the two places:
+    ///
+    /// ```
+    /// use nikvoldra::{read, Session};
+    ///
+    /// let mut session = Session::new();
+    /// let open = session.sentinel()?;
+    /// let one = session.atom(&[1])?;
+    /// let mut spine = vec![open];
+    /// for i in 0..600 {
+    ///     spine.push(session.pair(one, spine[i])?); // (1 . (1 . .. open))
+    /// }
+    /// let blob = session.atom(&[0x80; 513])?; // 515 bytes with its prefix
+    /// let first = session.pair(blob, spine[487])?;
+    /// session.add(first)?;
+    /// for _ in 0..6 {
+    ///     session.add(spine[600])?;
+    /// }
+    /// session.add(blob)?; // 4,087 values after the first one: a path of 512 bytes, and 515 for the reference
+    ///
+    /// let (rust, documented) = (session.run()?, session.run_documented()?);
+    /// let references = |run: &nikvoldra::Run| run.steps().last().unwrap().references;
+    /// assert_eq!((references(&rust), references(&documented)), (0, 1));
+    /// assert_eq!(rust.bytes().len(), documented.bytes().len());
+    /// assert!(read(rust.bytes())?.tree() == read(documented.bytes())?.tree());
+    /// # Ok::<(), Box<dyn std::error::Error>>(())
+    /// ```
+    pub fn run_documented(&self) -> Result<Run, SessionError> {
+        Writer::new().run_documented(self)
+    }
 }

@@ -1,6 +1,6 @@
-//! The session call with slices of its own.
+//! The session calls with slices of their own.
 
-use crate::call::{self, Checkpoint};
+use crate::call::{self, Checkpoint, SessionAnswer};
 use crate::refusal::Refusal;
 use crate::session::Session;
 use std::error::Error;
@@ -149,6 +149,9 @@ pub struct Writer {
     output: Vec<u8>,
 }
 
+/// One of the session calls.
+type SessionCall = fn(&[u8], &mut [u32], &mut [u32], &mut [Checkpoint], &mut [u8]) -> SessionAnswer;
+
 impl Writer {
     /// A writer whose output has 65,535 bytes, of which no more are ever used.
     pub fn new() -> Writer {
@@ -186,7 +189,34 @@ impl Writer {
 
     /// Runs a session file that was made elsewhere. It can be refused by the questions 2 to 13 and 17.
     pub fn run_file(&mut self, file: &[u8]) -> Result<Run, SessionError> {
-        let answer = call::session(
+        self.run_by(call::session, file)
+    }
+
+    /// Runs a session, with references measured as the documentation has it: [`Session::run_documented`].
+    pub fn run_documented(&mut self, session: &Session) -> Result<Run, SessionError> {
+        self.run_file_documented(&session.to_file())
+    }
+
+    /// The same for a session file that was made elsewhere.
+    ///
+    /// ```
+    /// use nikvoldra::{NodePtr, Session, Writer};
+    ///
+    /// let mut session = Session::new();
+    /// session.add(NodePtr::NIL)?;
+    /// let mut writer = Writer::new();
+    /// let first = writer.run_documented(&session)?;
+    /// assert_eq!(writer.run_file_documented(&session.to_file())?, first);
+    /// // no path of 512 bytes is found
+    /// assert_eq!(writer.run(&session)?, first);
+    /// # Ok::<(), Box<dyn std::error::Error>>(())
+    /// ```
+    pub fn run_file_documented(&mut self, file: &[u8]) -> Result<Run, SessionError> {
+        self.run_by(call::session_documented, file)
+    }
+
+    fn run_by(&mut self, call: SessionCall, file: &[u8]) -> Result<Run, SessionError> {
+        let answer = call(
             file,
             &mut self.work,
             &mut self.words,

@@ -229,6 +229,66 @@ fn widths_of_paths() {
     }
 }
 
+/// A tree that is added with so many values of a spine after it, and then again.
+fn far(session: &mut Session, tree: NodePtr, between: usize) {
+    let open = session.sentinel().unwrap();
+    let mut spine = vec![open];
+    for i in 0..600 {
+        spine.push(session.pair(NodePtr::NIL, spine[i]).unwrap());
+    }
+    let first = session.pair(tree, spine[between % 600]).unwrap();
+    session.add(first).unwrap();
+    for _ in 0..between / 600 {
+        session.add(spine[600]).unwrap();
+    }
+    session.add(tree).unwrap();
+}
+
+/// The bytes of a path, those of an atom in full, and whether each measure has a reference: they differ from 512 path bytes on, where
+/// the atom has 3 more.
+#[test]
+fn measures_of_a_path() {
+    let cases = [
+        (4_086, 511, 513, 0, 0),
+        (4_086, 511, 514, 1, 1),
+        (4_087, 512, 514, 0, 0),
+        (4_087, 512, 515, 0, 1),
+        (4_087, 512, 516, 1, 1),
+        (4_095, 513, 515, 0, 0),
+        (4_095, 513, 516, 0, 1),
+        (4_095, 513, 517, 1, 1),
+    ];
+    for (between, path, full, counted, documented) in cases {
+        let mut session = Session::new();
+        let atom = session.atom(&vec![0x80; full - 2]).unwrap();
+        far(&mut session, atom, between);
+        let runs = [session.run().unwrap(), session.run_documented().unwrap()];
+        for (run, used) in runs.iter().zip([counted, documented]) {
+            assert_eq!(counts(run).last().unwrap().0, used, "{path} and {full}");
+            let again = if used == 1 { 3 + path } else { full };
+            assert_eq!(run.bytes().len(), 1 + full + 2 * between + again);
+            assert!(run.is_finished());
+        }
+        assert!(same(runs[0].bytes(), runs[1].bytes()));
+    }
+}
+
+/// 4,096 pairs are open: a pair has no place, a reference to it has.
+#[test]
+fn a_reference_where_no_pair_fits() {
+    let mut session = Session::new();
+    let atom = session.atom(&[0x80; 512]).unwrap();
+    let tree = session.pair(atom, NodePtr::NIL).unwrap();
+    far(&mut session, tree, 4_095);
+    let error = session.run().unwrap_err();
+    assert_eq!(error.refusal(), Refusal::TooDeep);
+    let run = session.run_documented().unwrap();
+    assert!(run.is_finished());
+    assert_eq!(run.bytes().len(), 1 + 516 + 2 * 4_095 + 516);
+    // in the Rust's place the other steps are the same
+    assert_eq!(run.steps()[..7], error.run().steps()[..]);
+}
+
 /// The bytes, and the number they get or a plain form of the same tree.
 #[test]
 fn reading() {

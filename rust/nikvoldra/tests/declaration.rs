@@ -1,4 +1,4 @@
-//! The declarations of the two calls, of their answers and of a checkpoint record, in `src/call.rs` and in
+//! The declarations of the calls, of their answers and of a checkpoint record, in `src/call.rs` and in
 //! `include/nikvoldra.h`, are those of the Rattle source: names, order, types; and the sizes and places of the fields.
 //! Nothing else compares them: the prover sees only the source, and the linker only the names of the calls.
 
@@ -248,6 +248,11 @@ fn calls() {
         (
             SESSION,
             "nikvoldra_session",
+            ["file", "work", "words", "checkpoints", "output"],
+        ),
+        (
+            SESSION,
+            "nikvoldra_session_documented",
             ["file", "work", "words", "checkpoints", "output"],
         ),
         (

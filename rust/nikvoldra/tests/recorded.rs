@@ -1,6 +1,6 @@
 //! The sessions and readings that were recorded from the Rust, which the programs `session` and `read` also run on.
 
-use nikvoldra::{call, Writer};
+use nikvoldra::{call, Run, SessionError, Writer};
 use std::fmt::Write;
 use std::path::{Path, PathBuf};
 
@@ -53,28 +53,72 @@ fn sessions() {
     assert!(expected.starts_with(&text));
 }
 
-/// The lines with five numbers stand last, among those of the items.
+/// A line for each item of an output.
+fn items(mut rest: &[u8]) -> String {
+    let mut text = String::new();
+    while let Some((first, after)) = rest.split_first() {
+        if *first == 0xff {
+            text += "pair\n";
+            rest = after;
+            continue;
+        }
+        let (name, atom) = match first {
+            0xfe => ("reference", after),
+            _ => ("atom", rest),
+        };
+        let byte = |i: usize| usize::from(atom[i]);
+        let (width, size) = match atom[0] {
+            0..0x80 => (0, 1),
+            0x80..0xc0 => (1, byte(0) - 0x80),
+            0xc0..0xe0 => (2, (byte(0) - 0xc0) << 8 | byte(1)),
+            _ => (3, (byte(0) - 0xe0) << 16 | byte(1) << 8 | byte(2)),
+        };
+        let bytes = hex(&atom[width..width + size]);
+        text += format!("{name} {bytes}").trim_end();
+        text += "\n";
+        rest = &atom[width + size..];
+    }
+    text
+}
+
+/// What `session` writes of a file with `--items` and `--counts`.
+fn with_counts(result: Result<Run, SessionError>) -> String {
+    let refusal = result.as_ref().err().map(|error| error.refusal());
+    let run = result.unwrap_or_else(|error| error.into_run());
+    let mut text = String::new();
+    for (i, step) in run.steps().iter().enumerate() {
+        let finished = u8::from(step.finished);
+        let counts = format!("{} {}", step.references, step.prefix_bytes);
+        writeln!(text, "{} {} {finished} {counts}", i + 1, step.size).unwrap();
+    }
+    text += &items(run.bytes());
+    if let Some(refusal) = refusal {
+        writeln!(text, "refused {}", refusal.number()).unwrap();
+    }
+    text
+}
+
+/// The sessions with their counts stand last, after them those by the documentation, both item by item.
 #[test]
 fn counts_of_sessions() {
-    let (files, expected) = recorded("session", Some("--counts"));
-    assert!(files.len() > 20);
-    let five = |line: &&str| {
-        line.split(' ').count() == 5 && line.bytes().all(|b| b == b' ' || b.is_ascii_digit())
-    };
-    let expected: Vec<&str> = expected.lines().filter(five).collect();
+    let (counted, expected) = recorded("session", Some("--counts"));
+    let (documented, _) = recorded("session", Some("--documented"));
+    assert!(counted.len() > 20 && documented.len() > 20);
     let mut writer = Writer::new();
-    let mut lines = vec![];
-    for file in files {
-        let result = writer.run_file(&std::fs::read(file).unwrap());
-        let run = result.unwrap_or_else(|error| error.into_run());
-        lines.extend(run.steps().iter().enumerate().map(|(i, step)| {
-            let finished = u8::from(step.finished);
-            let counts = format!("{} {}", step.references, step.prefix_bytes);
-            format!("{} {} {finished} {counts}", i + 1, step.size)
-        }));
+    let mut text = String::new();
+    for file in counted {
+        text += &with_counts(writer.run_file(&std::fs::read(file).unwrap()));
     }
-    assert!(lines.len() > 100);
-    assert_eq!(lines, expected);
+    for file in &documented {
+        text += &with_counts(writer.run_file_documented(&std::fs::read(file).unwrap()));
+    }
+    assert!(expected.ends_with(&text));
+    // the Rust's measure makes a difference
+    let differs = |file: &&PathBuf| {
+        let file = std::fs::read(file).unwrap();
+        Writer::new().run_file(&file) != Writer::new().run_file_documented(&file)
+    };
+    assert_eq!(documented.iter().filter(differs).count(), 4);
 }
 
 #[test]

@@ -43,6 +43,7 @@ fn of_a_file() {
     let mut writer = Writer::new();
     for (refusal, file) in cases {
         let error = writer.run_file(&file).unwrap_err();
+        assert_eq!(writer.run_file_documented(&file).unwrap_err(), error);
         assert_eq!(error.refusal(), refusal);
         assert!(error.run().steps().is_empty() && error.run().bytes().is_empty());
         assert_eq!(error.to_string(), refusal.to_string());
@@ -318,8 +319,15 @@ fn session_slices(lengths: [usize; 4]) -> (Vec<u32>, Vec<u32>, Vec<Checkpoint>, 
     )
 }
 
+type SessionCall = fn(&[u8], &mut [u32], &mut [u32], &mut [Checkpoint], &mut [u8]) -> SessionAnswer;
+
 #[test]
 fn of_short_slices_in_a_session() {
+    short_slices(call::session);
+    short_slices(call::session_documented);
+}
+
+fn short_slices(session: SessionCall) {
     let file = file_with(&[1, 8, 0, 0, 0]);
     let least = [
         call::WORK_LENGTH,
@@ -333,7 +341,7 @@ fn of_short_slices_in_a_session() {
         lengths[slice] -= short;
         let before = session_slices(lengths);
         let mut s = before.clone();
-        let answer = call::session(&file, &mut s.0, &mut s.1, &mut s.2, &mut s.3);
+        let answer = session(&file, &mut s.0, &mut s.1, &mut s.2, &mut s.3);
         let refused = SessionAnswer {
             number: Refusal::ShortSlice.number(),
             ..SessionAnswer::default()
@@ -342,7 +350,7 @@ fn of_short_slices_in_a_session() {
         assert!(s == before, "1 touches no slice");
     }
     let mut s = session_slices(least);
-    let answer = call::session(&file, &mut s.0, &mut s.1, &mut s.2, &mut s.3);
+    let answer = session(&file, &mut s.0, &mut s.1, &mut s.2, &mut s.3);
     let taken = SessionAnswer {
         number: 0,
         steps: 1,

@@ -233,6 +233,8 @@ fn reads_back_as_the_tree_handed_in() {
         }
         let session = &made.session;
         let run = writer.run(session).unwrap();
+        // no path has 512 bytes
+        assert_eq!(writer.run_documented(session).unwrap(), run);
         let alone = writer.run_file(&made.without_tries()).unwrap();
         assert_eq!(alone.bytes(), run.bytes(), "seed {seed}");
         assert_eq!(alone.steps().len(), made.adds.len(), "seed {seed}");

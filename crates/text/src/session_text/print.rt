@@ -48,5 +48,7 @@ pub fn refusal(number: u32) {
 
 // How the program is called, on standard error.
 pub fn usage() {
-    say(b"usage: session [--items] [--counts] [FILE ..]    no file: standard input\n");
+    say(
+        b"usage: session [--items] [--counts] [--documented] [FILE ..]    no file: standard input\n",
+    );
 }
