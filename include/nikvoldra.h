@@ -151,8 +151,8 @@ struct nikvoldra_session_answer nikvoldra_session(
 /*
  * The same, with one difference: where a path was found, the reference is written if it is no longer than what it stands for in full,
  * by the prefix lengths of the CLVM serialization documentation. nikvoldra_session has the Rust's, which count a byte too many for
- * a path of 512 to 8,191 bytes. So the answers and slices of the two differ only where a found path has 512 bytes or more, and that
- * and 3 bytes are the length in full.
+ * a path of 512 to 8,191 bytes. So the two differ only where a found path has n bytes, 512 or more, and leads to what has n + 3 in
+ * full.
  */
 struct nikvoldra_session_answer nikvoldra_session_documented(
     const uint8_t *file, size_t file_length,

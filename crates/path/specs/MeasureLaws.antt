@@ -2,7 +2,7 @@
 -- 8,191 bytes and of 1,048,576 to 16,777,215.
 -- Assumes nothing.
 use Prim.Native.Nat.{ℕ, _+_, _/_, _%_, _^_, _≤_, _<_}
-use mathlib.Core.Path.{_≡_, refl, ap, _∙_}
+use mathlib.Core.Path.{_≡_, refl, sym, ap, _∙_}
 use mathlib.Core.Bool.{Bool, true, false, cond, _&&_}
 use mathlib.Core.List.{List, [], _∷_, _++_}
 use mathlib.Core.Option.{Option, some}
@@ -153,6 +153,17 @@ module _ (s : List Bool) where
 
   one-counted : (f : Bool) → full ≡ f → n ≡ 1 → counted bits ≡ cond f 2 1
   one-counted f e o = counted-one full n o ∙ ap (λ (b : Bool). cond b 2 1) e
+
+  -- Whether the bits fill a single byte is seen by their number.
+  fills-is : n ≡ 1 → eqb (length bits % 8) 0 ≡ full
+  fills-is one =
+      by-bits
+      (λ k. ne-eqb (length bits % 8) 0 (λ e. omega (arith, bits-length)) ∙ sym (short k .fills))
+      (λ k. eq-eqb (length bits % 8) 0 (omega (arith, bits-length)) ∙ sym (eight k .fills))
+      (λ k. absurd (omega (arith, bytes-length)))
+
+  pub counted-is : counted-bytes (eqb (length bits % 8) 0) n ≡ counted bits
+  counted-is = only-one (eqb (length bits % 8) 0) full n fills-is
 
   -- THE TWO MEASURES: the Rust's is the documentation's, and one byte more in the two ranges.
   pub counted-documented : n < 2 ^ 34 → counted bits ≡ documented bits + too-many n

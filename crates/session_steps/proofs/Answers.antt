@@ -10,7 +10,6 @@ use lib.ListN.{length, set}
 use borrow.Author.Tests.{ltb-true, ltb-false}
 use Rattle.words.specs.Choice.{clash}
 use Rattle.session_state.specs.declared.checkpoints.Checkpoint.{Checkpoint}
-use Rattle.path.specs.declared.Measure.{Measure}
 use Rattle.path.specs.Measure.{measure-of}
 use Rattle.allocator.specs.declared.NodePtr.{NodePtr}
 use Rattle.spec_session.specs.File.{File, Step}

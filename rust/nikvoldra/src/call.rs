@@ -141,7 +141,7 @@ pub fn session(
 /// by the prefix lengths of the CLVM serialization documentation.
 ///
 /// [`session()`] has the Rust's prefix lengths, which count a byte too many for a path of 512 to 8,191 bytes. So the two differ only
-/// where a found path has 512 bytes or more, and that and 3 bytes are the length in full.
+/// where a found path has n bytes, 512 or more, and leads to what has n + 3 in full.
 ///
 /// ```
 /// use nikvoldra::call::{self, Checkpoint};

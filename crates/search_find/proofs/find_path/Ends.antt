@@ -1,23 +1,22 @@
 -- The first bit of a path that the search gives is set; so what it is measured at follows from the number of its bits. And what find_path answers.
 -- Assumes nothing.
-use mathlib.Core.Path.{_≡_, refl, sym, ap, subst, _∙_}
-use mathlib.Core.Bool.{Bool, true, false, cond, _&&_}
+use mathlib.Core.Path.{_≡_, sym, ap, subst, _∙_}
+use mathlib.Core.Bool.{Bool, true, cond}
 use mathlib.Core.List.{List, [], _∷_, _++_}
 use Prim.Native.Nat.{ℕ, _+_, _/_, _%_, _^_, _≤_, _<_}
 use native.Mathlib.Omega.{arith}
-use lib.ListN.{length, getD, length-append}
-use lib.Seq.{take-all}
-use lib.Dec.{ltb, leb, eqb}
-use borrow.Author.Tests.{le-leb, lt-ltb, le-ltb, eqb-true, eq-eqb, ne-eqb}
+use lib.ListN.{length, length-append}
+use lib.Dec.{ltb, eqb}
+use borrow.Author.Tests.{lt-ltb, le-ltb, eq-eqb, ne-eqb}
 use Rattle.words.specs.Choice.{by-lt, cond-true, cond-false}
 use Rattle.spec_search.specs.Search.{used}
 use Rattle.spec_search.specs.PathBits.{Ends, search-ends}
-use Rattle.path.specs.Bytes.{value, octets, path-bytes}
-use Rattle.path.specs.BytesLaws.{length-path-bytes, value-append}
+use Rattle.path.specs.Bytes.{path-bytes}
+use Rattle.path.specs.BytesLaws.{length-path-bytes}
 use Rattle.path.specs.declared.Measure.{Measure}
 use Rattle.path.specs.declared.Measure.the-variants.{Counted, Documented}
 use Rattle.path.specs.Measure.{counted, counted-bytes, documented, measure-of}
-use Rattle.path.specs.MeasureLaws.{only-one, documented-prefix, documented-is}
+use Rattle.path.specs.MeasureLaws.{counted-is, documented-prefix, documented-is}
 use Rattle.path_builder.specs.Measured.{documented-bytes, measured-bytes}
 use Rattle.search_passes.specs.declared.Way.the-variants.{By, Nothing}
 use Rattle.search_find.specs.declared.find_path.Path.the-variants.{At, NoPath}
@@ -28,24 +27,10 @@ use Rattle.work_layout.specs.Rows.{stack-of}
 
 -- ---- what a path is measured at
 
--- The first of eight bits is set: their number is 128 at least.
-first-byte : (bits : List Bool) → Ends bits → length bits ≡ 8 → 80 ≤ getD (path-bytes bits) 0 0
-unfolding path-bytes octets
-first-byte bits h l =
-    let one : (length bits + 7) / 8 ≡ 1 = omega arith in
-    let seven : length (h .steps) ≡ 7 = omega (arith, l, ap length (h .ends), length-append (h .steps) (true ∷ [])) in
-    let large : 2 ^ 7 ≤ value bits = rw (h .ends) (subst (λ (k : ℕ). 2 ^ k ≤ value (h .steps ++ true ∷ [])) seven (omega (arith, value-append (h .steps) (true ∷ [])))) in
-    rw (one, take-all 8 bits (omega arith)) (omega arith)
-
--- So full bytes are seen by the number of bits.
-counted-is : (bits : List Bool) → Ends bits → counted-bytes (eqb (length bits % 8) 0) ((length bits + 7) / 8) ≡ counted bits
-counted-is bits h =
-    only-one (eqb (length bits % 8) 0) _ ((length bits + 7) / 8) (λ e. full e (eqb (length bits % 8) 0) refl)
-    ∙ ap (counted-bytes (eqb (length bits % 8) 0 && leb 80 (getD (path-bytes bits) 0 0))) (sym (length-path-bytes bits))
-  where
-    full : (length bits + 7) / 8 ≡ 1 → (c : Bool) → eqb (length bits % 8) 0 ≡ c → c ≡ (c && leb 80 (getD (path-bytes bits) 0 0))
-    full e true q = sym (le-leb 80 (getD (path-bytes bits) 0 0) (first-byte bits h (omega (arith, eqb-true (length bits % 8) 0 q))))
-    full e false q = refl
+counted-same : (bits : List Bool) → Ends bits → counted-bytes (eqb (length bits % 8) 0) ((length bits + 7) / 8) ≡ counted bits
+counted-same bits h =
+    ap (counted-bytes (eqb (length bits % 8) 0)) (sym (length-path-bytes bits))
+    ∙ subst (λ (b : List Bool). counted-bytes (eqb (length b % 8) 0) (length (path-bytes b)) ≡ counted b) (sym (h .ends)) (counted-is (h .steps))
 
 -- Below eight bits the byte stands for itself, and eight fill it.
 documented-bits : (n : ℕ) → 1 ≤ n → documented-bytes (eqb (n % 8) 0) ((n + 7) / 8) ≡ cond (ltb n 8) 1 (documented-prefix ((n + 7) / 8) + (n + 7) / 8)
@@ -70,7 +55,7 @@ documented-same bits h few =
 -- By either measure the number of bits says it.
 pub measured-is : (m : Measure) (bits : List Bool) → Ends bits → length bits ≤ 8192
     → measured-bytes m (eqb (length bits % 8) 0) ((length bits + 7) / 8) ≡ measure-of m bits
-measured-is Counted bits h few = counted-is bits h
+measured-is Counted bits h few = counted-same bits h
 measured-is Documented bits h few = documented-same bits h few
 
 -- ---- the whole

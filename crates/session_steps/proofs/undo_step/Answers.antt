@@ -7,7 +7,6 @@ use mathlib.Core.List.{List, _∷_}
 use native.Mathlib.Omega.{arith}
 use lib.ListN.{length, set}
 use Rattle.session_state.specs.declared.checkpoints.Checkpoint.{Checkpoint}
-use Rattle.path.specs.declared.Measure.{Measure}
 use Rattle.path.specs.Measure.{measure-of}
 use Rattle.spec_session.specs.File.{File, Step}
 use Rattle.file_parts.specs.Loaded.{FirstStep}
