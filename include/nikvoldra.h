@@ -36,27 +36,19 @@ extern "C" {
 #define NIKVOLDRA_INPUT_MOST 65535
 #define NIKVOLDRA_OUTPUT_MOST 65535
 
-/* The same of nikvoldra_session_v2 and nikvoldra_read_v2. Words and checkpoint records have the lengths above. */
-#define NIKVOLDRA_V2_WORK_LENGTH 8388608
-#define NIKVOLDRA_V2_PAIRS_LENGTH 4194304
-#define NIKVOLDRA_V2_ATOMS_LENGTH 2097152
-#define NIKVOLDRA_V2_BYTES_LENGTH 1048576
-#define NIKVOLDRA_V2_INPUT_MOST 1048576
-#define NIKVOLDRA_V2_OUTPUT_MOST 1048576
-
 /* The number of an answer: 0, or the first question that got no. */
 enum nikvoldra_number {
     /* every question got yes */
     NIKVOLDRA_DONE = 0,
     /* Are the slices long enough? */
     NIKVOLDRA_SHORT_SLICE = 1,
-    /* Is the input at most 65,535 bytes (version 2: 1,048,576)? */
+    /* Is the input at most 65,535 bytes? */
     NIKVOLDRA_LONG_INPUT = 2,
-    /* Does the file begin with the mark and version 1 (version 2: 2)? */
+    /* Does the file begin with the mark and version 1? */
     NIKVOLDRA_NO_MARK = 3,
     /* Does the field end inside the file? */
     NIKVOLDRA_CUT_FIELD = 4,
-    /* At most 1,024 atoms, 1,024 pairs, 32,768 atom bytes so far (version 2: 524,288), 1,024 steps? */
+    /* At most 1,024 atoms, 1,024 pairs, 32,768 atom bytes so far, 1,024 steps? */
     NIKVOLDRA_TOO_MANY = 5,
     /* Is this atom one that fits_in_small_atom turns down? */
     NIKVOLDRA_LISTED_SMALL_ATOM = 6,
@@ -73,7 +65,7 @@ enum nikvoldra_number {
     NIKVOLDRA_UNKNOWN_RESTORE = 11,
     /* Before a pair's ff, are fewer than 4,096 pairs open? */
     NIKVOLDRA_TOO_DEEP = 12,
-    /* Does the next item fit the output, of which at most 65,535 bytes (version 2: 1,048,576) are used? */
+    /* Does the next item fit the output, of which at most 65,535 bytes are used? */
     NIKVOLDRA_OUTPUT_FULL = 13,
     /* Are bytes whole, prefixes at most six bytes, sizes below 2^34, nothing left over? */
     NIKVOLDRA_BROKEN_BYTES = 14,
@@ -170,18 +162,6 @@ struct nikvoldra_session_answer nikvoldra_session_documented(
     uint8_t *output, size_t output_length);
 
 /*
- * nikvoldra_session for a file of version 2: atom count, atom lengths and pair count have 32 bits, and it begins with 42 52 53 00 02.
- * File and output go to 1,048,576 bytes, atom bytes to 524,288; the other limits, the numbers, and what they leave are the same.
- * A file of version 1 gets 3 here, and one of version 2 that is not too long gets it from the other session calls.
- */
-struct nikvoldra_session_answer nikvoldra_session_v2(
-    const uint8_t *file, size_t file_length,
-    uint32_t *work, size_t work_length,
-    uint32_t *words, size_t words_length,
-    struct nikvoldra_checkpoint *checkpoints, size_t checkpoints_length,
-    uint8_t *output, size_t output_length);
-
-/*
  * Reads a serialized tree into a fresh store: numbers 0 to 2 and 14 to 16.
  *
  * Pair i is pairs[2 * i] and pairs[2 * i + 1], the left and the right handle. Atom i is the bytes from atoms[2 * i] up to
@@ -189,17 +169,6 @@ struct nikvoldra_session_answer nikvoldra_session_v2(
  * all of every slice. A refused reading gives zero for root and counts.
  */
 struct nikvoldra_read_answer nikvoldra_read(
-    const uint8_t *input, size_t input_length,
-    uint32_t *work, size_t work_length,
-    uint32_t *pairs, size_t pairs_length,
-    uint32_t *atoms, size_t atoms_length,
-    uint8_t *bytes, size_t bytes_length);
-
-/*
- * nikvoldra_read for an input of up to 1,048,576 bytes, with larger slices. Numbers, and what they leave, are the same; pairs made plus
- * ghost pairs are at most 2,097,152.
- */
-struct nikvoldra_read_answer nikvoldra_read_v2(
     const uint8_t *input, size_t input_length,
     uint32_t *work, size_t work_length,
     uint32_t *pairs, size_t pairs_length,

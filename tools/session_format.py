@@ -1,46 +1,24 @@
-"""The session file: its parts, its bytes in both versions, and questions 2 to 8."""
+"""The session file: its parts, its bytes, and questions 2 to 8."""
 
-from typing import NamedTuple
-
+MARK = b"BRS\x00\x01"
 PAIR, ATOM, SMALL = 0, 1, 2
 NONE = 0xFFFFFFFF
 INDEX_BITS = 26
 # The code of a step and the bytes of its operand, which is a handle if it has four.
 STEPS = {"add": (1, 4), "restore": (2, 2), "forget": (3, 2), "quote": (4, 4), "take": (5, 0)}
 NIL = SMALL << INDEX_BITS
-MAX_ATOMS, MAX_PAIRS, MAX_STEPS = 1024, 1024, 1024
+MAX_FILE, MAX_ATOMS, MAX_PAIRS = 65535, 1024, 1024
+MAX_ATOM_BYTES, MAX_STEPS = 32768, 1024
 QUESTIONS = {
-    2: "Is the input at most 65,535 bytes (version 2: 1,048,576)?",
-    3: "Does the file begin with the mark and version 1 (version 2: 2)?",
+    2: "Is the input at most 65,535 bytes?",
+    3: "Does the file begin with the mark and version 1?",
     4: "Does the field end inside the file?",
-    5: "At most 1,024 atoms, 1,024 pairs, 32,768 atom bytes so far (version 2: 524,288), 1,024 steps?",
+    5: "At most 1,024 atoms, 1,024 pairs, 32,768 atom bytes so far, 1,024 steps?",
     6: "Is this atom one that fits_in_small_atom turns down?",
     7: "Does the handle name a listed atom, a small atom, or a pair listed earlier "
     "(for the sentinel and steps: any listed pair; the sentinel may be ffffffff)?",
     8: "Is the step code known?",
 }
-
-
-class Version(NamedTuple):
-    """What a version of the file has of its own. A count and an atom's length have `width` bytes."""
-
-    number: int
-    width: int
-    max_file: int
-    max_atom_bytes: int
-
-    @property
-    def mark(self):
-        return b"BRS" + self.number.to_bytes(2, "big")
-
-
-VERSION_1, VERSION_2 = Version(1, 2, 65535, 32768), Version(2, 4, 1048576, 524288)
-VERSIONS = {version.number: version for version in (VERSION_1, VERSION_2)}
-
-
-def version_of(file):
-    """The version that a file's mark names; version 1 if it names none."""
-    return VERSION_2 if file.startswith(VERSION_2.mark) else VERSION_1
 
 
 def handle(kind, index):
@@ -90,12 +68,12 @@ class Session:
     def __init__(self):
         self.atoms, self.pairs, self.sentinel, self.steps = [], [], NONE, []
 
-    def to_bytes(self, version=VERSION_1):
-        out = bytearray(version.mark)
-        out += len(self.atoms).to_bytes(version.width, "big")
+    def to_bytes(self):
+        out = bytearray(MARK)
+        out += len(self.atoms).to_bytes(2, "big")
         for atom in self.atoms:
-            out += len(atom).to_bytes(version.width, "big") + atom
-        out += len(self.pairs).to_bytes(version.width, "big")
+            out += len(atom).to_bytes(2, "big") + atom
+        out += len(self.pairs).to_bytes(2, "big")
         for left, right in self.pairs:
             out += left.to_bytes(4, "big") + right.to_bytes(4, "big")
         out += self.sentinel.to_bytes(4, "big")
@@ -110,8 +88,8 @@ class Session:
 class Fields:
     """A file's fields from the left."""
 
-    def __init__(self, file, version):
-        self.file, self.version, self.at = file, version, len(version.mark)
+    def __init__(self, file):
+        self.file, self.at = file, len(MARK)
 
     def take(self, length):
         part = self.file[self.at : self.at + length]
@@ -134,7 +112,7 @@ class Fields:
 
 def count(fields, most):
     at = fields.at
-    n = fields.number(fields.version.width)
+    n = fields.number(2)
     if n > most:
         raise Refused(5, at)
     return n
@@ -144,9 +122,9 @@ def read_atoms(fields):
     atoms, total = [], 0
     for _ in range(count(fields, MAX_ATOMS)):
         at = fields.at
-        atom = bytes(fields.take(fields.number(fields.version.width)))
+        atom = bytes(fields.take(fields.number(2)))
         total += len(atom)
-        if total > fields.version.max_atom_bytes:
+        if total > MAX_ATOM_BYTES:
             raise Refused(5, at)
         if small_value(atom) is not None:
             raise Refused(6, at)
@@ -167,14 +145,13 @@ def read_step(fields, session):
     raise Refused(8, at)
 
 
-def parse(file, version=None):
-    """The session of a file that passes questions 2 to 8, of a version or of the one that its mark names."""
-    version = version or version_of(file)
-    if len(file) > version.max_file:
-        raise Refused(2, version.max_file)
-    if not file.startswith(version.mark):
+def parse(file):
+    """The session of a file that passes questions 2 to 8."""
+    if len(file) > MAX_FILE:
+        raise Refused(2, MAX_FILE)
+    if file[: len(MARK)] != MARK:
         raise Refused(3, 0)
-    fields, session = Fields(file, version), Session()
+    fields, session = Fields(file), Session()
     session.atoms = read_atoms(fields)
     atoms = len(session.atoms)
     for i in range(count(fields, MAX_PAIRS)):

@@ -2,7 +2,6 @@
  * Runs a session, reads its bytes back, and prints both: session [--documented] [FILE]
  *
  * Without FILE the session is made by hand: foobar is added with an open place beside it, and then foobar at that place.
- * A FILE is of version 1 or 2, as its own mark says.
  * With --documented references are measured as the documentation has it, not as in the Rust.
  * The status is 0; 1 where a question got no; 2 where the file can't be read or memory is short.
  */
@@ -12,38 +11,6 @@
 #include <string.h>
 
 #include "nikvoldra.h"
-
-typedef struct nikvoldra_session_answer session_call(const uint8_t *, size_t, uint32_t *, size_t, uint32_t *, size_t,
-                                                     struct nikvoldra_checkpoint *, size_t, uint8_t *, size_t);
-typedef struct nikvoldra_read_answer read_call(const uint8_t *, size_t, uint32_t *, size_t, uint32_t *, size_t, uint32_t *, size_t,
-                                               uint8_t *, size_t);
-
-/* The calls of a version, and the lengths of their slices. */
-struct version {
-    session_call *session;
-    read_call *read;
-    size_t work, output, pairs, atoms, bytes;
-};
-
-static const struct version version_1 = {
-    .session = nikvoldra_session,
-    .read = nikvoldra_read,
-    .work = NIKVOLDRA_WORK_LENGTH,
-    .output = NIKVOLDRA_OUTPUT_MOST,
-    .pairs = NIKVOLDRA_PAIRS_LENGTH,
-    .atoms = NIKVOLDRA_ATOMS_LENGTH,
-    .bytes = NIKVOLDRA_BYTES_LENGTH,
-};
-
-static const struct version version_2 = {
-    .session = nikvoldra_session_v2,
-    .read = nikvoldra_read_v2,
-    .work = NIKVOLDRA_V2_WORK_LENGTH,
-    .output = NIKVOLDRA_V2_OUTPUT_MOST,
-    .pairs = NIKVOLDRA_V2_PAIRS_LENGTH,
-    .atoms = NIKVOLDRA_V2_ATOMS_LENGTH,
-    .bytes = NIKVOLDRA_V2_BYTES_LENGTH,
-};
 
 /* The lent slices. Nothing has to be cleared before a call, and all calls can use the same work. */
 static uint32_t *work;
@@ -55,17 +22,17 @@ static uint32_t *atoms;
 static uint8_t *bytes;
 
 /* A session file of any length that is taken, and one byte more, so that a longer one is refused and not cut. */
-static uint8_t file[NIKVOLDRA_V2_INPUT_MOST + 1];
+static uint8_t file[NIKVOLDRA_INPUT_MOST + 1];
 static size_t file_length;
 
-static int make_slices(const struct version *of) {
-    work = malloc(of->work * sizeof *work);
+static int make_slices(void) {
+    work = malloc(NIKVOLDRA_WORK_LENGTH * sizeof *work);
     words = malloc(NIKVOLDRA_WORDS_LENGTH * sizeof *words);
     checkpoints = malloc(NIKVOLDRA_CHECKPOINTS_LENGTH * sizeof *checkpoints);
-    output = malloc(of->output);
-    pairs = malloc(of->pairs * sizeof *pairs);
-    atoms = malloc(of->atoms * sizeof *atoms);
-    bytes = malloc(of->bytes);
+    output = malloc(NIKVOLDRA_OUTPUT_MOST);
+    pairs = malloc(NIKVOLDRA_PAIRS_LENGTH * sizeof *pairs);
+    atoms = malloc(NIKVOLDRA_ATOMS_LENGTH * sizeof *atoms);
+    bytes = malloc(NIKVOLDRA_BYTES_LENGTH);
     return work && words && checkpoints && output && pairs && atoms && bytes;
 }
 
@@ -169,10 +136,10 @@ static void print_tree(uint32_t node, int *nodes_left) {
     }
 }
 
-static int run_session(const struct version *of, int documented) {
-    struct nikvoldra_session_answer answer =
-        (documented ? nikvoldra_session_documented : of->session)(file, file_length, work, of->work, words, NIKVOLDRA_WORDS_LENGTH,
-                                                                  checkpoints, NIKVOLDRA_CHECKPOINTS_LENGTH, output, of->output);
+static int run_session(int documented) {
+    struct nikvoldra_session_answer answer = (documented ? nikvoldra_session_documented : nikvoldra_session)(
+        file, file_length, work, NIKVOLDRA_WORK_LENGTH, words, NIKVOLDRA_WORDS_LENGTH, checkpoints,
+        NIKVOLDRA_CHECKPOINTS_LENGTH, output, NIKVOLDRA_OUTPUT_MOST);
     for (uint32_t i = 0; i < answer.steps; i++) {
         const uint32_t *step = words + 3 * i;
         printf("step %" PRIu32 ": %" PRIu32 " bytes%s", i + 1, step[0] / 2, step[0] % 2 ? ", finished" : "");
@@ -191,7 +158,8 @@ static int run_session(const struct version *of, int documented) {
         return 0;
     }
     struct nikvoldra_read_answer read =
-        of->read(output, answer.size, work, of->work, pairs, of->pairs, atoms, of->atoms, bytes, of->bytes);
+        nikvoldra_read(output, answer.size, work, NIKVOLDRA_WORK_LENGTH, pairs, NIKVOLDRA_PAIRS_LENGTH, atoms,
+                       NIKVOLDRA_ATOMS_LENGTH, bytes, NIKVOLDRA_BYTES_LENGTH);
     if (read.number != NIKVOLDRA_DONE) {
         printf("the reading was refused: question %" PRIu32 "\n", read.number);
         return 1;
@@ -215,10 +183,9 @@ int main(int count, char **arguments) {
     } else if (!load_session(name)) {
         return 2;
     }
-    const struct version *of = file_length >= 5 && memcmp(file, "BRS\0\2", 5) == 0 ? &version_2 : &version_1;
     int status = 2;
-    if (make_slices(of)) {
-        status = run_session(of, documented);
+    if (make_slices()) {
+        status = run_session(documented);
     } else {
         fprintf(stderr, "there is no memory for the slices\n");
     }

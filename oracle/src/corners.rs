@@ -1,18 +1,15 @@
 //! Cases of 01's "Corners, file by file" and of its questions, each run on the
 //! unchanged Rust and compared with what 01 says; and cases of the steps `03`, `04` and
-//! `05`, of the counts, of the measures, and of the versions. Sessions and trees that both
-//! versions take are run by both.
+//! `05`, of the counts, and of the measures.
 
 mod measures;
-mod versions;
 
 use crate::hex;
 use crate::leaves::{parse_blob, path_of_bits};
 use crate::node::{NIL, PAIR, SMALL, handle};
 use crate::plain::{self, Interner};
 use crate::reading::{self, ReadAnswer};
-use crate::session::{self, SESSION, SESSION_V2, SessionAnswer, SessionFile, Step};
-use crate::version::{MARK, V1, V2};
+use crate::session::{self, MAX_OUTPUT, SessionAnswer, SessionFile, Step};
 use bumpalo::Bump;
 use clvm_rs::serde::{ChildPos, PathBuilder};
 
@@ -34,8 +31,7 @@ impl Cases {
     /// The number, and for 0 the tree in full.
     fn read(&mut self, name: &str, input: &str, number: u32, in_full: &str) {
         let input = hex::bytes(input);
-        let r = reading::read(V1, &input);
-        assert_eq!(reading::read(V2, &input), r, "{name}: version 2");
+        let r = reading::read(&input);
         let tree = match plain::read(&input) {
             Ok(p) if r.number == 0 => {
                 let mut i = Interner::default();
@@ -60,7 +56,7 @@ impl Cases {
     }
 
     fn session(&mut self, name: &str, s: &SessionFile, number: u32, words: &[u32], output: &str) {
-        self.limited(name, s, V1.output, number, words, output);
+        self.limited(name, s, MAX_OUTPUT, number, words, output);
     }
 
     /// The number, and the references and prefix bytes of each finished step.
@@ -83,7 +79,7 @@ impl Cases {
         words: &[u32],
         output: &str,
     ) {
-        let r = limited(s, output_length);
+        let r = session::run(&s.to_bytes(), output_length, true);
         self.equal(
             name,
             (r.number, r.words, hex::encode(&r.output)),
@@ -128,17 +124,7 @@ impl File {
 }
 
 fn run(s: &SessionFile) -> SessionAnswer {
-    limited(s, V1.output)
-}
-
-/// By both versions, which give the same up to version 1's limits.
-fn limited(s: &SessionFile, output_length: usize) -> SessionAnswer {
-    let [one, two] = [SESSION, SESSION_V2].map(|call| {
-        let file = s.to_bytes(call.version);
-        session::run_by(call, &file, output_length, true)
-    });
-    assert_eq!(one, two, "version 2");
-    one
+    session::run(&s.to_bytes(), MAX_OUTPUT, true)
 }
 
 fn parse_atom(c: &mut Cases) {
@@ -297,7 +283,7 @@ fn tree_cache(c: &mut Cases) {
     let q = f.pair(d, e);
     let r = f.pair(p, q);
     let s = f.adds(&[r]);
-    let back = reading::read(V1, &run(&s).output);
+    let back = reading::read(&run(&s).output);
     let filling = plain::fill(&s).expect("no restore");
     let mut i = Interner::default();
     c.equal(
@@ -633,7 +619,7 @@ fn session_file(c: &mut Cases) {
         "42 52 53 00 01 00 01 00 06 66 6f 6f 62 61 72 00 02 08 00 00 00 08 00 00 00 04 00 00 00 \
          00 00 00 00 00 00 00 00 01 00 00 00 01 01 04 00 00 00",
     );
-    let r = session::run(&whole, V1.output, true);
+    let r = session::run(&whole, MAX_OUTPUT, true);
     c.equal(
         "the whole case",
         session::print(&r, false),
@@ -654,7 +640,7 @@ fn session_file(c: &mut Cases) {
             (number, size, steps),
         );
     }
-    let s = session::parse(V1, &whole).expect("the whole case");
+    let s = session::parse(&whole).expect("the whole case");
     c.equal("the whole case, premises", plain::premises(&s), Ok(()));
     let filling = plain::fill(&s).expect("no restore");
     c.equal(
@@ -667,7 +653,7 @@ fn session_file(c: &mut Cases) {
     );
 
     // every cut: 3 below five bytes, then 4, until the steps begin
-    let number = |file: &[u8]| session::run(file, V1.output, true).number;
+    let number = |file: &[u8]| session::run(file, MAX_OUTPUT, true).number;
     for cut in 0..whole.len() {
         let expected = match cut {
             0..5 => 3,
@@ -712,22 +698,22 @@ fn session_file(c: &mut Cases) {
         steps: vec![Step::Add(NIL); 1024],
         ..SessionFile::default()
     };
-    let mut f = s.to_bytes(V1);
+    let mut f = s.to_bytes();
     c.equal("1,024 steps, 17 adds", number(&f), 10);
     f.push(9);
     c.equal("step 1,025 gets 5, whatever its code", number(&f), 5);
-    let mut f = V1.mark();
+    let mut f = session::MARK.to_vec();
     f.extend([0, 1, 0xff, 0xff, 0x80]);
     c.equal("a cut atom of 65,535 bytes gets 4", number(&f), 4);
-    f.resize(MARK + 4 + 32_769, 0x80);
-    f[MARK + 2..][..2].copy_from_slice(&[0x80, 0x01]);
+    f.resize(session::MARK.len() + 4 + 32_769, 0x80);
+    f[session::MARK.len() + 2..][..2].copy_from_slice(&[0x80, 0x01]);
     c.equal("an atom of 32,769 bytes gets 5", number(&f), 5);
-    let mut f = V1.mark();
+    let mut f = session::MARK.to_vec();
     f.extend([4, 1]);
     c.equal("1,025 atoms get 5 at the count", number(&f), 5);
     f.truncate(6);
     c.equal("a cut count gets 4", number(&f), 4);
-    let mut f = V1.mark();
+    let mut f = session::MARK.to_vec();
     f.extend([0, 0, 4, 1]);
     c.equal("1,025 pairs get 5 at the count", number(&f), 5);
     c.equal("65,535 bytes pass 2", number(&vec![0; 65_535]), 3);
@@ -977,7 +963,7 @@ fn forgets(c: &mut Cases) {
     let s = pair().steps(steps);
     c.session("03 makes room for add 16 again", &s, 10, &[0; 18], "");
 
-    let file = pair().steps(vec![Add(p)]).to_bytes(V1);
+    let file = pair().steps(vec![Add(p)]).to_bytes();
     for (rest, number) in [
         (&[3][..], 4),
         (&[3, 0], 4),
@@ -986,7 +972,7 @@ fn forgets(c: &mut Cases) {
     ] {
         let file = [&file[..], rest].concat();
         let name = format!("03 as {}", hex::encode(rest));
-        c.equal(&name, session::run(&file, V1.output, true).number, number);
+        c.equal(&name, session::run(&file, MAX_OUTPUT, true).number, number);
     }
 }
 
@@ -1197,7 +1183,7 @@ fn quotes(c: &mut Cases) {
         [(10, 0, 8, 2), (9, 13, 8, 1), (8, 13, 8, 1), (7, 13, 0, 0)]
     {
         let s = pair().steps(vec![Quote(p), Take, Quote(FOOBAR)]);
-        let r = limited(&s, length);
+        let r = session::run(&s.to_bytes(), length, true);
         let words = words + usize::from(words > 0);
         c.equal(
             &format!("quotes in {length} bytes"),
@@ -1300,7 +1286,7 @@ fn quotes(c: &mut Cases) {
         "ff86666f6f626172ff09ffff0180fe0b",
     );
 
-    let file = pair().steps(vec![Add(p)]).to_bytes(V1);
+    let file = pair().steps(vec![Add(p)]).to_bytes();
     for (rest, number) in [
         (&[4][..], 4),
         (&[4, 8, 0, 0], 4),
@@ -1314,7 +1300,7 @@ fn quotes(c: &mut Cases) {
     ] {
         let file = [&file[..], rest].concat();
         let name = format!("steps {}", hex::encode(rest));
-        c.equal(&name, session::run(&file, V1.output, true).number, number);
+        c.equal(&name, session::run(&file, MAX_OUTPUT, true).number, number);
     }
 }
 
@@ -1443,7 +1429,7 @@ fn counts(c: &mut Cases) {
     }
     // 13 inside an add and inside a quote: those of the steps before it
     for steps in [[Add(p), Add(p), Add(p)], [Add(p), Add(p), Quote(p)]] {
-        let r = limited(&pair(&steps), 13);
+        let r = session::run(&pair(&steps).to_bytes(), 13, true);
         c.equal(
             &format!("counts: 13 at {:?}", steps[2]),
             (r.number, r.all_words()),
@@ -1481,7 +1467,7 @@ fn premises(c: &mut Cases) {
     );
     c.equal(
         "a pair above the sentinel again: refused",
-        reading::read(V1, &r.output).number,
+        reading::read(&r.output).number,
         16,
     );
     c.equal(
@@ -1498,7 +1484,7 @@ fn premises(c: &mut Cases) {
     let d = f.pair(small(1), small(2));
     let s = f.adds(&[a, b, d]);
     let r = run(&s);
-    let back = reading::read(V1, &r.output);
+    let back = reading::read(&r.output);
     let filling = plain::fill(&s).expect("no restore");
     let mut i = Interner::default();
     c.equal(
@@ -1530,7 +1516,6 @@ pub fn run_all() -> Vec<Case> {
     quotes(&mut c);
     counts(&mut c);
     measures::all(&mut c);
-    versions::all(&mut c);
     premises(&mut c);
     c.0
 }

@@ -9,43 +9,26 @@ pub mod trees;
 pub use leaf_cases::leaf_cases;
 
 use crate::rng::Rng;
-use crate::version::{V1, Version};
 
 /// A kind's name, how often `any` takes it, and its generator.
-pub type Kind = (&'static str, usize, fn(&mut Rng, Version) -> Vec<u8>);
+pub type Kind = (&'static str, usize, fn(&mut Rng) -> Vec<u8>);
 
-/// The kinds of a version: those of both, and those of version 2 alone.
-fn of_version(v: Version, both: &'static [Kind], wide: &'static [Kind]) -> Vec<Kind> {
-    match v {
-        V1 => both.to_vec(),
-        _ => [both, wide].concat(),
-    }
-}
-
-pub fn session_kinds(v: Version) -> Vec<Kind> {
-    of_version(v, sessions::KINDS, sessions::WIDE)
-}
-
-pub fn tree_kinds(v: Version) -> Vec<Kind> {
-    of_version(v, trees::KINDS, trees::WIDE)
-}
-
-fn of_kind(v: Version, kinds: &[Kind], seed: u64, name: &str) -> Option<Vec<u8>> {
+fn of_kind(kinds: &[Kind], seed: u64, name: &str) -> Option<Vec<u8>> {
     let kind = kinds.iter().find(|k| k.0 == name)?;
     // each kind its own numbers, whatever its place in the list
     let salt = name
         .bytes()
         .fold(0_u64, |h, b| h.wrapping_mul(0x100_0000_01b3) ^ u64::from(b));
     let mut rng = Rng::new(seed.wrapping_mul(0x9e37_79b9_7f4a_7c15) ^ salt);
-    Some(kind.2(&mut rng, v))
+    Some(kind.2(&mut rng))
 }
 
-fn any(v: Version, kinds: &[Kind], rng: &mut Rng) -> (&'static str, Vec<u8>) {
+fn any(kinds: &'static [Kind], rng: &mut Rng) -> (&'static str, Vec<u8>) {
     let total: usize = kinds.iter().map(|k| k.1).sum();
     let mut at = rng.below(total);
     for (name, weight, make) in kinds {
         if at < *weight {
-            return (name, make(rng, v));
+            return (name, make(rng));
         }
         at -= weight;
     }
@@ -53,23 +36,23 @@ fn any(v: Version, kinds: &[Kind], rng: &mut Rng) -> (&'static str, Vec<u8>) {
 }
 
 /// A session file of the named kind.
-pub fn session(v: Version, seed: u64, kind: &str) -> Option<Vec<u8>> {
-    of_kind(v, &session_kinds(v), seed, kind)
+pub fn session(seed: u64, kind: &str) -> Option<Vec<u8>> {
+    of_kind(sessions::KINDS, seed, kind)
 }
 
 /// An encoded tree of the named kind.
-pub fn tree(v: Version, seed: u64, kind: &str) -> Option<Vec<u8>> {
-    of_kind(v, &tree_kinds(v), seed, kind)
+pub fn tree(seed: u64, kind: &str) -> Option<Vec<u8>> {
+    of_kind(trees::KINDS, seed, kind)
 }
 
 /// A session file of some kind, light kinds more often, and the kind's name.
-pub fn any_session(v: Version, rng: &mut Rng) -> (&'static str, Vec<u8>) {
-    any(v, &session_kinds(v), rng)
+pub fn any_session(rng: &mut Rng) -> (&'static str, Vec<u8>) {
+    any(sessions::KINDS, rng)
 }
 
 /// An encoded tree of some kind, and the kind's name.
-pub fn any_tree(v: Version, rng: &mut Rng) -> (&'static str, Vec<u8>) {
-    any(v, &tree_kinds(v), rng)
+pub fn any_tree(rng: &mut Rng) -> (&'static str, Vec<u8>) {
+    any(trees::KINDS, rng)
 }
 
 /// An output length for a session that writes `size` bytes: at, one below or

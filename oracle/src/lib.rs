@@ -14,5 +14,4 @@ pub mod reading;
 pub mod rng;
 pub mod selfcheck;
 pub mod session;
-pub mod version;
 pub mod writer;

@@ -10,8 +10,7 @@
 use crate::counts::Counts;
 use crate::node::{ATOM, NIL, PAIR, index, kind};
 use crate::plain::{atom_in_full, small_bytes};
-use crate::session::{Call, MAX_ADDS, MAX_OPEN, SessionAnswer, SessionFile, Step, parse};
-use crate::version::Version;
+use crate::session::{MAX_ADDS, MAX_OPEN, MAX_OUTPUT, SessionAnswer, SessionFile, Step, parse};
 use crate::writer::Measure;
 use std::collections::HashMap;
 
@@ -215,10 +214,15 @@ pub enum Length {
     LostByForget,
 }
 
+impl Default for Length {
+    fn default() -> Self {
+        Self::By(Measure::Counted)
+    }
+}
+
 /// How a session is run: right, or wrong in some way.
-#[derive(Debug, Clone, Copy)]
+#[derive(Debug, Default, Clone, Copy)]
 pub struct Ways {
-    pub version: Version,
     pub forget: Forget,
     pub quote: Quote,
     pub count: Count,
@@ -226,14 +230,11 @@ pub struct Ways {
 }
 
 impl Ways {
-    /// Right, as a call does it.
-    pub fn of(call: Call) -> Self {
+    /// Right, by a measure.
+    pub fn by(measure: Measure) -> Self {
         Self {
-            version: call.version,
-            forget: Forget::Right,
-            quote: Quote::Right,
-            count: Count::Right,
-            length: Length::By(call.measure),
+            length: Length::By(measure),
+            ..Self::default()
         }
     }
 }
@@ -778,15 +779,21 @@ impl Model<'_> {
     }
 }
 
-pub fn run(call: Call, file: &[u8], output_length: usize) -> (SessionAnswer, Met) {
-    run_with(Ways::of(call), file, output_length)
+pub fn run(measure: Measure, file: &[u8], output_length: usize) -> (SessionAnswer, Met) {
+    run_with(Ways::by(measure), file, output_length)
 }
 
 /// The same, in ways that may be wrong.
 pub fn run_with(ways: Ways, file: &[u8], output_length: usize) -> (SessionAnswer, Met) {
-    let s = match parse(ways.version, file) {
+    let s = match parse(file) {
         Ok(s) => s,
-        Err(number) => return (SessionAnswer::refused(number), Met::default()),
+        Err(number) => {
+            let refused = SessionAnswer {
+                number,
+                ..SessionAnswer::default()
+            };
+            return (refused, Met::default());
+        }
     };
     let mut m = Model {
         s: &s,
@@ -794,7 +801,7 @@ pub fn run_with(ways: Ways, file: &[u8], output_length: usize) -> (SessionAnswer
         now: State::default(),
         records: vec![],
         output: vec![],
-        output_length: output_length.min(ways.version.output),
+        output_length: output_length.min(MAX_OUTPUT),
         quoted: None,
         count: ways.count,
         length: ways.length,

@@ -1,11 +1,12 @@
 //! The reading call's answer, from the unchanged `node_from_bytes_backrefs`.
 
 use crate::node::{ATOM, PAIR, from_word, handle, to_word};
-use crate::version::Version;
 use clvm_rs::error::EvalErr;
 use clvm_rs::serde::node_from_bytes_backrefs;
 use clvm_rs::{Allocator, SExp};
 use std::fmt::Write;
+
+pub const MAX_INPUT: usize = 65_535;
 
 /// What question 2 and 14 to 16 leave: all empty and zero when refused.
 #[derive(Debug, Default, Clone, PartialEq, Eq)]
@@ -29,7 +30,7 @@ impl ReadAnswer {
 }
 
 /// The number of an error of the reader. Others are never met: an input of at
-/// most 1,048,576 bytes stays far below the allocator's limits.
+/// most 65,535 bytes stays far below the allocator's limits.
 pub fn number_of(e: &EvalErr) -> u32 {
     match e {
         EvalErr::SerializationError => 14,
@@ -68,8 +69,8 @@ pub fn answer(a: &Allocator, root: u32) -> ReadAnswer {
     }
 }
 
-pub fn read(v: Version, input: &[u8]) -> ReadAnswer {
-    if input.len() > v.input {
+pub fn read(input: &[u8]) -> ReadAnswer {
+    if input.len() > MAX_INPUT {
         return ReadAnswer::refused(2);
     }
     let mut a = Allocator::new();

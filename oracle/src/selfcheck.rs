@@ -2,16 +2,13 @@
 //! text (`model`), by both measures of a found path, the reader against
 //! the plain reader and `node_from_bytes_backrefs_old`, and read-back.
 
+use crate::generate::exhaustive;
 use crate::generate::sessions::MEASURES;
-use crate::generate::{Kind, exhaustive};
 use crate::model::{Count, Forget, Length, Met, Quote, Ways};
 use crate::plain::{self, Interner};
-use crate::reading::{self, ReadAnswer};
+use crate::reading::{self, MAX_INPUT, ReadAnswer};
 use crate::rng::Rng;
-use crate::session::{
-    self, Call, SESSION, SESSION_DOCUMENTED, SESSION_V2, SessionAnswer, SessionFile, Step,
-};
-use crate::version::{V1, V2, Version};
+use crate::session::{self, MAX_OUTPUT, SessionAnswer, SessionFile, Step};
 use crate::writer::Measure;
 use crate::{generate, model, node};
 use clvm_rs::Allocator;
@@ -36,11 +33,11 @@ pub struct Counts {
 }
 
 /// The same tree by the Rust's reader, its old reader and the plain one.
-pub fn check_tree(v: Version, input: &[u8], counts: &mut Counts) -> Result<(), String> {
-    let r = reading::read(v, input);
+pub fn check_tree(input: &[u8], counts: &mut Counts) -> Result<(), String> {
+    let r = reading::read(input);
     counts.trees += 1;
     counts.numbers[r.number as usize] += 1;
-    if input.len() > v.input {
+    if input.len() > MAX_INPUT {
         return if r == ReadAnswer::refused(2) {
             Ok(())
         } else {
@@ -70,7 +67,7 @@ pub fn check_tree(v: Version, input: &[u8], counts: &mut Counts) -> Result<(), S
         return Err("the trees read differ".to_string());
     }
     let made = r.pairs.len() + r.ghosts as usize;
-    if made != old.pairs.len() || made != plain.pairs || made > v.made {
+    if made != old.pairs.len() || made != plain.pairs || made > 131_072 {
         return Err(format!(
             "pairs and ghosts: {made}, the plain way makes {}",
             plain.pairs
@@ -82,7 +79,7 @@ pub fn check_tree(v: Version, input: &[u8], counts: &mut Counts) -> Result<(), S
 /// With `03`, `04` or `05` and no `02` the session is that of the adds that survive, and
 /// of the step that is refused. Whether the file is such a one.
 fn check_survivors(
-    call: Call,
+    measure: Measure,
     s: &SessionFile,
     output_length: usize,
     r: &SessionAnswer,
@@ -108,7 +105,7 @@ fn check_survivors(
         counts: adds.iter().map(|(i, _)| r.counts[*i]).collect(),
         ..r.clone()
     };
-    if session::run_parsed(call, &alone, output_length, true) != expected {
+    if session::run_parsed(measure, &alone, output_length, true) != expected {
         return Err("the survivors alone give something else".to_string());
     }
     Ok(true)
@@ -116,37 +113,28 @@ fn check_survivors(
 
 /// A session by both measures.
 pub fn check_session(file: &[u8], output_length: usize, counts: &mut Counts) -> Result<(), String> {
-    let one = check_call(SESSION, file, output_length, counts)?;
-    let other = check_call(SESSION_DOCUMENTED, file, output_length, counts)?;
+    let mut check = |measure| {
+        let answer = session::run_by(measure, file, output_length, true);
+        check_answer(measure, file, output_length, &answer, counts)
+            .map_err(|e| format!("{measure:?}: {e}"))?;
+        Ok::<_, String>(answer)
+    };
+    let differ = check(Measure::Counted)? != check(Measure::Documented)?;
     counts.sessions += 1;
-    counts.differ += usize::from(one != other);
+    counts.differ += usize::from(differ);
     Ok(())
 }
 
-/// A session of a call.
-fn check_call(
-    call: Call,
-    file: &[u8],
-    output_length: usize,
-    counts: &mut Counts,
-) -> Result<SessionAnswer, String> {
-    let answer = session::run_by(call, file, output_length, true);
-    let checked = check_answer(call, file, output_length, &answer, counts);
-    let Call { version, measure } = call;
-    checked.map_err(|e| format!("{measure:?}, version {:?}: {e}", version.marks))?;
-    Ok(answer)
-}
-
-/// What the Rust, whose driver and `Serializer` agree, gives.
+/// What the Rust, whose driver and `Serializer` agree, gives by a measure.
 fn check_answer(
-    call: Call,
+    measure: Measure,
     file: &[u8],
     output_length: usize,
     r: &SessionAnswer,
     counts: &mut Counts,
 ) -> Result<(), String> {
     counts.numbers[r.number as usize] += 1;
-    let (by_text, met) = model::run(call, file, output_length);
+    let (by_text, met) = model::run(measure, file, output_length);
     counts.met.add(&met);
     if by_text != *r {
         return Err(format!(
@@ -156,16 +144,16 @@ fn check_answer(
             crate::hex::encode(&by_text.output)
         ));
     }
-    let parsed = session::parse(call.version, file);
+    let parsed = session::parse(file);
     if let Ok(s) = &parsed
-        && s.to_bytes(call.version) != file
+        && s.to_bytes() != file
     {
         return Err("the file isn't what its parts give".to_string());
     }
     let Ok(s) = parsed else {
         return Ok(());
     };
-    let survivors = check_survivors(call, &s, output_length, r)?;
+    let survivors = check_survivors(measure, &s, output_length, r)?;
     counts.survivors += usize::from(survivors);
     if !r.is_finished(&s) {
         return Ok(());
@@ -178,7 +166,7 @@ fn check_answer(
     if !filling.whole {
         return Err("finished, and the plain filling is open".to_string());
     }
-    let back = reading::read(call.version, &r.output);
+    let back = reading::read(&r.output);
     if back.number != 0 {
         return Err(format!("the finished bytes are refused: {}", back.number));
     }
@@ -291,159 +279,15 @@ const WRONG_MEASURES: &[(Measure, Length, &[&str])] = &[
         &["measure-steps"],
     ),
 ];
-/// Wrong ways of version 2, each another version in its place, and the kinds made for each.
-const WRONG_VERSIONS: &[(&str, Version, &[&str])] = &[
-    (
-        "a count of atoms of 16 bits",
-        Version {
-            atom_count_width: 2,
-            ..V2
-        },
-        &["wide-narrow", "wide-counts", "wide-atoms"],
-    ),
-    (
-        "an atom's length of 16 bits",
-        Version {
-            atom_length_width: 2,
-            ..V2
-        },
-        &["wide-narrow", "wide-counts", "wide-lengths"],
-    ),
-    (
-        "a count of pairs of 16 bits",
-        Version {
-            pair_count_width: 2,
-            ..V2
-        },
-        &["wide-narrow", "wide-counts", "wide-numbers"],
-    ),
-    (
-        "all three of 16 bits",
-        Version {
-            atom_count_width: 2,
-            atom_length_width: 2,
-            pair_count_width: 2,
-            ..V2
-        },
-        &["wide-narrow", "wide-cut", "limits"],
-    ),
-    (
-        "a restore number of 32 bits",
-        Version {
-            number_width: 4,
-            ..V2
-        },
-        &["wide-numbers", "restores", "forgets"],
-    ),
-    (
-        "version 1 taken too",
-        Version {
-            marks: &[2, 1],
-            ..V2
-        },
-        &["wide-marks", "refused-3"],
-    ),
-    (
-        "any version taken up to 3",
-        Version {
-            marks: &[0, 1, 2, 3],
-            ..V2
-        },
-        &["wide-marks"],
-    ),
-    (
-        "1,048,575 bytes of file",
-        Version {
-            input: V2.input - 1,
-            ..V2
-        },
-        &["wide-file"],
-    ),
-    (
-        "1,048,577 bytes of file",
-        Version {
-            input: V2.input + 1,
-            ..V2
-        },
-        &["wide-file", "refused-2"],
-    ),
-    (
-        "65,535 bytes of file",
-        Version {
-            input: V1.input,
-            ..V2
-        },
-        &["wide-lengths", "wide-total", "limits"],
-    ),
-    (
-        "524,287 atom bytes",
-        Version {
-            atom_bytes: V2.atom_bytes - 1,
-            ..V2
-        },
-        &["wide-total", "limits"],
-    ),
-    (
-        "524,289 atom bytes",
-        Version {
-            atom_bytes: V2.atom_bytes + 1,
-            ..V2
-        },
-        &["wide-total", "refused-5"],
-    ),
-    (
-        "32,768 atom bytes",
-        Version {
-            atom_bytes: V1.atom_bytes,
-            ..V2
-        },
-        &["wide-atoms", "wide-lengths", "limits"],
-    ),
-    (
-        "1,048,575 bytes of output",
-        Version {
-            output: V2.output - 1,
-            ..V2
-        },
-        &["wide-output", "full-output"],
-    ),
-    (
-        "1,048,577 bytes of output",
-        Version {
-            output: V2.output + 1,
-            ..V2
-        },
-        &["wide-output", "over-output"],
-    ),
-    (
-        "65,535 bytes of output",
-        Version {
-            output: V1.output,
-            ..V2
-        },
-        &["wide-output", "wide-atoms", "limits"],
-    ),
-    (
-        "no limit of the output",
-        Version {
-            output: usize::MAX,
-            ..V2
-        },
-        &["wide-output", "over-output", "refused-13"],
-    ),
-];
-/// Files of each kind, and of each in version 2.
+/// Files of each kind.
 const FILES: u64 = 60;
-const V2_FILES: u64 = 20;
 /// Files of each kind for the measures that are also compared with the Rust.
 const MEASURE_FILES: u64 = 30;
-/// Files and trees of each kind of version 2 alone.
-const WIDE_FILES: u64 = 6;
 
 /// Each wrong way gives another answer on some files of its kinds: a line for each.
 pub fn run_wrong() -> Result<String, String> {
     let mut text = String::new();
-    let right = Ways::of(SESSION);
+    let right = Ways::default();
     for (forget, kinds) in WRONG {
         let ways = Ways {
             forget: *forget,
@@ -471,27 +315,14 @@ pub fn run_wrong() -> Result<String, String> {
             ..right
         };
         let way = format!("{length:?} for {measure:?}");
-        let call = Call {
-            measure: *measure,
-            ..SESSION
-        };
-        text += &noticed(&way, kinds, ways, Ways::of(call))?;
-    }
-    for (way, version, kinds) in WRONG_VERSIONS {
-        let right = Ways::of(SESSION_V2);
-        let ways = Ways {
-            version: *version,
-            ..right
-        };
-        text += &noticed(way, kinds, ways, right)?;
+        text += &noticed(&way, kinds, ways, Ways::by(*measure))?;
     }
     text += &format!(
-        "{} wrong ways of a 03, {} of a 04 and a 05, {} of the counts, {} of the measures and {} of version 2, each noticed\n",
+        "{} wrong ways of a 03, {} of a 04 and a 05, {} of the counts and {} of the measures, each noticed\n",
         WRONG.len(),
         WRONG_QUOTES.len(),
         WRONG_COUNTS.len(),
-        WRONG_MEASURES.len(),
-        WRONG_VERSIONS.len()
+        WRONG_MEASURES.len()
     );
     Ok(text)
 }
@@ -499,21 +330,17 @@ pub fn run_wrong() -> Result<String, String> {
 /// How many files of each kind notice a wrong way.
 fn noticed(way: &str, kinds: &[&str], wrong: Ways, right: Ways) -> Result<String, String> {
     let mut text = String::new();
-    let v = right.version;
     for kind in kinds {
         let differs = |seed: &u64| {
-            let file = generate::session(v, *seed, kind).expect("a kind");
-            // more than may be used
-            let length = v.output + 1_000;
-            let [wrong, right] = [wrong, right].map(|w| model::run_with(w, &file, length).0);
+            let file = generate::session(*seed, kind).expect("a kind");
+            let [wrong, right] = [wrong, right].map(|w| model::run_with(w, &file, MAX_OUTPUT).0);
             wrong != right
         };
-        let files = if v == V1 { FILES } else { V2_FILES };
-        let count = (0..files).filter(differs).count();
+        let count = (0..FILES).filter(differs).count();
         if count == 0 {
             return Err(format!("{way} is not noticed by {kind}"));
         }
-        text += &format!("{way}: {count} of {files} files of {kind} notice\n");
+        text += &format!("{way}: {count} of {FILES} files of {kind} notice\n");
     }
     Ok(text)
 }
@@ -527,14 +354,14 @@ pub fn run_exhaustive(part: usize) -> Result<Counts, String> {
     exhaustive::sessions(|file| {
         i += 1;
         if failure.is_ok() && i.is_multiple_of(part) {
-            failure = check_session(file, V1.output, &mut counts)
+            failure = check_session(file, MAX_OUTPUT, &mut counts)
                 .map_err(|e| format!("{e}\n{}", crate::hex::encode(file)));
         }
     });
     exhaustive::trees(|tree| {
         i += 1;
         if failure.is_ok() && i.is_multiple_of(part) {
-            failure = check_tree(V1, tree, &mut counts)
+            failure = check_tree(tree, &mut counts)
                 .map_err(|e| format!("{e}\n{}", crate::hex::encode(tree)));
         }
     });
@@ -546,9 +373,8 @@ fn check_measures(seed: u64, counts: &mut Counts) -> Result<(), String> {
     for kind in MEASURES {
         let before = counts.differ;
         for i in 0..MEASURE_FILES {
-            let file =
-                generate::session(V1, seed.wrapping_mul(1_000_003) + i, kind).expect("a kind");
-            check_session(&file, V1.output, counts).map_err(|e| format!("{kind} {i}: {e}"))?;
+            let file = generate::session(seed.wrapping_mul(1_000_003) + i, kind).expect("a kind");
+            check_session(&file, MAX_OUTPUT, counts).map_err(|e| format!("{kind} {i}: {e}"))?;
         }
         if counts.differ == before {
             return Err(format!("no file of {kind} differs between the measures"));
@@ -560,81 +386,40 @@ fn check_measures(seed: u64, counts: &mut Counts) -> Result<(), String> {
     }
 }
 
-/// An output length, mostly as long as may be used.
-fn some_length(rng: &mut Rng, call: Call, file: &[u8]) -> usize {
-    let most = call.version.output;
-    if rng.percent(70) {
-        return most;
-    }
-    let size = session::run_by(call, file, most, false).output.len();
-    generate::output_length(rng, size)
-}
-
-/// Of version 2, `n` sessions and trees of all kinds, and some of each that it has alone.
-fn check_versions(n: usize, seed: u64, counts: &mut Counts) -> Result<(), String> {
-    let mut rng = Rng::new(seed ^ 2);
-    let own = |of: &[Kind]| -> Vec<&str> { of.iter().map(|k| k.0).collect() };
-    for i in 0..n {
-        let (kind, file) = generate::any_session(V2, &mut rng);
-        check_v2(&mut rng, &file, counts).map_err(|e| format!("session {i} ({kind}): {e}"))?;
-        let (kind, tree) = generate::any_tree(V2, &mut rng);
-        check_tree(V2, &tree, counts).map_err(|e| format!("tree {i} ({kind}): {e}"))?;
-    }
-    for i in 0..WIDE_FILES {
-        let seed = seed.wrapping_mul(1_000_003) + i;
-        for kind in own(generate::sessions::WIDE) {
-            let file = generate::session(V2, seed, kind).expect("a kind");
-            check_v2(&mut rng, &file, counts).map_err(|e| format!("{kind} {i}: {e}"))?;
-        }
-        for kind in own(generate::trees::WIDE) {
-            let tree = generate::tree(V2, seed, kind).expect("a kind");
-            check_tree(V2, &tree, counts).map_err(|e| format!("{kind} {i}: {e}"))?;
-        }
-    }
-    Ok(())
-}
-
-fn check_v2(rng: &mut Rng, file: &[u8], counts: &mut Counts) -> Result<(), String> {
-    let length = some_length(rng, SESSION_V2, file);
-    check_call(SESSION_V2, file, length, counts)?;
-    counts.sessions += 1;
-    Ok(())
-}
-
-/// `n` sessions and `n` trees, and sessions for the measures; and a fifth as many of version 2.
-/// The first failure with its input's kind.
-pub fn run(n: usize, seed: u64) -> Result<[Counts; 2], String> {
+/// `n` sessions and `n` trees, and sessions for the measures; the first failure with its
+/// input's kind.
+pub fn run(n: usize, seed: u64) -> Result<Counts, String> {
     let mut rng = Rng::new(seed);
     let mut counts = Counts::default();
     for i in 0..n {
-        let (kind, file) = generate::any_session(V1, &mut rng);
-        let length = some_length(&mut rng, SESSION, &file);
+        let (kind, file) = generate::any_session(&mut rng);
+        let length = if rng.percent(70) {
+            MAX_OUTPUT
+        } else {
+            let size = session::run(&file, MAX_OUTPUT, false).output.len();
+            generate::output_length(&mut rng, size)
+        };
         check_session(&file, length, &mut counts)
             .map_err(|e| format!("session {i} ({kind}): {e}\n{}", crate::hex::encode(&file)))?;
-        let (kind, tree) = generate::any_tree(V1, &mut rng);
-        check_tree(V1, &tree, &mut counts)
+        let (kind, tree) = generate::any_tree(&mut rng);
+        check_tree(&tree, &mut counts)
             .map_err(|e| format!("tree {i} ({kind}): {e}\n{}", crate::hex::encode(&tree)))?;
     }
     check_measures(seed, &mut counts)?;
-    let mut of_v2 = Counts::default();
-    check_versions(n / 5, seed, &mut of_v2).map_err(|e| format!("version 2: {e}"))?;
-    Ok([counts, of_v2])
-}
-
-/// What was checked of version 1, by both measures, and of version 2.
-pub fn print_both([one, two]: &[Counts; 2]) -> String {
-    print(one) + &text("of version 2", two)
+    Ok(counts)
 }
 
 pub fn print(c: &Counts) -> String {
-    let both = format!("each by both measures, {} of them otherwise", c.differ);
-    text(&both, c)
-}
-
-fn text(which: &str, c: &Counts) -> String {
     let mut s = format!(
-        "sessions {}, {which}; as their survivors {}, finished {}, read back {} with {} references\ntrees {}, accepted {}\nnumbers",
-        c.sessions, c.survivors, c.finished, c.read_back, c.references, c.trees, c.accepted
+        "sessions {}, each by both measures, {} of them otherwise; as their survivors {}, finished {}, read back {} with {} references\ntrees {}, accepted {}\nnumbers",
+        c.sessions,
+        c.differ,
+        c.survivors,
+        c.finished,
+        c.read_back,
+        c.references,
+        c.trees,
+        c.accepted
     );
     for (n, count) in c.numbers.iter().enumerate() {
         if n != 1 {

@@ -3,38 +3,21 @@
 
 use crate::counts::{self, Counts};
 use crate::node::{ATOM, INDEX_BITS, NONE, PAIR, SMALL, from_word, index, kind};
-use crate::version::{MARK, V1, V2, Version};
 use crate::writer::{Cache, Measure, Writer};
 use clvm_rs::allocator::fits_in_small_atom;
 use clvm_rs::serde::write_atom::write_atom;
 use clvm_rs::{Allocator, NodePtr, SExp};
 use std::fmt::Write;
 
+pub const MARK: &[u8] = b"BRS\x00\x01";
+pub const MAX_FILE: usize = 65_535;
 pub const MAX_ATOMS: usize = 1024;
 pub const MAX_PAIRS: usize = 1024;
+pub const MAX_ATOM_BYTES: usize = 32_768;
 pub const MAX_STEPS: usize = 1024;
 pub const MAX_ADDS: usize = 16;
 pub const MAX_OPEN: usize = 4096;
-
-/// A session call: the version of its files, and how it measures a found path.
-#[derive(Debug, Clone, Copy, PartialEq, Eq)]
-pub struct Call {
-    pub version: Version,
-    pub measure: Measure,
-}
-
-pub const SESSION: Call = Call {
-    version: V1,
-    measure: Measure::Counted,
-};
-pub const SESSION_DOCUMENTED: Call = Call {
-    version: V1,
-    measure: Measure::Documented,
-};
-pub const SESSION_V2: Call = Call {
-    version: V2,
-    measure: Measure::Counted,
-};
+pub const MAX_OUTPUT: usize = 65_535;
 
 #[derive(Debug, Clone, Copy, PartialEq, Eq)]
 pub enum Step {
@@ -70,15 +53,19 @@ impl<'a> Fields<'a> {
         Ok(part)
     }
 
-    /// A number of so many bytes.
-    fn number(&mut self, width: usize) -> Result<usize, u32> {
-        let bytes = self.take(width)?.iter();
-        Ok(bytes.fold(0, |n, byte| n << 8 | usize::from(*byte)))
+    fn word16(&mut self) -> Result<usize, u32> {
+        let b = self.take(2)?;
+        Ok(usize::from(b[0]) << 8 | usize::from(b[1]))
+    }
+
+    fn word32(&mut self) -> Result<u32, u32> {
+        let b = self.take(4)?;
+        Ok(u32::from_be_bytes([b[0], b[1], b[2], b[3]]))
     }
 
     /// Questions 4 and 7.
     fn handle(&mut self, atoms: usize, pairs: usize, or_none: bool) -> Result<u32, u32> {
-        let h = self.number(4)? as u32;
+        let h = self.word32()?;
         let named = match kind(h) {
             PAIR => index(h) < pairs,
             ATOM => index(h) < atoms,
@@ -90,27 +77,30 @@ impl<'a> Fields<'a> {
 }
 
 /// Questions 2 to 8, or the number of the first that fails.
-pub fn parse(v: Version, file: &[u8]) -> Result<SessionFile, u32> {
-    if file.len() > v.input {
+pub fn parse(file: &[u8]) -> Result<SessionFile, u32> {
+    if file.len() > MAX_FILE {
         return Err(2);
     }
-    if !v.begins(file) {
+    if !file.starts_with(MARK) {
         return Err(3);
     }
-    let mut f = Fields { file, at: MARK };
+    let mut f = Fields {
+        file,
+        at: MARK.len(),
+    };
     let mut s = SessionFile::default();
 
-    let atom_count = f.number(v.atom_count_width)?;
+    let atom_count = f.word16()?;
     if atom_count > MAX_ATOMS {
         return Err(5);
     }
     let mut atom_bytes = 0;
     for _ in 0..atom_count {
         // length and bytes are one field
-        let length = f.number(v.atom_length_width)?;
+        let length = f.word16()?;
         let atom = f.take(length)?;
         atom_bytes += length;
-        if atom_bytes > v.atom_bytes {
+        if atom_bytes > MAX_ATOM_BYTES {
             return Err(5);
         }
         if fits_in_small_atom(atom).is_some() {
@@ -119,7 +109,7 @@ pub fn parse(v: Version, file: &[u8]) -> Result<SessionFile, u32> {
         s.atoms.push(atom.to_vec());
     }
 
-    let pair_count = f.number(v.pair_count_width)?;
+    let pair_count = f.word16()?;
     if pair_count > MAX_PAIRS {
         return Err(5);
     }
@@ -139,8 +129,8 @@ pub fn parse(v: Version, file: &[u8]) -> Result<SessionFile, u32> {
         }
         s.steps.push(match code {
             1 => Step::Add(f.handle(atom_count, pair_count, false)?),
-            2 => Step::Restore(f.number(v.number_width)? as u16),
-            3 => Step::Forget(f.number(v.number_width)? as u16),
+            2 => Step::Restore(f.word16()? as u16),
+            3 => Step::Forget(f.word16()? as u16),
             4 => Step::Quote(f.handle(atom_count, pair_count, false)?),
             5 => Step::Take,
             _ => return Err(8),
@@ -149,21 +139,16 @@ pub fn parse(v: Version, file: &[u8]) -> Result<SessionFile, u32> {
     Ok(s)
 }
 
-/// A number in its last `width` bytes.
-pub fn put_number(out: &mut Vec<u8>, width: usize, number: usize) {
-    out.extend_from_slice(&number.to_be_bytes()[8 - width..]);
-}
-
 impl SessionFile {
-    /// The file's bytes. Counts beyond the version's widths are the caller's error.
-    pub fn to_bytes(&self, v: Version) -> Vec<u8> {
-        let mut out = v.mark();
-        put_number(&mut out, v.atom_count_width, self.atoms.len());
+    /// The file's bytes. Counts beyond 16 bits are the caller's error.
+    pub fn to_bytes(&self) -> Vec<u8> {
+        let mut out = MARK.to_vec();
+        out.extend_from_slice(&(self.atoms.len() as u16).to_be_bytes());
         for a in &self.atoms {
-            put_number(&mut out, v.atom_length_width, a.len());
+            out.extend_from_slice(&(a.len() as u16).to_be_bytes());
             out.extend_from_slice(a);
         }
-        put_number(&mut out, v.pair_count_width, self.pairs.len());
+        out.extend_from_slice(&(self.pairs.len() as u16).to_be_bytes());
         for (left, right) in &self.pairs {
             out.extend_from_slice(&left.to_be_bytes());
             out.extend_from_slice(&right.to_be_bytes());
@@ -177,11 +162,11 @@ impl SessionFile {
                 }
                 Step::Restore(k) => {
                     out.push(2);
-                    put_number(&mut out, v.number_width, usize::from(*k));
+                    out.extend_from_slice(&k.to_be_bytes());
                 }
                 Step::Forget(k) => {
                     out.push(3);
-                    put_number(&mut out, v.number_width, usize::from(*k));
+                    out.extend_from_slice(&k.to_be_bytes());
                 }
                 Step::Quote(h) => {
                     out.push(4);
@@ -223,13 +208,6 @@ pub struct SessionAnswer {
 }
 
 impl SessionAnswer {
-    pub fn refused(number: u32) -> Self {
-        Self {
-            number,
-            ..Self::default()
-        }
-    }
-
     /// The three words of each finished step, one step after the other.
     pub fn all_words(&self) -> Vec<u32> {
         let steps = self.words.iter().zip(&self.counts);
@@ -296,7 +274,7 @@ impl<'a, C: Cache> Driver<'a, C> {
             tree_cache: C::new(sentinel),
             output: vec![],
             items: vec![],
-            output_length,
+            output_length: output_length.min(MAX_OUTPUT),
             open: 0,
         }
     }
@@ -564,36 +542,37 @@ impl<'a, W: Writer> Session<'a, W> {
 /// The whole session by the Rust as it is. With `compare` every step that 12 and 13 let
 /// through is also done by the unchanged `Serializer`; a difference panics.
 pub fn run(file: &[u8], output_length: usize, compare: bool) -> SessionAnswer {
-    run_by(SESSION, file, output_length, compare)
+    run_by(Measure::Counted, file, output_length, compare)
 }
 
-/// The whole session of a call, with `compare` as before by the `Serializer` that has its
-/// measure.
-pub fn run_by(call: Call, file: &[u8], output_length: usize, compare: bool) -> SessionAnswer {
-    match parse(call.version, file) {
-        Err(number) => SessionAnswer::refused(number),
-        Ok(s) => run_parsed(call, &s, output_length, compare),
+/// The whole session by a measure, with `compare` as before by the `Serializer` that has it.
+pub fn run_by(measure: Measure, file: &[u8], output_length: usize, compare: bool) -> SessionAnswer {
+    match parse(file) {
+        Err(number) => SessionAnswer {
+            number,
+            ..SessionAnswer::default()
+        },
+        Ok(s) => run_parsed(measure, &s, output_length, compare),
     }
 }
 
 pub fn run_parsed(
-    call: Call,
+    measure: Measure,
     s: &SessionFile,
     output_length: usize,
     compare: bool,
 ) -> SessionAnswer {
-    run_items(call, s, output_length, compare).0
+    run_items(measure, s, output_length, compare).0
 }
 
 /// The whole session, and the items of its output.
 fn run_items(
-    call: Call,
+    measure: Measure,
     s: &SessionFile,
     output_length: usize,
     compare: bool,
 ) -> (SessionAnswer, Vec<Item>) {
-    let output_length = output_length.min(call.version.output);
-    match call.measure {
+    match measure {
         Measure::Counted => run_on::<clvm_rs::serde::Serializer>(s, output_length, compare),
         Measure::Documented => run_on::<documented::serde::Serializer>(s, output_length, compare),
     }
@@ -657,12 +636,12 @@ pub fn print(r: &SessionAnswer, counts: bool) -> String {
     text(r, counts, &(crate::hex::encode(&r.output) + "\n"))
 }
 
-/// The text that `session --items FILE` prints, or with `--counts`, `--documented` or `--v2`
-/// too: a line for each item of the output.
-pub fn print_items(call: Call, file: &[u8], counts: bool) -> String {
-    let (answer, items) = match parse(call.version, file) {
-        Err(number) => (SessionAnswer::refused(number), vec![]),
-        Ok(s) => run_items(call, &s, call.version.output, true),
+/// The text that `session --items FILE` prints, or with `--counts` or `--documented` too: a
+/// line for each item of the output.
+pub fn print_items(measure: Measure, file: &[u8], counts: bool) -> String {
+    let (answer, items) = match parse(file) {
+        Err(_) => (run(file, MAX_OUTPUT, true), vec![]),
+        Ok(s) => run_items(measure, &s, MAX_OUTPUT, true),
     };
     let line = |item: &Item| match item {
         Item::Reference(path) => format!("reference {}\n", crate::hex::encode(path)),

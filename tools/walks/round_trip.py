@@ -21,7 +21,6 @@ use Rattle·read_call.specs.Outcome.{read-result-of}
 use Rattle·session_answer.specs.declared.SessionAnswer.{SessionAnswer}
 use Rattle·session_answer.proofs.SessionAnswer as R
 use Rattle·session_answer.proofs.SessionAnswer.Laws as R′
-use Rattle·limits.specs.Limits.{version-1}
 use Rattle·session_call.specs.Outcome.{result-of, ReadsBack}
 use Rattle·session_call.proofs.Lending.{lends, comes, twice}
 use Rattle·round_trip·specs.specs.declared.RoundTrip.{RoundTrip}
@@ -57,10 +56,10 @@ OPEN='''    -- The lists that are lent, and what the two contracts say of the va
     Ran s w w₂ cs o = result-of s w w₂ cs o ≡ the-session (x₀ .now) before
 
     abbrev Back : SessionAnswer → (w w₂ : List ℕ) (cs : List Checkpoint) (o : List ℕ) → Type 0
-    Back s w w₂ cs o = ReadsBack version-1 counted (x₀ .now) (result-of s w w₂ cs o)
+    Back s w w₂ cs o = ReadsBack counted (x₀ .now) (result-of s w w₂ cs o)
 
     abbrev WasRead : SessionAnswer → (w o : List ℕ) → ReadAnswer → (w₁ ps ns bs : List ℕ) → Type 0
-    WasRead s w o r w₁ ps ns bs = read-result-of r w₁ ps ns bs ≡ reading version-1 (take (s .size) o) (store-slices w (x₅ .now) (x₆ .now) (x₇ .now))
+    WasRead s w o r w₁ ps ns bs = read-result-of r w₁ ps ns bs ≡ reading (take (s .size) o) (store-slices w (x₅ .now) (x₆ .now) (x₇ .now))
 
     abbrev Ends : (w₁ w₂ : List ℕ) (cs : List Checkpoint) (o ps ns bs : List ℕ) → List (Item 𝓤)
     Ends w₁ w₂ cs o ps ns bs = @ENDS@

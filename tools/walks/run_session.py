@@ -7,14 +7,13 @@ DRIVE=Callee('Drive','drive','Rattle·session_steps.proofs.run_steps.run_steps')
 CLEAR=Callee('Clear','clear','Rattle·session_state.proofs.checkpoints.clear_first')
 FINISH=Callee('Finish','finish','Rattle·session_answer.proofs.finish')
 f=Frame('run_session.py','Rattle·session_call·proofs.proofs.run_session.run_session',
-    PARAMS,[BEGIN,DRIVE,CLEAR,FINISH],Plain(RULES,'m','mach-m m'))
+    PARAMS,[BEGIN,DRIVE,CLEAR,FINISH],Plain(MEASURE,'m','mach-m m'))
 HEAD='''-- `session_call::run_session::run_session` meets its contract: a walk of its MIR. It knows of the four functions that it calls that each meets its contract.
 -- `work` is lent again to `begin`, and all four slices to `run_steps`; then the records go to `clear_first` for good, and the other three to `finish`.
 -- A part of the walk for each call, the last one first.
 -- Assumes nothing.
 '''
 MINE=USES+'''use Rattle·words.specs.Lists.{Bytes}
-use Rattle·limits.specs.Limits.{limits-of}
 use Rattle·path.specs.Measure.{measure-of}
 use Rattle·session_state.specs.declared.progress.Progress.{Progress}
 use Rattle·session_state.proofs.progress.Progress as S
@@ -27,7 +26,7 @@ use Rattle·session_begin.proofs.Begun.Laws as B′
 use Rattle·session_answer.specs.Answer.{answer-of, answer-at, Cleared}
 use Rattle·session_call·proofs.proofs.Calling.{run-asks, clear-asks, finish-asks, call-result, reads-back}
 '''
-MACHS='''-- The machine values of the structs.
+MACHS='''-- The machine values of the structs, and of a measure.
 abbrev mach-b : Begun → Val
 mach-b b = LL.val B.the-type B′.the-laws b
 
@@ -45,10 +44,10 @@ OPEN='''    -- What is had of the parameters, with these lists: the slices and t
     Left w ws cs o Γ = @LEFT@ ∷ Γ
 
 '''
-OPEN=fill(OPEN,LISTS=LISTS,HAS=had(f,HAS),LEFT=had(f,LEFT))+exits(f,'(limits-of (m .version))','(measure-of (m .measure))')
+OPEN=fill(OPEN,LISTS=LISTS,HAS=had(f,HAS),LEFT=had(f,LEFT))+exits(f,'(measure-of m)')
 
 locals=Locals(['R′.mir',slice_type('u8',0,'shr'),slice_type('u32',1),slice_type('u32',2),slice_type('T.the-row',3),slice_type('u8',4),
-    'Q′.mir',WORD,WORD,'B′.mir','S′.mir',WORD,'S′.mir',*again_types('u32','T.the-row','u32','u32','u8'),'tyUnit',*again_types('T.the-row','u32','u32','u8')])
+    'D′.mir',WORD,WORD,'B′.mir','S′.mir',WORD,'S′.mir',*again_types('u32','T.the-row','u32','u32','u8'),'tyUnit',*again_types('T.the-row','u32','u32','u8')])
 TEMPS='''      -- The locals between two calls: those for the calls' arguments hold nothing, and the parameters are as they came in. Γ is what the others hold.
       abbrev Temps : List (Item 𝓤) → List (Item 𝓤)
       Temps Γ = %s
@@ -64,7 +63,7 @@ now_run=now_in+' p w₂ ws₂ cs₂ o₂ lw₂ lws₂ lcs₂ lo₂ drove'
 
 # ---- What each call is handed.
 begin=Call(f,BEGIN,[Slice(0),Slice(1,'(again₁ δ₁ (x₁ .now))',True),
-    Plain(USIZE,'n₂','vint w64 n₂','(refl, room₂ .0)'),Plain(USIZE,'n₃','vint w64 n₃','(refl, room₃ .0)'),Plain(RULES,'m','mach-m m','m-is')],'(ν₁ : ℕ) (δ₁ : GName)')
+    Plain(USIZE,'n₂','vint w64 n₂','(refl, room₂ .0)'),Plain(USIZE,'n₃','vint w64 n₃','(refl, room₃ .0)'),Plain(MEASURE,'m','mach-m m','m-is')],'(ν₁ : ℕ) (δ₁ : GName)')
 drive=Call(f,DRIVE,[Slice(3,'(again₃ δ₃ (x₃ .now))',True),Slice(1,'(again₁ δ₁ w₁)',True),
     Slice(2,'(again₂ δ₂ (x₂ .now))',True),Slice(4,'(again₄ δ₄ (x₄ .now))',True),Slice(0),
     Plain(PROGRESS,'b .start','mach-p (b .start)','start-is')],'(ν₁ ν₂ ν₃ ν₄ : ℕ) (δ₁ δ₂ δ₃ δ₄ : GName)','(run-asks %s)'%now_in)
@@ -125,7 +124,7 @@ last=w.text(14)
 
 PARTS='''      -- What `begin` says.
       abbrev Began : Begun → List ℕ → Type 0
-      Began b w₁ = Bytes input × Begins m input (x₁ .now) n₂ n₃ w₁ b (asked m input n₁ n₂ n₃)
+      Began b w₁ = Bytes input × Begins m input (x₁ .now) n₂ n₃ w₁ b (asked input n₁ n₂ n₃)
 
       module _ (b : Begun) (w₁ : List ℕ) (lw₁ : length w₁ ≡ n₁) (began : Began b w₁)
           (start-is : Is S.the-row (b .start) (mach-p (b .start) ∷ [])) (records-fit : b .records < 2 ^ 64) where

@@ -15,7 +15,7 @@ HEAD='''-- `session_steps::run_steps::run_steps` meets its contract: a walk of i
 USES='''use Rattle·session_state.proofs.checkpoints.Rows.{byte-fits, the-vals, the-tells, the-typed, after}
 use Rattle·session_state.specs.declared.progress.Progress.{Progress}
 use Rattle·session_state.specs.declared.progress.StepAnswer.{StepAnswer}
-use Rattle·session_state.specs.State.{output-most, the-file}
+use Rattle·session_state.specs.State.{the-file}
 use Rattle·session_state.specs.Steps.{Ready}
 use Rattle·session_state.proofs.progress.Progress as S
 use Rattle·session_state.proofs.progress.Progress.Laws as S′
@@ -127,7 +127,7 @@ slot=Call(f,SLOT,[Slice(4),Plain(PROGRESS,'m .progress','mach (m .progress)','(f
 step=Call(f,STEP,[Slice(i,'(again%s δ%s (m .%s))'%(sub(i),sub(i),lists[i]),True) for i in lists]+[Slice(4),
     Plain(PROGRESS,'m .progress','mach (m .progress)','(f .progress-is)'),Plain(RECORD,'rec k','mach-c (rec k)','c-is')],
     '(ν₁ ν₂ ν₃ : ℕ) (δ₁ δ₂ δ₃ : GName) (k : ℕ)','rd','(c-is : Is T.the-row (rec k) (mach-c (rec k) ∷ [])) '
-    '(rd : Ready file (the-file (m .progress .rules) file) (m .work) (m .words) (take (output-most (m .progress .rules)) (m .out)) (m .progress) (rec k))')
+    '(rd : Ready file (the-file file) (m .work) (m .words) (take 65535 (m .out)) (m .progress) (rec k))')
 lent=[(i,'(m .%s)'%lists[i],'(f .%s-len)'%lists[i]) for i in lists]
 ZS='(zs .0) (zs .1 .0) (zs .1 .1 .0)'
 

@@ -56,8 +56,6 @@ RECORD=struct('Checkpoint','T')
 ANSWER=struct('SessionAnswer','R')
 PROGRESS=struct('Progress','S')
 MEASURE=enum('Measure','D')
-VERSION=enum('Version','N')
-RULES=struct('Rules','Q')
 # A text, with these parts for the marks @NAME@.
 def fill(t,**parts):
     for k,v in parts.items(): t=t.replace('@%s@'%k,v)

@@ -1,10 +1,14 @@
 // The session file's numbers, counts and atoms: the value of each and where the next part begins, or the number of the question that gets no.
 ghost use Rattle.std.specs.Prelude.{◌≡◌, [], ◌≤◌, length, drop};
+ghost use Rattle.spec_session.specs.File.{version_1};
 ghost use Rattle.spec_session.specs.File as file_format;
 ghost use Rattle.file_parts.specs.Answers.{Answers, itself, sized, counted, atom-of};
 
 use allocator::{FitsInSmallAtom, fits_in_small_atom};
 use file_parts::{Part, session_file};
+
+// The most atom bytes.
+const ATOM_BYTES: u32 = 32768;
 
 // The answer where a question got no.
 pub fn refusal(number: u32) -> Part
@@ -32,12 +36,12 @@ pub fn field(file: &[u8], at: usize, count: usize) -> Part
     refusal(4)
 }
 
-// A count of `width` bytes, and at most `most`.
-pub fn count(file: &[u8], at: usize, width: usize, most: u32) -> Part
-    requires { (at ≤ length file.now) × (width ≤ 4) }
-    ensures { Answers file.now itself result (file_format.count width most (drop at file.now)) }
+// A count of at most `most`.
+pub fn count(file: &[u8], at: usize, most: u32) -> Part
+    requires { at ≤ length file.now }
+    ensures { Answers file.now itself result (file_format.count 2 most (drop at file.now)) }
 {
-    let n = field(file, at, width);
+    let n = field(file, at, 2);
     if n.number != 0 {
         return n;
     }
@@ -47,14 +51,14 @@ pub fn count(file: &[u8], at: usize, width: usize, most: u32) -> Part
     refusal(5)
 }
 
-// An atom of `size` bytes from `start` on, where `used` of at most `most` atom bytes are there already.
-fn atom_bytes(file: &[u8], start: usize, size: u32, most: u32, used: u32) -> Part
-    requires { (start ≤ length file.now) × (used ≤ most) }
-    ensures { Answers file.now sized result (atom-of most used size (drop start file.now)) }
+// An atom of `size` bytes from `start` on, where `used` atom bytes are there already.
+fn atom_bytes(file: &[u8], start: usize, size: u32, used: u32) -> Part
+    requires { (start ≤ length file.now) × (used ≤ 32768) }
+    ensures { Answers file.now sized result (atom-of used size (drop start file.now)) }
 {
     let n = size as usize;
     let left = file.len() - start;
-    let room = most - used;
+    let room = ATOM_BYTES - used;
     if left < n {
         return refusal(4);
     }
@@ -72,28 +76,28 @@ fn atom_bytes(file: &[u8], start: usize, size: u32, most: u32, used: u32) -> Par
     }
 }
 
-// An atom: its length, a number of `width` bytes, and its bytes are one field.
-fn atom(file: &[u8], at: usize, width: usize, most: u32, used: u32) -> Part
-    requires { (at ≤ length file.now) × (width ≤ 4) × (used ≤ most) }
-    ensures { Answers file.now sized result (file_format.atom width most used (drop at file.now)) }
+// An atom: its length and its bytes are one field.
+fn atom(file: &[u8], at: usize, used: u32) -> Part
+    requires { (at ≤ length file.now) × (used ≤ 32768) }
+    ensures { Answers file.now sized result (file_format.atom version_1 used (drop at file.now)) }
 {
-    let n = field(file, at, width);
+    let n = field(file, at, 2);
     if n.number != 0 {
         return n;
     }
-    atom_bytes(file, n.next, n.value, most, used)
+    atom_bytes(file, n.next, n.value, used)
 }
 
-// So many atoms, each with a length of `width` bytes, and at most `most` bytes together.
-pub fn atoms(file: &[u8], at: usize, width: usize, most: u32, count: u32) -> Part
-    requires { (at ≤ length file.now) × (1 ≤ width) × (width ≤ 4) }
-    ensures { Answers file.now counted result (file_format.atoms width most count 0 [] (drop at file.now)) }
+// So many atoms.
+pub fn atoms(file: &[u8], at: usize, count: u32) -> Part
+    requires { at ≤ length file.now }
+    ensures { Answers file.now counted result (file_format.atoms version_1 count 0 [] (drop at file.now)) }
 {
     let mut next = at;
     let mut used: u32 = 0;
     let mut done: u32 = 0;
     while done < count {
-        let a = atom(file, next, width, most, used);
+        let a = atom(file, next, used);
         if a.number != 0 {
             return a;
         }

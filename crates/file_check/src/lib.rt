@@ -4,14 +4,14 @@ mod file_handles;
 
 ghost use Rattle.std.specs.Prelude.{◌≡◌, ◌≤◌, length, take, drop};
 ghost use Rattle.words.specs.Lists.{same};
-ghost use Rattle.limits.specs.Limits.{limits_of};
-ghost use Rattle.spec_session.specs.File.{mark, after_mark as what-follows, file as whole_file};
+ghost use Rattle.spec_session.specs.File.{version_1, mark, after_mark as what-follows, file as whole_file};
 ghost use Rattle.file_parts.specs.Checked.{Checks, turned_down};
 
 use file_parts::Checked;
-use limits::Version;
 
-// The most atoms and pairs of a file.
+// The most bytes, atoms and pairs of a file.
+const FILE_BYTES: usize = 65535;
+
 const ATOMS: u32 = 1024;
 
 const PAIRS: u32 = 1024;
@@ -29,34 +29,30 @@ fn turned_down(number: u32) -> Checked
     }
 }
 
-// Whether the file begins with the mark and this version.
-fn has_mark(file: &[u8], version: Version) -> bool
-    ensures { result ≡ same (take 5 file.now) (mark (limits_of version)) }
+// Whether the file begins with the mark and version 1.
+fn has_mark(file: &[u8]) -> bool
+    ensures { result ≡ same (take 5 file.now) (mark version_1) }
 {
     if file.len() < 5 {
         return false;
     }
-    match version {
-        Version::One => words::same_bytes(&file[..5], b"BRS\x00\x01"),
-        Version::Two => words::same_bytes(&file[..5], b"BRS\x00\x02"),
-    }
+    words::same_bytes(&file[..5], b"BRS\x00\x01")
 }
 
 // The file after its mark.
-fn after_mark(file: &[u8], version: Version) -> Checked
-    requires { (5 ≤ length file.now) × (length file.now ≤ (limits_of version).file_bytes) }
-    ensures { Checks (limits_of version) file.now result (what-follows (limits_of version) (drop 5 file.now)) }
+fn after_mark(file: &[u8]) -> Checked
+    requires { (5 ≤ length file.now) × (length file.now ≤ 65535) }
+    ensures { Checks file.now result (what-follows version_1 (drop 5 file.now)) }
 {
-    let l = limits::limits_of(version);
-    let atoms = file_atoms::count(file, 5, l.count_bytes, ATOMS);
+    let atoms = file_atoms::count(file, 5, ATOMS);
     if atoms.number != 0 {
         return turned_down(atoms.number);
     }
-    let listed = file_atoms::atoms(file, atoms.next, l.count_bytes, l.atom_bytes, atoms.value);
+    let listed = file_atoms::atoms(file, atoms.next, atoms.value);
     if listed.number != 0 {
         return turned_down(listed.number);
     }
-    let pairs = file_atoms::count(file, listed.next, l.count_bytes, PAIRS);
+    let pairs = file_atoms::count(file, listed.next, PAIRS);
     if pairs.number != 0 {
         return turned_down(pairs.number);
     }
@@ -83,15 +79,14 @@ fn after_mark(file: &[u8], version: Version) -> Checked
 }
 
 // Questions 2 to 8, of the whole file.
-pub fn check(file: &[u8], version: Version) -> Checked
-    ensures { Checks (limits_of version) file.now result (whole_file (limits_of version) file.now) }
+pub fn check(file: &[u8]) -> Checked
+    ensures { Checks file.now result (whole_file version_1 file.now) }
 {
-    let l = limits::limits_of(version);
-    if l.file_bytes < file.len() {
+    if FILE_BYTES < file.len() {
         return turned_down(2);
     }
-    if !has_mark(file, version) {
+    if !has_mark(file) {
         return turned_down(3);
     }
-    after_mark(file, version)
+    after_mark(file)
 }

@@ -39,86 +39,86 @@ module _ (w : List ℕ) (i x y : ℕ) (room : 2 * i + 1 < length w) where
 -- ---- atoms
 
 -- i atoms are loaded, and the others stand from this place on.
-pub record LoadingAtoms (width : ℕ) (input : List ℕ) (count : ℕ) (w w' : List ℕ) (place i : ℕ) : Type 0 where
+pub record LoadingAtoms (input : List ℕ) (count : ℕ) (w w' : List ℕ) (place i : ℕ) : Type 0 where
   pub xs : List (List ℕ)
   pub long : length xs ≡ count
-  pub there : AtomsAt width input (5 + width) xs
-  pub left : AtomsAt width input place (drop i xs)
+  pub there : AtomsAt input 7 xs
+  pub left : AtomsAt input place (drop i xs)
   pub places : (k : ℕ) → k < i → AtomPlace input (at w' (2 * k)) (at w' (2 * k + 1)) (get_or xs k [])
   pub others : (k : ℕ) → 2 * i ≤ k → at w' k ≡ at w k
 
-pub loading_atoms : (width : ℕ) (input : List ℕ) (count : ℕ) (w : List ℕ) → AtomsThere width input count → LoadingAtoms width input count w w (5 + width) 0
-loading_atoms width input count w a =
+pub loading_atoms : (input : List ℕ) (count : ℕ) (w : List ℕ) → AtomsThere input count → LoadingAtoms input count w w 7 0
+loading_atoms input count w a =
     record {
       xs = a.atoms;
       long = a.long;
       there = a.there;
-      left = subst (AtomsAt width input (5 + width)) (sym (drop_at [] a.atoms 0 refl)) a.there;
+      left = subst (AtomsAt input 7) (sym (drop_at [] a.atoms 0 refl)) a.there;
       places = λ k h. absurd (omega arith);
       others = λ k h. refl;
     }
 
 -- Atoms that stand at one place are the same.
-atoms_same : (width : ℕ) (input : List ℕ) (place : ℕ) (xs ys : List (List ℕ)) → length xs ≡ length ys → AtomsAt width input place xs → AtomsAt width input place ys → xs ≡ ys
-atoms_same width input place [] [] e h k = refl
-atoms_same width input place [] (y ∷ ys) e h k = absurd (omega arith)
-atoms_same width input place (x ∷ xs) [] e h k = absurd (omega arith)
-atoms_same width input place (x ∷ xs) (y ∷ ys) e h k =
+atoms_same : (input : List ℕ) (place : ℕ) (xs ys : List (List ℕ)) → length xs ≡ length ys → AtomsAt input place xs → AtomsAt input place ys → xs ≡ ys
+atoms_same input place [] [] e h k = refl
+atoms_same input place [] (y ∷ ys) e h k = absurd (omega arith)
+atoms_same input place (x ∷ xs) [] e h k = absurd (omega arith)
+atoms_same input place (x ∷ xs) (y ∷ ys) e h k =
     let size : length x ≡ length y = sym h.1 ∙ k.1 in
-    let same : x ≡ y = sym h.2 ∙ ap (part input (place + width)) size ∙ k.2 in
-    let rest : xs ≡ ys = atoms_same width input (place + width + length x) xs ys (omega arith) h.3 (subst (λ (n : ℕ). AtomsAt width input (place + width + n) ys) (sym size) k.3) in
+    let same : x ≡ y = sym h.2 ∙ ap (part input (place + 2)) size ∙ k.2 in
+    let rest : xs ≡ ys = atoms_same input (place + 2 + length x) xs ys (omega arith) h.3 (subst (λ (n : ℕ). AtomsAt input (place + 2 + n) ys) (sym size) k.3) in
     rw (same, rest)
 
-module _ {width : ℕ} {input : List ℕ} {count : ℕ} {w w' : List ℕ} {place i : ℕ} (s : LoadingAtoms width input count w w' place i) where
-  pub atoms_loaded : count ≤ i → i ≤ count → (ys : List (List ℕ)) → length ys ≡ count → AtomsAt width input (5 + width) ys → AtomsLoaded input ys w w'
+module _ {input : List ℕ} {count : ℕ} {w w' : List ℕ} {place i : ℕ} (s : LoadingAtoms input count w w' place i) where
+  pub atoms_loaded : count ≤ i → i ≤ count → (ys : List (List ℕ)) → length ys ≡ count → AtomsAt input 7 ys → AtomsLoaded input ys w w'
   atoms_loaded l m ys e h =
-      subst (λ (z : List (List ℕ)). AtomsLoaded input z w w') (atoms_same width input (5 + width) s.xs ys (s.long ∙ sym e) s.there h)
+      subst (λ (z : List (List ℕ)). AtomsLoaded input z w w') (atoms_same input 7 s.xs ys (s.long ∙ sym e) s.there h)
       (record { places = λ k q. s.places k (omega (arith, s.long)); others = λ k q. s.others k (omega (arith, s.long)) })
 
   module _ (h : i < count) where
-    next_atom : AtomsAt width input place (get_or s.xs i [] ∷ drop (suc i) s.xs)
-    next_atom = subst (AtomsAt width input place) (drop_cons s.xs i [] (omega (arith, s.long))) s.left
+    next_atom : AtomsAt input place (get_or s.xs i [] ∷ drop (suc i) s.xs)
+    next_atom = subst (AtomsAt input place) (drop_cons s.xs i [] (omega (arith, s.long))) s.left
 
-    pub atom_room : place + width ≤ length input
+    pub atom_room : place + 2 ≤ length input
     atom_room = omega (arith, next_atom.0)
 
-    module _ (v : ℕ) (e : v ≡ number (part input place width)) where
+    module _ (v : ℕ) (e : v ≡ number (part input place 2)) where
       size : v ≡ length (get_or s.xs i [])
       size = e ∙ next_atom.1
 
-      pub atom_end : place + width + v ≤ length input
+      pub atom_end : place + 2 + v ≤ length input
       atom_end = omega (arith, next_atom.0, size)
 
-      here : AtomPlace input (place + width) (place + width + v) (get_or s.xs i [])
+      here : AtomPlace input (place + 2) (place + 2 + v) (get_or s.xs i [])
       unfolding part
       here =
-          let n : place + width + v - (place + width) ≡ length (get_or s.xs i []) = omega (arith, size) in
-          record { before = omega arith; inside = atom_end; is = ap (λ (k : ℕ). take k (drop (place + width) input)) n ∙ next_atom.2 }
+          let n : place + 2 + v - (place + 2) ≡ length (get_or s.xs i []) = omega (arith, size) in
+          record { before = omega arith; inside = atom_end; is = ap (λ (k : ℕ). take k (drop (place + 2) input)) n ∙ next_atom.2 }
 
-      pub atoms_turn : 2 * i + 1 < length w' → LoadingAtoms width input count w (two w' i (place + width) (place + width + v)) (place + width + v) (i + 1)
+      pub atoms_turn : 2 * i + 1 < length w' → LoadingAtoms input count w (two w' i (place + 2) (place + 2 + v)) (place + 2 + v) (i + 1)
       atoms_turn room =
           record {
             xs = s.xs;
             long = s.long;
             there = s.there;
-            left = subst (λ (n : ℕ). AtomsAt width input (place + width + v) (drop n s.xs)) (sym (add-one i))
-                (subst (λ (n : ℕ). AtomsAt width input (place + width + n) (drop (suc i) s.xs)) (sym size) next_atom.3);
+            left = subst (λ (n : ℕ). AtomsAt input (place + 2 + v) (drop n s.xs)) (sym (add-one i))
+                (subst (λ (n : ℕ). AtomsAt input (place + 2 + n) (drop (suc i) s.xs)) (sym size) next_atom.3);
             places = λ k l. by_lt k i (λ m. old k m) (λ m. new k (le_antisymm (omega arith) m));
-            others = λ k l. two_other w' i (place + width) (place + width + v) room k (λ q. omega arith) (λ q. omega arith) ∙ s.others k (omega arith);
+            others = λ k l. two_other w' i (place + 2) (place + 2 + v) room k (λ q. omega arith) (λ q. omega arith) ∙ s.others k (omega arith);
           }
         where
-          old : (k : ℕ) → k < i → AtomPlace input (at (two w' i (place + width) (place + width + v)) (2 * k)) (at (two w' i (place + width) (place + width + v)) (2 * k + 1)) (get_or s.xs k [])
+          old : (k : ℕ) → k < i → AtomPlace input (at (two w' i (place + 2) (place + 2 + v)) (2 * k)) (at (two w' i (place + 2) (place + 2 + v)) (2 * k + 1)) (get_or s.xs k [])
           old k m =
-              subst (λ (a : ℕ). AtomPlace input a (at (two w' i (place + width) (place + width + v)) (2 * k + 1)) (get_or s.xs k []))
-              (sym (two_other w' i (place + width) (place + width + v) room (2 * k) (λ q. omega arith) (λ q. omega arith)))
+              subst (λ (a : ℕ). AtomPlace input a (at (two w' i (place + 2) (place + 2 + v)) (2 * k + 1)) (get_or s.xs k []))
+              (sym (two_other w' i (place + 2) (place + 2 + v) room (2 * k) (λ q. omega arith) (λ q. omega arith)))
               (subst (λ (a : ℕ). AtomPlace input (at w' (2 * k)) a (get_or s.xs k []))
-              (sym (two_other w' i (place + width) (place + width + v) room (2 * k + 1) (λ q. omega arith) (λ q. omega arith))) (s.places k m))
+              (sym (two_other w' i (place + 2) (place + 2 + v) room (2 * k + 1) (λ q. omega arith) (λ q. omega arith))) (s.places k m))
 
-          new : (k : ℕ) → k ≡ i → AtomPlace input (at (two w' i (place + width) (place + width + v)) (2 * k)) (at (two w' i (place + width) (place + width + v)) (2 * k + 1)) (get_or s.xs k [])
+          new : (k : ℕ) → k ≡ i → AtomPlace input (at (two w' i (place + 2) (place + 2 + v)) (2 * k)) (at (two w' i (place + 2) (place + 2 + v)) (2 * k + 1)) (get_or s.xs k [])
           new k q =
-              subst (λ (j : ℕ). AtomPlace input (at (two w' i (place + width) (place + width + v)) (2 * j)) (at (two w' i (place + width) (place + width + v)) (2 * j + 1)) (get_or s.xs j [])) (sym q)
-              (subst (λ (a : ℕ). AtomPlace input a (at (two w' i (place + width) (place + width + v)) (2 * i + 1)) (get_or s.xs i [])) (sym (two_first w' i (place + width) (place + width + v) room))
-              (subst (λ (a : ℕ). AtomPlace input (place + width) a (get_or s.xs i [])) (sym (two_second w' i (place + width) (place + width + v) room)) here))
+              subst (λ (j : ℕ). AtomPlace input (at (two w' i (place + 2) (place + 2 + v)) (2 * j)) (at (two w' i (place + 2) (place + 2 + v)) (2 * j + 1)) (get_or s.xs j [])) (sym q)
+              (subst (λ (a : ℕ). AtomPlace input a (at (two w' i (place + 2) (place + 2 + v)) (2 * i + 1)) (get_or s.xs i [])) (sym (two_first w' i (place + 2) (place + 2 + v) room))
+              (subst (λ (a : ℕ). AtomPlace input (place + 2) a (get_or s.xs i [])) (sym (two_second w' i (place + 2) (place + 2 + v) room)) here))
 
 -- ---- pairs
 

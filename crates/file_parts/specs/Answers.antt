@@ -45,7 +45,7 @@ operand-word (forget k) = k
 operand-word (quote h) = h
 operand-word take_quote = 0
 
--- ---- an atom after its length n, where `used` of at most `most` atom bytes are there already
+-- ---- an atom after its length n
 
-abbrev pub atom-of : (most used n : ℕ) → List ℕ → Got (List ℕ)
-atom-of most used n rest = and_then (bytes_of n rest) (λ b s. asked 5 (leb (used + n) most) (asked 6 (listed (fits_in_small_atom b)) (got b s)))
+abbrev pub atom-of : (used n : ℕ) → List ℕ → Got (List ℕ)
+atom-of used n rest = and_then (bytes_of n rest) (λ b s. asked 5 (leb (used + n) 32768) (asked 6 (listed (fits_in_small_atom b)) (got b s)))

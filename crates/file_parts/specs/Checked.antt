@@ -2,8 +2,7 @@
 use Rattle.std.specs.Prelude.{ℕ, ◌≤◌, ◌≡◌, List, length}
 use Rattle.words.specs.Lists.{All}
 use Rattle.file_parts.specs.declared.session_file.Checked.{Checked}
-use Rattle.limits.specs.Limits.{Limits}
-use Rattle.spec_session.specs.File.{Got, got, refused, File, first_atom}
+use Rattle.spec_session.specs.File.{Got, got, refused, File}
 use Rattle.spec_session.specs.Sentinel.{sentinel_word}
 use Rattle.spec_session.specs.Places.{AtomsAt, PairsAt, StepsAt, ListedAtom, PairsNamed, SentinelNamed, StepNamed}
 
@@ -17,14 +16,14 @@ pub record Contents (f : File) : Type 0 where
   pub sentinel_named : SentinelNamed (length f.atoms) (length f.pairs) f.sentinel
   pub steps_named : All (StepNamed (length f.atoms) (length f.pairs)) f.steps
 
--- The check of a file that passed, of a version with these limits: the counts and the sentinel, and where atoms, pairs and steps stand.
-pub record Passed (l : Limits) (input : List ℕ) (f : File) (c : Checked) : Type 0 where
+-- The check of a file that passed: the counts and the sentinel, and where atoms, pairs and steps stand.
+pub record Passed (input : List ℕ) (f : File) (c : Checked) : Type 0 where
   pub number_is : c.number ≡ 0
   pub atoms_are : c.atoms ≡ length f.atoms
   pub pairs_are : c.pairs ≡ length f.pairs
   pub sentinel_is : c.sentinel ≡ sentinel_word f.sentinel
-  pub short : length input ≤ 1048576
-  pub atoms_there : AtomsAt l.count_bytes input (first_atom l) f.atoms
+  pub short : length input ≤ 65535
+  pub atoms_there : AtomsAt input 7 f.atoms
   pub pairs_there : PairsAt input c.pairs_at f.pairs
   pub steps_there : StepsAt input c.steps_at f.steps
   pub contents : Contents f
@@ -39,6 +38,6 @@ pub record TurnedDown (n : ℕ) (c : Checked) : Type 0 where
   pub high : n ≤ 8
 
 -- The check is what the definition says of the file.
-abbrev pub Checks : Limits → List ℕ → Checked → Got File → Type 0
-Checks l input c (got f rest) = Passed l input f c
-Checks l input c (refused n) = TurnedDown n c
+abbrev pub Checks : List ℕ → Checked → Got File → Type 0
+Checks input c (got f rest) = Passed input f c
+Checks input c (refused n) = TurnedDown n c

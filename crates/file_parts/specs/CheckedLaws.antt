@@ -3,7 +3,6 @@
 use Rattle.std.specs.Prelude.{ℕ, zero, suc, ◌+◌, ◌<◌, ◌≡◌, refl, List, [], ◌∷◌, length}
 use Rattle.std.proofs.Common.{sym, ap, subst, ◌∙◌, arith, add-zero, add-suc, suc-add}
 use Rattle.file_parts.specs.declared.session_file.Checked.{Checked}
-use Rattle.limits.specs.Limits.{Limits, Small}
 use Rattle.spec_session.specs.File.{Got, got, refused, File, Pair}
 use Rattle.spec_session.specs.Places.{PairNamed, PairsNamed}
 use Rattle.file_parts.specs.Checked.{Passed, Checks}
@@ -11,28 +10,27 @@ use Rattle.file_parts.specs.Loaded.{AtomsThere, PairsThere, pair_of}
 
 -- ---- the number says which of the two it is
 
-pub record Accepted (l : Limits) (input : List ℕ) (c : Checked) (g : Got File) : Type 0 where
+pub record Accepted (input : List ℕ) (c : Checked) (g : Got File) : Type 0 where
   pub file : File
   pub rest : List ℕ
   pub is : g ≡ got file rest
-  pub passed : Passed l input file c
+  pub passed : Passed input file c
 
-pub accepted : (l : Limits) (input : List ℕ) (c : Checked) (g : Got File) → Checks l input c g → c.number ≡ 0 → Accepted l input c g
-accepted l input c (got f rest) h z = record { file = f; rest = rest; is = refl; passed = h }
-accepted l input c (refused n) h z = absurd (omega (arith, ap (λ (x : Checked). x.number) h.is, h.low))
+pub accepted : (input : List ℕ) (c : Checked) (g : Got File) → Checks input c g → c.number ≡ 0 → Accepted input c g
+accepted input c (got f rest) h z = record { file = f; rest = rest; is = refl; passed = h }
+accepted input c (refused n) h z = absurd (omega (arith, ap (λ (x : Checked). x.number) h.is, h.low))
 
-pub rejected : (l : Limits) (input : List ℕ) (c : Checked) (g : Got File) → Checks l input c g → (c.number ≡ 0 → ⊥) → g ≡ refused c.number
-rejected l input c (got f rest) h z = absurd (z h.number_is)
-rejected l input c (refused n) h z = ap {B = Got File} refused (sym (ap (λ (x : Checked). x.number) h.is))
+pub rejected : (input : List ℕ) (c : Checked) (g : Got File) → Checks input c g → (c.number ≡ 0 → ⊥) → g ≡ refused c.number
+rejected input c (got f rest) h z = absurd (z h.number_is)
+rejected input c (refused n) h z = ap {B = Got File} refused (sym (ap (λ (x : Checked). x.number) h.is))
 
 -- ---- the loaders can be called
 
-pub atoms_to_load : {l : Limits} {input : List ℕ} {f : File} {c : Checked} → Small l → Passed l input f c → AtomsThere l.count_bytes input c.atoms
-atoms_to_load {l} {input} {f} small p =
-    record { atoms = f.atoms; long = sym p.atoms_are; there = p.atoms_there; narrow = small.narrow; short = p.short }
+pub atoms_to_load : {input : List ℕ} {f : File} {c : Checked} → Passed input f c → AtomsThere input c.atoms
+atoms_to_load {input} {f} p = record { atoms = f.atoms; long = sym p.atoms_are; there = p.atoms_there; short = p.short }
 
-pub pairs_to_load : {l : Limits} {input : List ℕ} {f : File} {c : Checked} → Passed l input f c → PairsThere input c.pairs_at c.pairs
-pairs_to_load {l} {input} {f} p = record { pairs = f.pairs; long = sym p.pairs_are; there = p.pairs_there }
+pub pairs_to_load : {input : List ℕ} {f : File} {c : Checked} → Passed input f c → PairsThere input c.pairs_at c.pairs
+pairs_to_load {input} {f} p = record { pairs = f.pairs; long = sym p.pairs_are; there = p.pairs_there }
 
 -- ---- handles
 

@@ -9,12 +9,11 @@ use Rattle.spec_session.specs.Places.{AtomsAt, PairsAt, StepsAt}
 -- ---- atoms
 
 -- So many atoms stand in the file, which is short.
-pub record AtomsThere (width : ℕ) (input : List ℕ) (count : ℕ) : Type 0 where
+pub record AtomsThere (input : List ℕ) (count : ℕ) : Type 0 where
   pub atoms : List (List ℕ)
   pub long : length atoms ≡ count
-  pub there : AtomsAt width input (5 + width) atoms
-  pub narrow : width ≤ 4
-  pub short : length input ≤ 1048576
+  pub there : AtomsAt input 7 atoms
+  pub short : length input ≤ 65535
 
 -- The bytes of an atom are those from `start` up to `end`.
 pub record AtomPlace (input : List ℕ) (start end : ℕ) (b : List ℕ) : Type 0 where

@@ -8,8 +8,7 @@ use Rattle.std.proofs.Math.Option.{Option}
 use Rattle.std.proofs.Math.ListN.{length}
 use Rattle.words.specs.Choice.{by_lt}
 use Rattle.words.specs.Lists.{All, same}
-use Rattle.limits.specs.Limits.{Limits, Small}
-use Rattle.spec_session.specs.File.{got, and_then, field, count, first_atom, atom, atoms, Pair, one_pair, pairs, sentinel, Step, add, restore, forget, quote, take_quote, one_step, steps, File}
+use Rattle.spec_session.specs.File.{got, and_then, field, count, version_1, atom, atoms, Pair, one_pair, pairs, sentinel, Step, add, restore, forget, quote, take_quote, one_step, steps, File}
 use Rattle.spec_session.specs.Places.{AtomsAt, PairsAt, StepsAt, StepIs, step_size, PairsNamed, StepNamed, ListedAtom}
 use Rattle.file_parts.specs.Checked.{Contents}
 use Rattle.spec_session.specs.FileLaws.{then_of, asked_of, got_value, got_rest, field_at, atom_at, pair_at, step_at, sentinel_named, count_most, pairs_long, steps_most}
@@ -30,23 +29,22 @@ size_low take_quote = omega arith
 
 module _ (input : List ℕ) where
   -- Atoms that were read from a place on, after those that were there.
-  pub record AtomsRead (width at n : ℕ) (done xs : List (List ℕ)) : Type 0 where
+  pub record AtomsRead (at n : ℕ) (done xs : List (List ℕ)) : Type 0 where
     pub more : List (List ℕ)
     pub is : xs ≡ done ++ more
     pub long : length more ≡ n
-    pub there : AtomsAt width input at more
+    pub there : AtomsAt input at more
     pub listed : All ListedAtom more
 
-  pub atoms_read : (width most : ℕ) → 1 ≤ width → (n used at : ℕ) (done xs : List (List ℕ)) (r : List ℕ) → atoms width most n used done (drop at input) ≡ got xs r
-      → AtomsRead width at n done xs
+  pub atoms_read : (n used at : ℕ) (done xs : List (List ℕ)) (r : List ℕ) → atoms version_1 n used done (drop at input) ≡ got xs r → AtomsRead at n done xs
   unfolding atoms
-  atoms_read width most wide zero used at done xs r e =
+  atoms_read zero used at done xs r e =
       record { more = []; is = sym (got_value done xs (drop at input) r e) ∙ sym (append-nil done); long = refl; there = tt; listed = tt }
-  atoms_read width most wide (suc n) used at done xs r e =
-      let t = then_of (atom width most used (drop at input)) _ xs r e in
-      let a = atom_at input width most wide at used t.first t.rest t.first_is in
-      let k = atoms_read width most wide n (used + length t.first) (at + width + length t.first) (done ++ t.first ∷ []) xs r
-      (ap (atoms width most n (used + length t.first) (done ++ t.first ∷ [])) (sym a.rest_is) ∙ t.then_is) in
+  atoms_read (suc n) used at done xs r e =
+      let t = then_of (atom version_1 used (drop at input)) _ xs r e in
+      let a = atom_at input at used t.first t.rest t.first_is in
+      let k = atoms_read n (used + length t.first) (at + 2 + length t.first) (done ++ t.first ∷ []) xs r
+      (ap (atoms version_1 n (used + length t.first) (done ++ t.first ∷ [])) (sym a.rest_is) ∙ t.then_is) in
       record {
         more = t.first ∷ k.more;
         is = onward done t.first k.more xs k.is;
@@ -124,31 +122,30 @@ module _ (input : List ℕ) where
       (λ h. steps_done a p most at done xs r h (none_left n a p most done at h ∙ e))
 
 -- The contents of a file that was read, and its atoms.
-pub record ContentsRead (l : Limits) (input : List ℕ) (f : File) : Type 0 where
-  pub atoms_there : AtomsAt l.count_bytes input (first_atom l) f.atoms
+pub record ContentsRead (input : List ℕ) (f : File) : Type 0 where
+  pub atoms_there : AtomsAt input 7 f.atoms
   pub contents : Contents f
 
--- A count takes as many bytes as its width.
-count_at : (input : List ℕ) (width at most n : ℕ) (r : List ℕ) → count width most (drop at input) ≡ got n r → r ≡ drop (at + width) input
-count_at input width at most n r e =
-    let t = then_of (field width (drop at input)) _ n r e in
+-- A count takes two bytes.
+count_at : (input : List ℕ) (at most n : ℕ) (r : List ℕ) → count 2 most (drop at input) ≡ got n r → r ≡ drop (at + 2) input
+count_at input at most n r e =
+    let t = then_of (field 2 (drop at input)) _ n r e in
     let q = asked_of 5 (leb t.first most) (got t.first t.rest) n r t.then_is in
-    sym (got_rest t.first n t.rest r q.1) ∙ (field_at input at width t.first t.rest t.first_is).rest_is
+    sym (got_rest t.first n t.rest r q.1) ∙ (field_at input at 2 t.first t.rest t.first_is).rest_is
 
 -- Each part of the file, read after the one before it.
-module _ (l : Limits) (small : Small l) (input : List ℕ) (na : ℕ) (xs : List (List ℕ)) (np : ℕ) (ps : List Pair) (z : Option ℕ) (ss : List Step) (r₁ r₂ r₃ r₄ r₅ r₆ : List ℕ)
-    (a : count l.count_bytes l.atoms (drop 5 input) ≡ got na r₁) (b : atoms l.count_bytes l.atom_bytes na 0 [] r₁ ≡ got xs r₂) (c : count l.count_bytes l.pairs r₂ ≡ got np r₃)
+module _ (input : List ℕ) (na : ℕ) (xs : List (List ℕ)) (np : ℕ) (ps : List Pair) (z : Option ℕ) (ss : List Step) (r₁ r₂ r₃ r₄ r₅ r₆ : List ℕ)
+    (a : count 2 1024 (drop 5 input) ≡ got na r₁) (b : atoms version_1 na 0 [] r₁ ≡ got xs r₂) (c : count 2 1024 r₂ ≡ got np r₃)
     (d : pairs (length xs) np [] r₃ ≡ got ps r₄) (e : sentinel (length xs) (length ps) r₄ ≡ got z r₅)
-    (g : steps (length r₅) (length xs) (length ps) l.steps [] r₅ ≡ got ss r₆) where
-  atoms_of : AtomsRead input l.count_bytes (first_atom l) na [] xs
-  atoms_of = atoms_read input l.count_bytes l.atom_bytes small.wide na 0 (first_atom l) [] xs r₂
-      (ap (atoms l.count_bytes l.atom_bytes na 0 []) (sym (count_at input l.count_bytes 5 l.atoms na r₁ a)) ∙ b)
+    (g : steps (length r₅) (length xs) (length ps) 1024 [] r₅ ≡ got ss r₆) where
+  atoms_of : AtomsRead input 7 na [] xs
+  atoms_of = atoms_read input na 0 7 [] xs r₂ (ap (atoms version_1 na 0 []) (sym (count_at input 5 1024 na r₁ a)) ∙ b)
 
   pairs_of : PairsRead r₃ (length xs) 0 np [] ps
   pairs_of = pairs_read r₃ (length xs) np 0 [] ps r₄ (ap (pairs (length xs) np []) (drop_at [] r₃ 0 refl) ∙ d)
 
-  steps_of : StepsRead r₅ (length xs) (length ps) l.steps 0 [] ss
-  steps_of = steps_read r₅ (length r₅) (length xs) (length ps) l.steps 0 [] ss r₆ (omega arith) (ap (steps (length r₅) (length xs) (length ps) l.steps []) (drop_at [] r₅ 0 refl) ∙ g)
+  steps_of : StepsRead r₅ (length xs) (length ps) 1024 0 [] ss
+  steps_of = steps_read r₅ (length r₅) (length xs) (length ps) 1024 0 [] ss r₆ (omega arith) (ap (steps (length r₅) (length xs) (length ps) 1024 []) (drop_at [] r₅ 0 refl) ∙ g)
 
   long_atoms : length xs ≡ na
   long_atoms = ap length atoms_of.is ∙ atoms_of.long
@@ -156,14 +153,14 @@ module _ (l : Limits) (small : Small l) (input : List ℕ) (na : ℕ) (xs : List
   contents : Contents (record { atoms = xs; pairs = ps; sentinel = z; steps = ss })
   contents =
       record {
-        few_atoms = omega (arith, long_atoms, count_most l.count_bytes l.atoms (drop 5 input) na r₁ a, small.few_atoms);
-        few_pairs = omega (arith, pairs_long (length xs) np [] r₃ ps r₄ d, count_most l.count_bytes l.pairs r₂ np r₃ c, small.few_pairs);
-        few_steps = omega (arith, steps_most (length r₅) (length xs) (length ps) l.steps [] r₅ ss r₆ (omega arith) g, small.few_steps);
+        few_atoms = omega (arith, long_atoms, count_most 2 1024 (drop 5 input) na r₁ a);
+        few_pairs = omega (arith, pairs_long (length xs) np [] r₃ ps r₄ d, count_most 2 1024 r₂ np r₃ c);
+        few_steps = steps_most (length r₅) (length xs) (length ps) 1024 [] r₅ ss r₆ (omega arith) g;
         atoms_listed = subst (All ListedAtom) (sym atoms_of.is) atoms_of.listed;
         pairs_named = subst (PairsNamed (length xs) 0) (sym pairs_of.is) pairs_of.names;
         sentinel_named = sentinel_named (length xs) (length ps) r₄ z r₅ e;
         steps_named = subst (All (StepNamed (length xs) (length ps))) (sym steps_of.is) steps_of.names;
       }
 
-  pub contents_of : ContentsRead l input (record { atoms = xs; pairs = ps; sentinel = z; steps = ss })
-  contents_of = record { atoms_there = subst (AtomsAt l.count_bytes input (first_atom l)) (sym atoms_of.is) atoms_of.there; contents = contents }
+  pub contents_of : ContentsRead input (record { atoms = xs; pairs = ps; sentinel = z; steps = ss })
+  contents_of = record { atoms_there = subst (AtomsAt input 7) (sym atoms_of.is) atoms_of.there; contents = contents }

@@ -1,7 +1,7 @@
 // The session file: its atoms, pairs and steps, read from a file that passed.
 pub mod session_file;
 
-ghost use Rattle.std.specs.Prelude.{◌≡◌, List, ℕ, ◌+◌, ◌*◌, ◌≤◌, length};
+ghost use Rattle.std.specs.Prelude.{◌≡◌, List, ℕ, ◌*◌, ◌≤◌, length};
 ghost use Rattle.spec_session.specs.File.{Pair, Step};
 ghost use Rattle.spec_session.specs.Places.{AtomsAt, PairsAt, StepsAt};
 ghost use Rattle.file_parts.specs.Loaded.{AtomsThere, AtomsLoaded, PairsThere, PairsLoaded, FirstStep, Beyond, forgets};
@@ -9,19 +9,18 @@ ghost use Rattle.file_parts.specs.Loaded.{AtomsThere, AtomsLoaded, PairsThere, P
 use allocator::NodePtr;
 pub use session_file::{Checked, NextStep, Part};
 
-// Where the bytes of atom i start and end, as words 2·i and 2·i + 1, of a file whose counts and lengths have `width` bytes. The rest of the table is as it
-// was.
-pub fn load_atoms(file: &[u8], table: &mut [u32], width: usize, count: u32)
-    requires { (AtomsThere width file.now count) × (2 * count ≤ length table.old) }
-    ensures { (xs : List (List ℕ)) → length xs ≡ count → AtomsAt width file.now (5 + width) xs
+// Where the bytes of atom i start and end, as words 2·i and 2·i + 1. The rest of the table is as it was.
+pub fn load_atoms(file: &[u8], table: &mut [u32], count: u32)
+    requires { (AtomsThere file.now count) × (2 * count ≤ length table.old) }
+    ensures { (xs : List (List ℕ)) → length xs ≡ count → AtomsAt file.now 7 xs
         → AtomsLoaded file.now xs table.old table.new }
 {
     let n = count as usize;
-    let mut place = 5 + width;
+    let mut place: usize = 7;
     let mut i: usize = 0;
     while i < n {
-        let start = place + width;
-        let end = start + (session_file::number_at(file, place, width) as usize);
+        let start = place + 2;
+        let end = start + (session_file::number_at(file, place, 2) as usize);
         let first = 2 * i;
         let second = first + 1;
         table[first] = start as u32;

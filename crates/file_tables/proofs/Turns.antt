@@ -152,7 +152,7 @@ module _ (file w : List ℕ) (count : ℕ) (R : Ready file w count) where
       }
 
   module _ (w' : List ℕ) (i : ℕ) (P : Progress file w w' i) where
-    pub load_asks : i < count → (i < 1024) × (length file ≤ 1048576) × Loading (atom_bytes file w') w' i
+    pub load_asks : i < count → (i < 1024) × (length file ≤ 65535) × Loading (atom_bytes file w') w' i
     load_asks l =
         let few = R.few in
         (omega arith, R.short, loading_same (atom_bytes file w) (atom_bytes file w') w' i (λ k m. bytes_kept file w w' k P.kept (omega arith)) P.loading)

@@ -14,7 +14,7 @@ atoms file w n = tabulate n (atom_bytes file w)
 -- What loading takes: work is long, the file short, the atoms are few and lie within the file, and no chain has begun.
 pub record Ready (file w : List ℕ) (count : ℕ) : Type 0 where
   pub long : WORK ≤ length w
-  pub short : length file ≤ 1048576
+  pub short : length file ≤ 65535
   pub few : count ≤ 1024
   pub inside : (i : ℕ) → i < count → Inside file w i
   pub heads : (s : ℕ) → s < 1024 → at w (ATOM_HEADS + s) ≡ 0

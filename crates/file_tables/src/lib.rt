@@ -31,7 +31,7 @@ fn find_first(work: &[u32], file: &[u8], i: usize, slot: usize) -> usize
 // The tables of atom i, where all atoms before it are loaded. If it is the first one with its bytes, it goes to the front of its chain.
 fn load_atom(work: &mut [u32], file: &[u8], i: usize)
     requires { (i < 1024)
-        × (length file.now ≤ 1048576)
+        × (length file.now ≤ 65535)
         × (Loading (atom_bytes file.now work.old) work.old i)
         × ((k : ℕ) → k < i + 1 → Inside file.now work.old k) }
     ensures { (Loading (atom_bytes file.now work.old) work.new (i + 1))

@@ -57,7 +57,7 @@ pub fn slot_at(work: &[u32], file: &[u8], i: usize) -> usize
 
 // The serialized length of atom i.
 pub fn length_at(work: &[u32], file: &[u8], i: usize) -> u32
-    requires { (WORK ≤ length work.now) × (i < 1024) × (Inside file.now work.now i) × (length file.now ≤ 1048576) }
+    requires { (WORK ≤ length work.now) × (i < 1024) × (Inside file.now work.now i) × (length file.now ≤ 65535) }
     ensures { result ≡ serialized_length (atom_bytes file.now work.now i) }
 {
     let start = start_of(work, i);

@@ -12,7 +12,7 @@ pub enum PathBits {
 }
 
 pub fn path_bits(path: &[u8]) -> PathBits
-    requires { length path.now ≤ 2 ^ 25 }
+    requires { length path.now ≤ 65535 }
     ensures { result ≡ counted (read_path path.now) }
 {
     let first = crate::traverse_path::first_non_zero(path);

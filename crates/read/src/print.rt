@@ -1,14 +1,14 @@
 // What the program writes.
 use libc::STDOUT_FILENO;
 use read_answer::ReadAnswer;
-use text::{decimal, least, line_end, questions, say, space};
+use text::{decimal, least, line_end, say, space};
 
 fn handle(n: u32) {
     io::print_hex(STDOUT_FILENO, n as u64, 8);
 }
 
 // A line: number, root, pairs, atoms, bytes, ghosts.
-fn answer(a: ReadAnswer) {
+pub fn answer(a: ReadAnswer) {
     decimal(a.number as u64);
     space();
     handle(a.root);
@@ -41,7 +41,7 @@ fn atom(start: u32, end: u32) {
 
 // What two words of the store stand for.
 #[derive(Drop)]
-enum Row {
+pub enum Row {
     Pair,
     Atom,
 }
@@ -54,7 +54,7 @@ fn line(row: Row, first: u32, second: u32) {
 }
 
 // A line for each of the first `count` pairs or listed atoms that the slice has.
-fn rows(row: Row, words: &[u32], count: u32) {
+pub fn rows(row: Row, words: &[u32], count: u32) {
     let n = least(count, words.len() / 2);
     let mut i = 0;
     while i < n {
@@ -64,22 +64,13 @@ fn rows(row: Row, words: &[u32], count: u32) {
 }
 
 // A line with the first `count` bytes that the slice has, in hexadecimal.
-fn hex(bytes: &[u8], count: u32) {
+pub fn hex(bytes: &[u8], count: u32) {
     let n = least(count, bytes.len());
     text::hex(&bytes[..n]);
     line_end();
 }
 
-// The answer, the pairs, the listed atoms and the atom bytes; and the question that got no.
-pub fn reading(a: ReadAnswer, pairs: &[u32], atoms: &[u32], bytes: &[u8]) {
-    answer(a);
-    rows(Row::Pair, pairs, a.pairs);
-    rows(Row::Atom, atoms, a.atoms);
-    hex(bytes, a.bytes);
-    questions::question(a.number);
-}
-
 // How the program is called, on standard error.
 pub fn usage() {
-    say(b"usage: read [FILE ..] [--v2 [FILE ..]]    no file: standard input\n");
+    say(b"usage: read [FILE ..]    no file: standard input\n");
 }

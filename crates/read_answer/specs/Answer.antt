@@ -2,7 +2,7 @@
 use Rattle.std.specs.Prelude.{ℕ, ◌^◌, ◌<◌, List, length}
 use Rattle.words.specs.Words.{at}
 use Rattle.spec_reading.specs.Call.{Answer, Slices}
-use Rattle.read_store.specs.Layout.{node_at}
+use Rattle.read_store.specs.Layout.{VALUES}
 use Rattle.read_item.specs.declared.settle.Reader.{Reader}
 use Rattle.read_answer.specs.declared.ReadAnswer.{ReadAnswer}
 
@@ -11,7 +11,7 @@ read_answer_of r = record { number = r.number; root = r.root; pairs = r.pairs; a
 
 -- The lowest value lies in work, and the counts fit a word.
 pub record Counts (w : List ℕ) (r : Reader) : Type 0 where
-  pub value_in : node_at (length w) 0 < length w
+  pub value_in : VALUES < length w
   pub pairs_fit : r.pairs < 2 ^ 32
   pub atoms_fit : r.atoms < 2 ^ 32
   pub bytes_fit : r.bytes < 2 ^ 32
@@ -19,7 +19,7 @@ pub record Counts (w : List ℕ) (r : Reader) : Type 0 where
 
 -- The lowest value's node and the reader's counts.
 abbrev pub read_answer_at : List ℕ → Reader → Answer
-read_answer_at w r = record { number = 0; root = at w (node_at (length w) 0); pairs = r.pairs; atoms = r.atoms; bytes = r.bytes; ghosts = r.ghosts }
+read_answer_at w r = record { number = 0; root = at w VALUES; pairs = r.pairs; atoms = r.atoms; bytes = r.bytes; ghosts = r.ghosts }
 
 abbrev pub slices : (w p a b : List ℕ) → Slices
 slices w p a b = record { work = w; pairs = p; atoms = a; bytes = b }

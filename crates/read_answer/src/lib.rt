@@ -2,12 +2,11 @@
 pub mod clear_slices;
 
 ghost use Rattle.std.specs.Prelude.{◌≡◌};
-ghost use Rattle.limits.specs.Limits.{limits_of};
 ghost use Rattle.spec_reading.specs.Call.{refusal as call-refusal, long_enough};
 ghost use Rattle.read_answer.specs.Answer.{slices, read_answer_of, Counts, read_answer_at};
 
-use limits::Version;
 use read_item::Reader;
+use read_store::reader_stacks;
 
 // The number, 0 for none; the root, and how many pairs, listed atoms, atom bytes and ghost pairs there are.
 #[repr(C)]
@@ -34,28 +33,26 @@ pub fn refusal(number: u32) -> ReadAnswer
     }
 }
 
-// Question 1: are the slices as long as the version asks?
-pub fn long_enough(
-    work: &[u32],
-    pairs: &[u32],
-    atoms: &[u32],
-    bytes: &[u8],
-    version: Version,
-) -> bool
-    ensures { result ≡ long_enough (limits_of version)
-        (slices work.now pairs.now atoms.now bytes.now) }
+// Question 1: how long the store's slices are at least, in words, and in bytes for the last.
+pub const PAIRS: usize = 262144;
+
+pub const ATOMS: usize = 131072;
+
+pub const BYTES: usize = 65536;
+
+pub fn long_enough(work: &[u32], pairs: &[u32], atoms: &[u32], bytes: &[u8]) -> bool
+    ensures { result ≡ long_enough (slices work.now pairs.now atoms.now bytes.now) }
 {
-    let l = limits::limits_of(version);
-    if work.len() < l.work_words {
+    if work.len() < words::WORK {
         return false;
     }
-    if pairs.len() < l.pair_words {
+    if pairs.len() < PAIRS {
         return false;
     }
-    if atoms.len() < l.atom_words {
+    if atoms.len() < ATOMS {
         return false;
     }
-    l.store_bytes <= bytes.len()
+    BYTES <= bytes.len()
 }
 
 // What was read: the one value's node, and the counts.
@@ -65,7 +62,7 @@ pub fn answer(work: &[u32], r: Reader) -> ReadAnswer
 {
     ReadAnswer {
         number: 0,
-        root: work[work.len() / 2],
+        root: work[reader_stacks::VALUES],
         pairs: r.pairs as u32,
         atoms: r.atoms as u32,
         bytes: r.bytes as u32,

@@ -2,24 +2,23 @@
 -- Assumes nothing.
 use Prim.Native.Nat.{ℕ, ◌-◌, ◌*◌, ◌/◌, ◌≤◌, ◌<◌}
 use mathlib.Core.Path.{◌≡◌, refl, sym, ap, subst, ◌∙◌}
-use mathlib.Core.Bool.{Bool, true, false, cond}
+use mathlib.Core.Bool.{Bool, true, false, cond, ◌&&◌}
 use mathlib.Core.List.{List, ◌++◌}
 use native.Mathlib.Omega.{arith}
-use borrow.Author.Tests.{le-leb, lt-leb}
+use borrow.Author.Tests.{leb-true, le-leb, lt-leb}
 use lib.Dec.{leb}
 use lib.ListN.{length, take, drop, replicate, length_replicate, take-append-drop}
 use lib.Seq.{length_take_le}
 use Rattle.read_store.proofs.reader_stacks.Stacks.{length_values}
-use Rattle.words.specs.Words.{at}
+use Rattle.words.specs.Choice.{both_true}
+use Rattle.words.specs.Words.{at, WORK}
 use Rattle.words.specs.Lists.{Bytes}
-use Rattle.limits.specs.declared.Version.{Version}
-use Rattle.limits.specs.Limits.{limits_of, roomy_of, meet_of}
 use Rattle.spec_reading.specs.Format.{Read}
 use Rattle.spec_reading.specs.Store.{Stored, read_stored}
-use Rattle.spec_reading.specs.Bounds.{Room, room_of}
+use Rattle.spec_reading.specs.Bounds.{Bounds, sound_bounds}
 use Rattle.spec_reading.specs.Call.{Slices, Result, refusal, zeroed, filled, root_of, answer_of, after, long_enough, reading}
 use Rattle.spec_reading.specs.Promise.{ReadsPlainly, reads_plainly}
-use Rattle.read_store.specs.Layout.{node_at, values_of}
+use Rattle.read_store.specs.Layout.{VALUES, values_of}
 use Rattle.read_item.specs.Whole.{stored_of, Lent, Ends}
 use Rattle.read_item.specs.declared.settle.Reader.{Reader}
 use Rattle.read_call.specs.declared.read_items.Verdict.{Verdict}
@@ -31,6 +30,25 @@ use Rattle.read_call.specs.Outcome.{read_result_of, Counted, ended}
 
 -- ---- a fresh store
 
+-- Question 1 was answered: the four lengths.
+record Long (w p a b : List ℕ) : Type 0 where
+  work : WORK ≤ length w
+  pairs : 262144 ≤ length p
+  atoms : 131072 ≤ length a
+  bytes : 65536 ≤ length b
+
+long : (w p a b : List ℕ) → long_enough (slices w p a b) ≡ true → Long w p a b
+long w p a b e =
+    let f = both_true (leb WORK (length w)) (leb 262144 (length p) && (leb 131072 (length a) && leb 65536 (length b))) e in
+    let g = both_true (leb 262144 (length p)) (leb 131072 (length a) && leb 65536 (length b)) f.1 in
+    let h = both_true (leb 131072 (length a)) (leb 65536 (length b)) g.1 in
+    record {
+      work = leb-true WORK (length w) f.0;
+      pairs = leb-true 262144 (length p) g.0;
+      atoms = leb-true 131072 (length a) h.0;
+      bytes = leb-true 65536 (length b) h.1;
+    }
+
 zeroed-length : (l l' : List ℕ) → l' ≡ zeroed l → length l' ≡ length l
 zeroed-length l l' e = ap length e ∙ length_replicate (length l) 0
 
@@ -40,15 +58,16 @@ zeroed_rest l l' e =
     let n : length l ≡ length l' - 0 = omega (arith, zeroed-length l l' e) in
     e ∙ ap (λ (k : ℕ). replicate k 0) n
 
-pub lent-start : (input w p a b p' a' b' : List ℕ) → Room input (slices w p a b)
+pub lent-start : (input w p a b p' a' b' : List ℕ) → long_enough (slices w p a b) ≡ true → length input ≤ 65535
     → p' ≡ zeroed p → a' ≡ zeroed a → b' ≡ zeroed b → Lent input w p' a' b' start
-lent-start input w p a b p' a' b' l ep ea eb =
+lent-start input w p a b p' a' b' e short ep ea eb =
+    let l = long w p a b e in
     record {
-      work = l.stacks;
+      work = l.work;
       pairs_room = omega (arith, l.pairs, zeroed-length p p' ep);
       atoms_room = omega (arith, l.atoms, zeroed-length a a' ea);
       bytes_room = omega (arith, l.bytes, zeroed-length b b' eb);
-      short = l.numbers;
+      short = short;
       inside = omega arith;
       pairs_in = omega arith;
       atoms_in = omega arith;
@@ -76,21 +95,23 @@ module _ (input w p a b : List ℕ) (r : Reader) (h : Ends input w p a b r) wher
   bytes_length : length (take r.bytes b) ≡ r.bytes
   bytes_length = length_take_le r.bytes b h.lent.bytes_in
 
-  one_value : r.values ≡ 1
-  one_value = sym (length_values w r.values) ∙ h.sound.fits
+  bounds : Bounds (stored_of w p a b r)
+  bounds = sound_bounds r.position _ (stored_of w p a b r) (omega (arith, h.lent.inside, h.lent.short)) h.sound
 
-  -- One byte at least was read, and a byte makes no more than two pairs and one atom.
   pub counts : Counts w r
   counts =
       record {
-        value_in = omega (arith, h.lent.work, h.lent.inside, h.sound.values_bound, length_values w r.values, one_value);
-        pairs_fit = omega (arith, h.sound.pairs_bound, pairs-length, h.lent.inside, h.lent.short);
-        atoms_fit = omega (arith, h.sound.atoms_bound, atoms-length, h.lent.inside, h.lent.short);
-        bytes_fit = omega (arith, h.sound.bytes_bound, bytes_length, h.lent.inside, h.lent.short);
-        ghosts_fit = omega (arith, h.sound.pairs_bound, h.lent.inside, h.lent.short);
+        value_in = omega (arith, h.lent.work);
+        pairs_fit = omega (arith, bounds.pair_words, pairs-length);
+        atoms_fit = omega (arith, bounds.atom_words, atoms-length);
+        bytes_fit = omega (arith, bounds.atom_bytes, bytes_length);
+        ghosts_fit = omega (arith, bounds.pairs_and_ghosts);
       }
 
-  root : at w (node_at (length w) 0) ≡ root_of (values_of w r.values)
+  one_value : r.values ≡ 1
+  one_value = sym (length_values w r.values) ∙ h.sound.fits
+
+  root : at w VALUES ≡ root_of (values_of w r.values)
   unfolding values_of
   root = ap (λ (n : ℕ). root_of (values_of w n)) (sym one_value)
 
@@ -142,32 +163,25 @@ module _ (input w p a b w₁ p₁ a₁ b₁ : List ℕ) where
 abbrev cases : List ℕ → Slices → Bool → Bool → Result
 cases input l x y = cond x (cond y (after (read_stored input) l) (record { answer = refusal 2; slices = l })) (record { answer = refusal 1; slices = l })
 
-module _ (v : Version) (input w p a b : List ℕ) (t : Bool) (test : t ≡ long_enough (limits_of v) (slices w p a b)) where
-  reading-cases : (x y : Bool) → t ≡ x → leb (length input) (limits_of v).input_bytes ≡ y → cases input (slices w p a b) x y ≡ reading (limits_of v) input (slices w p a b)
+module _ (input w p a b : List ℕ) (t : Bool) (test : t ≡ long_enough (slices w p a b)) where
+  reading-cases : (x y : Bool) → t ≡ x → leb (length input) 65535 ≡ y → cases input (slices w p a b) x y ≡ reading input (slices w p a b)
   unfolding reading
   reading-cases x y e f = λ i. cases input (slices w p a b) ((sym e ∙ test) i) (sym f i)
 
   untouched : (n : ℕ) (r : ReadAnswer) → read_answer_of r ≡ refusal n → read_result_of r w p a b ≡ record { answer = refusal n; slices = slices w p a b }
   untouched n r e = λ i. record { answer = e i; slices = slices w p a b }
 
-  pub too_short : t ≡ false → (r : ReadAnswer) → read_answer_of r ≡ refusal 1 → read_result_of r w p a b ≡ reading (limits_of v) input (slices w p a b)
-  too_short e r h = untouched 1 r h ∙ reading-cases false (leb (length input) (limits_of v).input_bytes) e refl
+  pub too_short : t ≡ false → (r : ReadAnswer) → read_answer_of r ≡ refusal 1 → read_result_of r w p a b ≡ reading input (slices w p a b)
+  too_short e r h = untouched 1 r h ∙ reading-cases false (leb (length input) 65535) e refl
 
-  pub too_long : t ≡ true → (limits_of v).input_bytes < length input → (r : ReadAnswer) → read_answer_of r ≡ refusal 2
-      → read_result_of r w p a b ≡ reading (limits_of v) input (slices w p a b)
+  pub too_long : t ≡ true → 65535 < length input → (r : ReadAnswer) → read_answer_of r ≡ refusal 2 → read_result_of r w p a b ≡ reading input (slices w p a b)
   too_long e l r h = untouched 2 r h ∙ reading-cases true false e (lt-leb _ _ l)
 
-  -- What reading asks.
-  pub asked : t ≡ true → length input ≤ (limits_of v).input_bytes → Room input (slices w p a b)
-  asked e l = room_of (limits_of v) (roomy_of v) input (slices w p a b) (sym test ∙ e) l
-
-  pub within : t ≡ true → length input ≤ (limits_of v).input_bytes → (x : Result) → x ≡ after (read_stored input) (slices w p a b)
-      → x ≡ reading (limits_of v) input (slices w p a b)
+  pub within : t ≡ true → length input ≤ 65535 → (x : Result) → x ≡ after (read_stored input) (slices w p a b) → x ≡ reading input (slices w p a b)
   within e l x h = h ∙ reading-cases true true e (le-leb _ _ l)
 
 -- ---- the promise
 
 -- What is the definition's result reads plainly.
-pub promised : (v : Version) (input : List ℕ) → Bytes input → (l : Slices) (x : Result) → x ≡ reading (limits_of v) input l
-    → (x ≡ reading (limits_of v) input l) × ReadsPlainly (limits_of v) input x
-promised v input bytes l x e = (e, subst (ReadsPlainly (limits_of v) input) (sym e) (reads_plainly (limits_of v) (meet_of v).numbered input bytes l))
+pub promised : (input : List ℕ) → Bytes input → (l : Slices) (x : Result) → x ≡ reading input l → (x ≡ reading input l) × ReadsPlainly input x
+promised input bytes l x e = (e, subst (ReadsPlainly input) (sym e) (reads_plainly input bytes l))

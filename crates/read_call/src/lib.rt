@@ -1,16 +1,13 @@
 // de_br.rs: a serialized tree with references is read into a store.
 mod read_items;
 
-ghost use Rattle.std.specs.Prelude.{◌≡◌};
-ghost use Rattle.limits.specs.Limits.{version_1, version_2, limits_of};
+ghost use Rattle.std.specs.Prelude.{◌≡◌, true, ◌≤◌, length};
 ghost use Rattle.spec_reading.specs.Store.{read_stored};
-ghost use Rattle.spec_reading.specs.Call.{after, reading};
-ghost use Rattle.spec_reading.specs.Bounds.{Room};
+ghost use Rattle.spec_reading.specs.Call.{long_enough, after, reading};
 ghost use Rattle.spec_reading.specs.Promise.{ReadsPlainly};
 ghost use Rattle.read_answer.specs.Answer.{slices};
 ghost use Rattle.read_call.specs.Outcome.{read_result_of, Counted, ended};
 
-use limits::Version;
 use read_answer::{ReadAnswer, clear_slices};
 use read_items::Verdict;
 use words::slices;
@@ -48,7 +45,7 @@ fn read_in(
     atoms: &mut [u32],
     bytes: &mut [u8],
 ) -> ReadAnswer
-    requires { Room input.now (slices work.old pairs.old atoms.old bytes.old) }
+    requires { (long_enough (slices work.old pairs.old atoms.old bytes.old) ≡ true) × (length input.now ≤ 65535) }
     ensures { read_result_of result work.new pairs.new atoms.new bytes.new
         ≡ after (read_stored input.now)
         (slices work.old pairs.old atoms.old bytes.old) }
@@ -56,31 +53,6 @@ fn read_in(
     clear_slices::clear_store(pairs, atoms, bytes);
     let outcome = read_items::read_all(input, work, pairs, atoms, bytes);
     ended(work, pairs, atoms, bytes, outcome)
-}
-
-// The call of a version: questions 1 and 2, then the reading.
-fn read_tree(
-    input: &[u8],
-    work: &mut [u32],
-    pairs: &mut [u32],
-    atoms: &mut [u32],
-    bytes: &mut [u8],
-    version: Version,
-) -> ReadAnswer
-    ensures bytes_after { read_result_of result work.new pairs.new atoms.new bytes.new
-        ≡ reading (limits_of version) input.now
-        (slices work.old pairs.old atoms.old bytes.old) }
-    ensures reads_plainly { ReadsPlainly (limits_of version) input.now
-        (read_result_of result work.new pairs.new atoms.new bytes.new) }
-{
-    if !read_answer::long_enough(work, pairs, atoms, bytes, version) {
-        return read_answer::refusal(1);
-    }
-    let l = limits::limits_of(version);
-    if l.input_bytes < input.len() {
-        return read_answer::refusal(2);
-    }
-    read_in(input, work, pairs, atoms, bytes)
 }
 
 // Reads a serialized tree into a fresh, empty store. The slices are lent: work, and the pairs, atoms and atom bytes of the store.
@@ -93,28 +65,16 @@ pub extern "C" fn nikvoldra_read(
     bytes: &mut [u8],
 ) -> ReadAnswer
     ensures bytes_after { read_result_of result work.new pairs.new atoms.new bytes.new
-        ≡ reading version_1 input.now
+        ≡ reading input.now
         (slices work.old pairs.old atoms.old bytes.old) }
-    ensures reads_plainly { ReadsPlainly version_1 input.now
+    ensures reads_plainly { ReadsPlainly input.now
         (read_result_of result work.new pairs.new atoms.new bytes.new) }
 {
-    read_tree(input, work, pairs, atoms, bytes, Version::One)
-}
-
-// The same for an input of up to 1,048,576 bytes, with slices sixteen times longer.
-#[unsafe(no_mangle)]
-pub extern "C" fn nikvoldra_read_v2(
-    input: &[u8],
-    work: &mut [u32],
-    pairs: &mut [u32],
-    atoms: &mut [u32],
-    bytes: &mut [u8],
-) -> ReadAnswer
-    ensures bytes_after { read_result_of result work.new pairs.new atoms.new bytes.new
-        ≡ reading version_2 input.now
-        (slices work.old pairs.old atoms.old bytes.old) }
-    ensures reads_plainly { ReadsPlainly version_2 input.now
-        (read_result_of result work.new pairs.new atoms.new bytes.new) }
-{
-    read_tree(input, work, pairs, atoms, bytes, Version::Two)
+    if !read_answer::long_enough(work, pairs, atoms, bytes) {
+        return read_answer::refusal(1);
+    }
+    if 65535 < input.len() {
+        return read_answer::refusal(2);
+    }
+    read_in(input, work, pairs, atoms, bytes)
 }

@@ -1,6 +1,6 @@
 -- Laws of an item: its first byte says which kind it is, and each kind is read as the definition says.
 -- Assumes nothing.
-use Prim.Native.Nat.{ℕ, suc, ◌+◌, ◌*◌, ◌/◌, ◌≤◌, ◌<◌, ◌^◌}
+use Prim.Native.Nat.{ℕ, suc, ◌+◌, ◌*◌, ◌≤◌, ◌<◌}
 use mathlib.Core.Path.{◌≡◌, refl, sym, ap, subst, ◌∙◌}
 use mathlib.Core.List.{List, ◌∷◌}
 use native.Mathlib.Omega.{arith}
@@ -8,6 +8,7 @@ use native.Mathlib.Numerals.{add-one}
 use lib.ListN.{length, get_or, take, drop, drop_of_length-le}
 use lib.Seq.{drop_cons}
 use borrow.Author.Tests.{eq-eqb, ne_eqb}
+use Rattle.words.specs.Words.{WORK}
 use Rattle.words.specs.Choice.{cond_true, cond_false}
 use Rattle.atom.specs.Parse.{parse}
 use Rattle.spec_reading.specs.Format.{ParseOp, SExp, Cons, go, settle, atom_item, path_item, next_item, step}
@@ -63,8 +64,8 @@ module _ (input w p a b : List ℕ) (r : Reader) where
     module _ (k : Stands input w p a b r) where
       -- ---- a pair's mark
 
-      pub pair_room : (r.ops + 2 ≤ length w / 2) × (r.ops ≤ 2 ^ 26) × (r.position ≤ 2 ^ 25)
-      pair_room = omega (arith, k.sound.ops_bound, length_ops w r.ops, k.lent.work, k.lent.short)
+      pub pair_room : (WORK ≤ length w) × (r.ops + 2 ≤ 131072) × (r.position ≤ 65535)
+      pair_room = (k.lent.work, omega (arith, k.sound.ops_bound, length_ops w r.ops, k.lent.short), omega (arith, k.lent.short))
 
       pub pair_stepped : (w' : List ℕ) → length w' ≡ length w → PushedPair w w' r.ops → get_or input r.position 0 ≡ 0xff → (i : Item) → i ≡ item.Go (pair_begun r)
           → Stepped input w p a b r w' p a b i

@@ -1,5 +1,6 @@
 -- What the reader's counts, its stacks and the pairs stand for, and what the joins leave.
-use Rattle.std.specs.Prelude.{ℕ, ◌+◌, ◌*◌, ◌^◌, ◌≤◌, ◌≡◌, List, [], ◌∷◌, length, take, drop}
+use Rattle.std.specs.Prelude.{ℕ, ◌*◌, ◌≤◌, ◌≡◌, List, [], ◌∷◌, length, take, drop}
+use Rattle.words.specs.Words.{WORK}
 use Rattle.spec_reading.specs.Format.{ParseOp, SExp, Cons, Step, go, whole, stop, settle}
 use Rattle.spec_reading.specs.Store.{Stored, store_values}
 use Rattle.spec_reading.specs.Sound.{Sound}
@@ -20,9 +21,9 @@ stored_with w p a b r =
 pub record Ready (w p : List ℕ) (r : Reader) : Type 0 where
   pub atoms : List ℕ
   pub bytes : List ℕ
-  pub work : 6 * r.position + 1 ≤ length w
-  pub room : 4 * r.position ≤ length p
-  pub limit : r.position ≤ 2 ^ 25
+  pub work : WORK ≤ length w
+  pub room : 262144 ≤ length p
+  pub limit : r.position ≤ 65535
   pub pairs_in : 2 * r.pairs ≤ length p
   pub sound : Sound r.position (ops_of w r.ops) (stored_with w p atoms bytes r)
   pub lists : HaveLists w r.listed r.values

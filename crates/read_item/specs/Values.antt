@@ -1,5 +1,6 @@
 -- An atom or a reference: what is asked before it is read, and what reading it leaves.
 use Rattle.std.specs.Prelude.{ℕ, ◌+◌, ◌*◌, ◌^◌, ◌≤◌, ◌<◌, ◌≡◌, List, ◌∷◌, length, drop}
+use Rattle.words.specs.Words.{WORK}
 use Rattle.spec_reading.specs.Format.{SExp, Step, stop, settle, atom_item, path_item}
 use Rattle.spec_reading.specs.Store.{Stored, store_values}
 use Rattle.spec_reading.specs.Sound.{Sound}
@@ -7,7 +8,7 @@ use Rattle.atom.specs.Parse.{Parse, blob, parse, parse_at}
 use Rattle.read_path.specs.declared.stack_list.Built.{Built}
 use Rattle.read_path.specs.Lists.{HaveLists}
 use Rattle.read_store.specs.Atoms.{AtomStored}
-use Rattle.read_store.specs.Layout.{list_at, ops_of, PushedValue}
+use Rattle.read_store.specs.Layout.{ops_of, PushedValue}
 use Rattle.read_item.specs.State.{stored_with, Next}
 use Rattle.read_item.specs.declared.settle.Reader.{Reader}
 use Rattle.read_item.specs.declared.settle.Item.{Item}
@@ -17,12 +18,13 @@ use Rattle.read_item.specs.Whole.{stored_of, item_of, StandsItem}
 -- ---- an atom
 
 pub record AtomRoom (w a b : List ℕ) (r : Reader) (blob : List ℕ) : Type 0 where
-  pub values_room : list_at (length w) r.values < length w
+  pub work : WORK ≤ length w
+  pub values : r.values < 131072
   pub atoms_room : 2 * r.atoms + 2 ≤ length a
   pub bytes_room : r.bytes + length blob ≤ length b
   pub few_atoms : r.atoms < 2 ^ 26
   pub few_bytes : r.bytes + length blob < 2 ^ 32
-  pub ghosts : r.ghosts ≤ 2 ^ 26
+  pub ghosts : r.ghosts ≤ 131072
 
 -- The atom's node is on top, and its bytes are stored; it ends at `end`.
 pub record AtomPushed (w a b : List ℕ) (r : Reader) (blob : List ℕ) (end : ℕ) (w' a' b' : List ℕ) (r' : Reader) : Type 0 where
@@ -51,9 +53,9 @@ node_pushed r b end = record { position = end; ops = r.ops; values = r.values + 
 pub record BeforePath (input w p : List ℕ) (r : Reader) : Type 0 where
   pub atoms : List ℕ
   pub bytes : List ℕ
-  pub work : 6 * length input + 1 ≤ length w
-  pub room : 4 * length input ≤ length p
-  pub short : length input ≤ 2 ^ 25
+  pub work : WORK ≤ length w
+  pub room : 262144 ≤ length p
+  pub short : length input ≤ 65535
   pub inside : r.position < length input
   pub pairs_in : 2 * r.pairs ≤ length p
   pub sound : Sound r.position (SExp ∷ ops_of w r.ops) (stored_with w p atoms bytes r)

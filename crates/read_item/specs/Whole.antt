@@ -1,5 +1,6 @@
 -- The whole reader: what its counts and the lent slices stand for, and what holds before and after an item.
-use Rattle.std.specs.Prelude.{ℕ, ◌+◌, ◌-◌, ◌*◌, ◌^◌, ◌≤◌, ◌≡◌, List, [], ◌∷◌, length, take, drop, replicate}
+use Rattle.std.specs.Prelude.{ℕ, ◌-◌, ◌*◌, ◌≤◌, ◌≡◌, List, [], ◌∷◌, length, take, drop, replicate}
+use Rattle.words.specs.Words.{WORK}
 use Rattle.spec_reading.specs.Format.{SExp, At, Step, go, whole, stop}
 use Rattle.spec_reading.specs.Store.{Stored}
 use Rattle.spec_reading.specs.Sound.{Sound}
@@ -21,11 +22,11 @@ zeros_from n l = replicate (length l - n) 0
 
 -- The slices are long enough, what is in use lies in them, and what is not is zero.
 pub record Lent (input w p a b : List ℕ) (r : Reader) : Type 0 where
-  pub work : 6 * length input + 1 ≤ length w
-  pub pairs_room : 4 * length input ≤ length p
-  pub atoms_room : 2 * length input ≤ length a
-  pub bytes_room : length input ≤ length b
-  pub short : length input ≤ 2 ^ 25
+  pub work : WORK ≤ length w
+  pub pairs_room : 262144 ≤ length p
+  pub atoms_room : 131072 ≤ length a
+  pub bytes_room : 65536 ≤ length b
+  pub short : length input ≤ 65535
   pub inside : r.position ≤ length input
   pub pairs_in : 2 * r.pairs ≤ length p
   pub atoms_in : 2 * r.atoms ≤ length a

@@ -2,7 +2,8 @@
 mod read_value;
 mod settle;
 
-ghost use Rattle.std.specs.Prelude.{◌≡◌, ◌+◌, ◌/◌, ◌^◌, ◌≤◌, length};
+ghost use Rattle.std.specs.Prelude.{◌≡◌, ◌+◌, ◌≤◌, length};
+ghost use Rattle.words.specs.Words.{WORK};
 ghost use Rattle.read_store.specs.Layout.{PushedPair};
 ghost use Rattle.read_item.specs.Whole.{Stands};
 ghost use Rattle.read_item.specs.Step.{Stepped, pair_begun};
@@ -12,7 +13,7 @@ use read_store::reader_stacks;
 pub use settle::{Item, Reader};
 
 fn pair_item(work: &mut [u32], r: Reader) -> Item
-    requires { (r.ops + 2 ≤ length work.old / 2) × (r.ops ≤ 2 ^ 26) × (r.position ≤ 2 ^ 25) }
+    requires { (WORK ≤ length work.old) × (r.ops + 2 ≤ 131072) × (r.position ≤ 65535) }
     ensures { (PushedPair work.old work.new r.ops) × (result ≡ Item.Go (pair_begun r)) }
 {
     reader_stacks::push_pair(work, r.ops);

@@ -1,6 +1,7 @@
 // de_br.rs: an atom or a reference, read and pushed.
-ghost use Rattle.std.specs.Prelude.{◌≡◌, ◌+◌, ◌^◌, ◌<◌, ◌≤◌, length};
-ghost use Rattle.read_store.specs.Layout.{list_at, PushedValue};
+ghost use Rattle.std.specs.Prelude.{◌≡◌, ◌+◌, ◌<◌, ◌≤◌, length};
+ghost use Rattle.words.specs.Words.{WORK};
+ghost use Rattle.read_store.specs.Layout.{PushedValue};
 ghost use Rattle.read_item.specs.Whole.{Stands};
 ghost use Rattle.read_item.specs.Values.{AtomRoom, AtomPushed, SteppedAtom, node_pushed, BeforePath, PathFound, SteppedPath};
 ghost use Rattle.atom.specs.Parse.{blob_of, parse_at};
@@ -64,7 +65,7 @@ pub fn atom_item(
 
 // The node that a path led to is pushed. The path ends at `end`.
 fn push_node(work: &mut [u32], r: Reader, b: Built, end: usize) -> Reader
-    requires { (list_at (length work.old) r.values < length work.old) × (b.ghosts ≤ 2 ^ 26) }
+    requires { (WORK ≤ length work.old) × (r.values < 131072) × (b.ghosts ≤ 131072) }
     ensures { (PushedValue work.old work.new r.values b.node.0) × (result ≡ node_pushed r b end) }
 {
     reader_stacks::push_value(work, r.values, b.node);

@@ -6,6 +6,7 @@ ghost use Rattle.read_item.specs.State.{Ready, Onward, Settled, Next};
 
 use read_path::stack_list;
 use read_store::join_values;
+use read_store::reader_stacks::OPS;
 
 // Where the reader stands: the next byte, and how much of each stack and of the store is in use. The lowest `listed` values are known to have a list.
 #[derive(Drop)]
@@ -52,7 +53,7 @@ fn join_all(work: &mut [u32], pairs: &mut [u32], reader: Reader) -> Reader
     let mut r = reader;
     while 0 < r.ops {
         let top = r.ops - 1;
-        if work[top] == 0 {
+        if work[OPS + top] == 0 {
             return r;
         }
         r = join_top(work, pairs, r);

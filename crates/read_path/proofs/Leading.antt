@@ -15,8 +15,8 @@ use Rattle.path.specs.Bytes.{read_path}
 use Rattle.allocator.specs.Handle.{Node, node_of, nil}
 use Rattle.allocator.specs.HandleLaws.{handle_of_node_of, node_of_nil}
 use Rattle.spec_reading.specs.Store.{Store, Value, Listed, Led, walk, node_handle, led_to, list_of, above, lead}
-use Rattle.read_store.specs.Layout.{node_at, list_at, value_at, values_of}
-use Rattle.read_store.proofs.reader_stacks.Stacks.{value_same, length_values, drop_values}
+use Rattle.read_store.specs.Layout.{VALUES, cached_list, value_at, values_of}
+use Rattle.read_store.proofs.reader_stacks.Stacks.{length_values, drop_values}
 use Rattle.path.specs.declared.path_bits.PathBits.TheVariants as path_bits
 use Rattle.path.specs.Answers.{counted}
 use Rattle.path.proofs.path_bits.Bits.{lowest}
@@ -101,17 +101,17 @@ value_next w n k h = drop_values w n k (omega arith) ∙ ap (values_of w) next
     next = omega arith
 
 -- The k topmost values keep where their words keep.
-pub values_split : (w w' : List ℕ) (n k : ℕ) → length w' ≡ length w → k ≤ n → ((j : ℕ) → node_at (length w) (n - k) ≤ j → at w' j ≡ at w j)
+pub values_split : (w w' : List ℕ) (n k : ℕ) → k ≤ n → ((j : ℕ) → VALUES + 2 * (n - k) ≤ j → at w' j ≡ at w j)
     → values_of w' n ≡ take k (values_of w n) ++ values_of w' (n - k)
 unfolding values_of
-values_split w w' n zero long h f = ap (values_of w') less
+values_split w w' n zero h f = ap (values_of w') less
   where
     less : n ≡ n - 0
     less = omega arith
-values_split w w' zero (suc k) long h f = absurd (omega arith)
-values_split w w' (suc n) (suc k) long h f =
-    (λ i. value_same w w' n long (f (node_at (length w) n) (omega arith)) (f (list_at (length w) n) (omega arith)) i
-    ∷ values_split w w' n k long (omega arith) (λ j l. f j (omega arith)) i)
+values_split w w' zero (suc k) h f = absurd (omega arith)
+values_split w w' (suc n) (suc k) h f =
+    (λ i. record { node = f (VALUES + 2 * n) (omega arith) i; list = cached_list (f (VALUES + 2 * n + 1) (omega arith) i) }
+    ∷ values_split w w' n k (omega arith) (λ j l. f j (omega arith)) i)
     ∙ ap (λ (m : ℕ). value_at w n ∷ take k (values_of w n) ++ values_of w' m) less
   where
     less : n - k ≡ suc n - suc k
@@ -174,14 +174,14 @@ module _ (path w p : List ℕ) (values listed used ghosts : ℕ) (a : HaveLists 
           e f (g s e ∙ ap (walk s (drop steps q.bits)) node_of_nil)
 
       -- Into the value that a clear bit comes to.
-      pub leads_value : steps < values → steps < count → Walks p used (drop (steps + 1) q.bits) (at w (node_at (length w) (values - 1 - steps))) r
+      pub leads_value : steps < values → steps < count → Walks p used (drop (steps + 1) q.bits) (at w (VALUES + 2 * (values - 1 - steps))) r
           → (s : Store) → s.pairs ≡ take (2 * used) p → s.ghosts ≡ ghosts → LeadsTo w p values used (led (read_path path) (values_of w values) s) w p t
       leads_value m n g s e f =
-          reaches r t is (walk s (drop (suc steps) q.bits) (node_of (at w (node_at (length w) (values - 1 - steps))))) s
+          reaches r t is (walk s (drop (suc steps) q.bits) (node_of (at w (VALUES + 2 * (values - 1 - steps))))) s
           (led_some s
           ∙ lead_value q.bits (values_of w values) s steps down_values (omega (arith, q.long)) (value_at w (values - 1 - steps)) (values_of w (values - 1 - steps))
           (value_next w values steps m))
-          e f (g s e ∙ ap (λ (k : ℕ). walk s (drop k q.bits) (node_of (at w (node_at (length w) (values - 1 - steps))))) (add-one steps))
+          e f (g s e ∙ ap (λ (k : ℕ). walk s (drop k q.bits) (node_of (at w (VALUES + 2 * (values - 1 - steps))))) (add-one steps))
 
     -- The list from the value that the path ends on.
     module _ (w' p' : List ℕ) (b : Built) (m : steps < values) (z : steps ≡ count) (l : Lists w p (values - steps) listed used ghosts w' p' b) where
@@ -198,7 +198,7 @@ module _ (path w p : List ℕ) (values listed used ghosts : ℕ) (a : HaveLists 
           record {
             node_is = ap some (sym (l.node_is s e f));
             values_are =
-                values_split w w' values steps l.long (omega arith) (λ j h. l.high j h)
+                values_split w w' values steps (omega arith) (λ j h. l.high j h)
                 ∙ ap (λ (vs : List Value). take steps (values_of w values) ++ vs) (l.values_are s e f);
             pairs_are = l.pairs_are s e f;
             ghosts_are = l.ghosts_are s e f;
@@ -213,15 +213,16 @@ pub nil_reachable : (w p : List ℕ) (values listed used ghosts : ℕ) → Walka
 nil_reachable w p values listed used ghosts k =
     record { room = omega (arith, k.room.pairs, k.room.room); here = subst (Within used) (sym node_of_nil) tt; there = k.there }
 
-pub value_reachable : (w p : List ℕ) (values listed used ghosts : ℕ) → Walkable w p values listed used ghosts → (k : ℕ) → k < values → Reachable p used (at w (node_at (length w) k))
+pub value_reachable : (w p : List ℕ) (values listed used ghosts : ℕ) → Walkable w p values listed used ghosts → (k : ℕ) → k < values → Reachable p used (at w (VALUES + 2 * k))
 value_reachable w p values listed used ghosts r k l =
     record { room = omega (arith, r.room.pairs, r.room.room); here = r.nodes k l; there = r.there }
 
 pub fewer_room : (w p : List ℕ) (values steps listed used ghosts : ℕ) → ListRoom w p values listed used ghosts → steps ≤ values → ListRoom w p (values - steps) listed used ghosts
 fewer_room w p values steps listed used ghosts r l =
     record {
-      work = omega (arith, r.work);
+      work = r.work;
       pairs = r.pairs;
+      few = omega (arith, r.few);
       ghost = omega (arith, r.ghost, unlisted_up w (values - steps) steps, ap (λ (n : ℕ). unlisted (values_of w n)) whole);
       room = r.room;
       lists = r.lists;

@@ -1,10 +1,10 @@
 -- What a path leads to from the stack in work: where it starts, and what is left.
-use Rattle.std.specs.Prelude.{ℕ, ◌+◌, ◌*◌, ◌/◌, ◌≤◌, ◌<◌, ◌≡◌, Bool, List, length, take, drop}
+use Rattle.std.specs.Prelude.{ℕ, ◌+◌, ◌*◌, ◌≤◌, ◌<◌, ◌≡◌, Bool, List, take, drop}
 use Rattle.std.proofs.Math.Option.{Option, none, some}
 use Rattle.words.specs.Words.{at}
 use Rattle.allocator.specs.Handle.{node_of, handle_of, nil}
 use Rattle.spec_reading.specs.Store.{Store, Value, Led, lead}
-use Rattle.read_store.specs.Layout.{node_at, values_of}
+use Rattle.read_store.specs.Layout.{VALUES, values_of}
 use Rattle.read_path.specs.Answers.{Within}
 use Rattle.read_path.specs.declared.path_walk.Walked.{Walked}
 use Rattle.read_path.specs.declared.path_walk.Walked.TheVariants as walked
@@ -27,7 +27,7 @@ reached walked.IntoAtom n g m = traversed.IntoAtom
 pub record Walkable (w p : List ℕ) (values listed used ghosts : ℕ) : Type 0 where
   pub room : ListRoom w p values listed used ghosts
   pub listed_few : listed ≤ values
-  pub nodes : (k : ℕ) → k < values → Within used (node_of (at w (node_at (length w) k)))
+  pub nodes : (k : ℕ) → k < values → Within used (node_of (at w (VALUES + 2 * k)))
   pub there : (k : ℕ) → k < 2 * used → Within used (node_of (at p k))
 
 -- The node and the counts are those of the definition, and so are the stack and the pairs; the rest is as it was.
@@ -37,7 +37,7 @@ pub record Leads (w p : List ℕ) (values used : ℕ) (l : Led) (w' p' : List �
   pub pairs_are : take (2 * b.pairs) p' ≡ l.stored.store.pairs
   pub ghosts_are : b.ghosts ≡ l.stored.store.ghosts
   pub pairs_rest : drop (2 * b.pairs) p' ≡ drop (2 * b.pairs) p
-  pub low : (k : ℕ) → k < length w / 2 → at w' k ≡ at w k
+  pub low : (k : ℕ) → k < VALUES → at w' k ≡ at w k
   pub lists : HaveLists w' b.listed values
 
 abbrev pub LeadsTo : List ℕ → List ℕ → ℕ → ℕ → Led → List ℕ → List ℕ → Traversed → Type 0

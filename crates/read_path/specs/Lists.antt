@@ -1,10 +1,10 @@
 -- The list of the stack's values in work: the room that it takes, and what is left.
-use Rattle.std.specs.Prelude.{ℕ, ◌+◌, ◌*◌, ◌/◌, ◌^◌, ◌≤◌, ◌<◌, max, ◌≡◌, List, ◌∷◌, length, take, drop}
+use Rattle.std.specs.Prelude.{ℕ, ◌+◌, ◌*◌, ◌≤◌, ◌<◌, max, ◌≡◌, List, ◌∷◌, length, take, drop}
 use Rattle.std.proofs.Math.Option.{Option}
-use Rattle.words.specs.Words.{at}
+use Rattle.words.specs.Words.{at, WORK}
 use Rattle.spec_reading.specs.Store.{Store, Listed, add_to_list, list_of}
 use Rattle.spec_reading.specs.Sound.{one_if_none, unlisted}
-use Rattle.read_store.specs.Layout.{node_at, list_at, value_at, values_of}
+use Rattle.read_store.specs.Layout.{VALUES, value_at, values_of}
 use Rattle.read_path.specs.declared.stack_list.Built.{Built}
 
 -- One more than n where there is no list.
@@ -18,18 +18,20 @@ pub record HaveLists (w : List ℕ) (listed values : ℕ) : Type 0 where
 
 -- There is room for the list of the lowest `count` values: each pair that is made was a ghost pair. The lowest `listed` have theirs.
 pub record ListRoom (w p : List ℕ) (count listed used ghosts : ℕ) : Type 0 where
-  pub work : node_at (length w) count ≤ length w
-  pub pairs : 2 * (used + ghosts) ≤ length p
+  pub work : WORK ≤ length w
+  pub pairs : 262144 ≤ length p
+  pub few : count ≤ 131072
   pub ghost : unlisted (values_of w count) ≤ ghosts
-  pub room : used + ghosts ≤ 2 ^ 26
+  pub room : used + ghosts ≤ 131072
   pub lists : unlisted (values_of w listed) ≡ 0
 
 -- There is room for one value's pair, if it has no list.
 pub record AddRoom (w p : List ℕ) (i : ℕ) (below : Built) : Type 0 where
-  pub work : node_at (length w) (i + 1) ≤ length w
-  pub pairs : 2 * (below.pairs + below.ghosts) ≤ length p
+  pub work : WORK ≤ length w
+  pub pairs : 262144 ≤ length p
+  pub few : i < 131072
   pub ghost : unlisted_of (value_at w i).list 0 ≤ below.ghosts
-  pub room : below.pairs + below.ghosts ≤ 2 ^ 26
+  pub room : below.pairs + below.ghosts ≤ 131072
 
 -- A list is the one with this node, these pairs and ghost pairs.
 pub record Holds (p : List ℕ) (b : Built) (l : Listed) : Type 0 where
@@ -41,8 +43,7 @@ pub record Holds (p : List ℕ) (b : Built) (l : Listed) : Type 0 where
 pub record Adds (w p : List ℕ) (i : ℕ) (below : Built) (w' p' : List ℕ) (b : Built) : Type 0 where
   pub list_is : (l : Listed) → Holds p below l → Holds p' b (add_to_list (value_at w i).list (value_at w i).node l)
   pub values_are : (l : Listed) → Holds p below l → value_at w' i ∷ l.values ≡ (add_to_list (value_at w i).list (value_at w i).node l).values
-  pub long : length w' ≡ length w
-  pub others : (k : ℕ) → (k ≡ list_at (length w) i → ⊥) → at w' k ≡ at w k
+  pub others : (k : ℕ) → (k ≡ VALUES + 2 * i + 1 → ⊥) → at w' k ≡ at w k
   pub pairs_rest : drop (2 * b.pairs) p' ≡ drop (2 * b.pairs) p
   pub total : b.pairs + b.ghosts ≡ below.pairs + below.ghosts
   pub spent : unlisted_of (value_at w i).list b.ghosts ≡ below.ghosts
@@ -56,9 +57,8 @@ pub record Lists (w p : List ℕ) (count listed used ghosts : ℕ) (w' p' : List
   pub pairs_are : (s : Store) → s.pairs ≡ take (2 * used) p → s.ghosts ≡ ghosts → take (2 * b.pairs) p' ≡ (list_of (values_of w count) s).store.pairs
   pub ghosts_are : (s : Store) → s.pairs ≡ take (2 * used) p → s.ghosts ≡ ghosts → b.ghosts ≡ (list_of (values_of w count) s).store.ghosts
   pub pairs_rest : drop (2 * b.pairs) p' ≡ drop (2 * b.pairs) p
-  pub long : length w' ≡ length w
-  pub low : (k : ℕ) → k < length w / 2 → at w' k ≡ at w k
-  pub high : (k : ℕ) → node_at (length w) count ≤ k → at w' k ≡ at w k
+  pub low : (k : ℕ) → k < VALUES → at w' k ≡ at w k
+  pub high : (k : ℕ) → VALUES + 2 * count ≤ k → at w' k ≡ at w k
   pub total : b.pairs + b.ghosts ≡ used + ghosts
   pub more : used ≤ b.pairs
   pub listed_is : b.listed ≡ max listed count

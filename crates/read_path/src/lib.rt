@@ -2,7 +2,7 @@
 mod path_walk;
 pub mod stack_list;
 
-ghost use Rattle.std.specs.Prelude.{◌≡◌, ◌*◌, ◌^◌, ◌≤◌, length, take};
+ghost use Rattle.std.specs.Prelude.{◌≡◌, ◌*◌, ◌≤◌, length, take};
 ghost use Rattle.path.specs.Bytes.{read_path};
 ghost use Rattle.spec_reading.specs.Store.{Store};
 ghost use Rattle.read_store.specs.Layout.{values_of};
@@ -11,6 +11,7 @@ ghost use Rattle.read_path.specs.Leads.{led, reached, Walkable, LeadsTo, SameTot
 use allocator::NodePtr;
 use path::{PathBits, path_bits};
 use path_walk::Walked;
+use read_store::reader_stacks::VALUES;
 pub use stack_list::{Built, Counts};
 
 // What a path leads to: a node, with the counts then; or that it steps into an atom.
@@ -27,7 +28,7 @@ pub fn traverse_path_with_vec(
     pairs: &mut [u32],
     counts: Counts,
 ) -> Traversed
-    requires { (length path.now ≤ 2 ^ 25)
+    requires { (length path.now ≤ 65535)
         × (Walkable work.old pairs.old counts.values counts.listed counts.pairs counts.ghosts) }
     ensures leads_to { (s : Store) → s.pairs ≡ take (2 * counts.pairs) pairs.old → s.ghosts ≡ counts.ghosts
         → LeadsTo work.old pairs.old counts.values counts.pairs
@@ -48,7 +49,7 @@ pub fn traverse_path_with_vec(
     if steps == count {
         return Traversed::Node(stack_list::build_list(work, pairs, values - steps, counts));
     }
-    let value = NodePtr(work[work.len() / 2 + 2 * (values - 1 - steps)]);
+    let value = NodePtr(work[VALUES + 2 * (values - 1 - steps)]);
     let w = path_walk::walk_bits(path, steps + 1, count, pairs, used, value);
     walked(w, counts)
 }

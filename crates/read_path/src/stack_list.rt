@@ -1,10 +1,12 @@
 // The list that the reader's stack of values is to a path, made and kept: a part of `traverse_path_with_vec` of de_br.rs.
 ghost use Rattle.std.specs.Prelude.{◌≡◌, ◌≤◌, min, length};
+ghost use Rattle.words.specs.Words.{WORK};
 ghost use Rattle.spec_reading.specs.Store.{Store, list_of};
-ghost use Rattle.read_store.specs.Layout.{node_at, values_of};
+ghost use Rattle.read_store.specs.Layout.{values_of};
 ghost use Rattle.read_path.specs.Lists.{HaveLists, AddRoom, Adds, ListRoom, Lists};
 
 use allocator::NodePtr;
+use read_store::reader_stacks::VALUES;
 
 // How many values there are, how many of the lowest are known to have a list, and how many pairs and ghost pairs there are.
 #[derive(Drop)]
@@ -36,13 +38,13 @@ pub fn listed_among(listed: usize, values: usize) -> usize
 
 // The list that the lowest `count` values have: that of the topmost of them.
 fn list_at(work: &[u32], count: usize) -> NodePtr
-    requires { (node_at (length work.now) count ≤ length work.now) × (HaveLists work.now count count) }
+    requires { (WORK ≤ length work.now) × (HaveLists work.now count 131072) }
     ensures { (s : Store) → result.0 ≡ (list_of (values_of work.now count) s).node }
 {
     if count == 0 {
         return NodePtr::NIL;
     }
-    NodePtr(work[work.len() / 2 + 2 * (count - 1) + 1] - 1)
+    NodePtr(work[VALUES + 2 * (count - 1) + 1] - 1)
 }
 
 // The list of the lowest `count` values. Some of the lowest have theirs; from there up, a list that a value has is taken, and one
@@ -71,8 +73,7 @@ fn add_value(work: &mut [u32], pairs: &mut [u32], i: usize, below: Built) -> Bui
     requires { AddRoom work.old pairs.old i below }
     ensures { Adds work.old pairs.old i below work.new pairs.new result }
 {
-    let place = work.len() / 2 + 2 * i;
-    let list = work[place + 1];
+    let list = work[VALUES + 2 * i + 1];
     if list != 0 {
         return Built {
             node: NodePtr(list - 1),
@@ -81,9 +82,9 @@ fn add_value(work: &mut [u32], pairs: &mut [u32], i: usize, below: Built) -> Bui
             listed: i + 1,
         };
     }
-    let value = NodePtr(work[place]);
+    let value = NodePtr(work[VALUES + 2 * i]);
     let node = read_store::new_pair(pairs, below.pairs, value, below.node);
-    work[place + 1] = node.0 + 1;
+    work[VALUES + 2 * i + 1] = node.0 + 1;
     Built {
         node,
         pairs: below.pairs + 1,

@@ -1,19 +1,15 @@
 -- The reader's stacks in work: what the words stand for, and what each function leaves.
-use Rattle.std.specs.Prelude.{ℕ, zero, suc, ◌+◌, ◌*◌, ◌/◌, ◌≤◌, ◌≡◌, List, [], ◌∷◌, length}
+use Rattle.std.specs.Prelude.{ℕ, zero, suc, ◌+◌, ◌*◌, ◌≤◌, ◌≡◌, List, [], ◌∷◌}
 use Rattle.std.proofs.Math.Option.{Option, none, some}
 use Rattle.words.specs.Words.{at}
 use Rattle.spec_reading.specs.Format.{ParseOp, SExp, Cons}
 use Rattle.spec_reading.specs.Store.{Value}
 
--- Each stack has a half of the n words. Operation i is word i; value i is two words from the middle on, its node and its list.
-abbrev pub op_at : ℕ → ℕ
-op_at i = i
+abbrev pub OPS : ℕ
+OPS = 0
 
-abbrev pub node_at : (n i : ℕ) → ℕ
-node_at n i = n / 2 + 2 * i
-
-abbrev pub list_at : (n i : ℕ) → ℕ
-list_at n i = n / 2 + 2 * i + 1
+abbrev pub VALUES : ℕ
+VALUES = 131072
 
 abbrev pub op_of : ℕ → ParseOp
 op_of zero = SExp
@@ -22,7 +18,7 @@ op_of (suc n) = Cons
 -- n operations, the last one first
 unfoldable pub ops_of : List ℕ → ℕ → List ParseOp
 ops_of w zero = []
-ops_of w (suc n) = op_of (at w (op_at n)) ∷ ops_of w n
+ops_of w (suc n) = op_of (at w (OPS + n)) ∷ ops_of w n
 
 abbrev pub cached_list : ℕ → Option ℕ
 cached_list zero = none
@@ -30,18 +26,18 @@ cached_list (suc h) = some h
 
 -- value n, counted from the bottom
 abbrev pub value_at : List ℕ → ℕ → Value
-value_at w n = record { node = at w (node_at (length w) n); list = cached_list (at w (list_at (length w) n)) }
+value_at w n = record { node = at w (VALUES + 2 * n); list = cached_list (at w (VALUES + 2 * n + 1)) }
 
 -- n values, the last one first
 unfoldable pub values_of : List ℕ → ℕ → List Value
 values_of w zero = []
 values_of w (suc n) = value_at w n ∷ values_of w n
 
--- A value is on top; the values below, and the operations in their half, are as they were.
+-- A value is on top; the operations and the values below are as they were.
 pub record PushedValue (w w' : List ℕ) (n node : ℕ) : Type 0 where
   pub values : values_of w' (n + 1) ≡ record { node = node; list = none } ∷ values_of w n
   pub below : (m : ℕ) → m ≤ n → values_of w' m ≡ values_of w m
-  pub ops : (m : ℕ) → m ≤ length w / 2 → ops_of w' m ≡ ops_of w m
+  pub ops : (m : ℕ) → m ≤ VALUES → ops_of w' m ≡ ops_of w m
 
 -- To read a tree and to join two are on top; the values are as they were.
 pub record PushedPair (w w' : List ℕ) (n : ℕ) : Type 0 where

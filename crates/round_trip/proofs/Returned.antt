@@ -12,8 +12,7 @@ use Rattle.spec_reading.specs.Call as read
 use Rattle.spec_reading.specs.Promise.{ReadAs}
 use Rattle.read_answer.specs.Answer.{slices as store-slices}
 use Rattle.path.specs.Measure.{counted}
-use Rattle.limits.specs.Limits.{version_1}
-use Rattle.spec_session.specs.File.{File, Step}
+use Rattle.spec_session.specs.File.{File, Step, version_1}
 use Rattle.spec_session.specs.Demand3.{ReadBack}
 use Rattle.spec_session.specs.Call.{Result}
 use Rattle.session_state.specs.declared.checkpoints.Checkpoint.{Checkpoint}
@@ -24,7 +23,7 @@ use Rattle.round_trip.specs.declared.RoundTrip.{RoundTrip}
 use Rattle.round_trip.specs.RoundTrip.{Lists, the_session, the_reading, read_of, ReadWhole, RoundTrips, session_of, Trip}
 
 -- Question 1 asks only for lengths.
-same_enough : (w w' p a b : List ℕ) → length w' ≡ length w → read.long_enough version_1 (store-slices w p a b) ≡ true → read.long_enough version_1 (store-slices w' p a b) ≡ true
+same_enough : (w w' p a b : List ℕ) → length w' ≡ length w → read.long_enough (store-slices w p a b) ≡ true → read.long_enough (store-slices w' p a b) ≡ true
 same_enough w w' p a b e h =
     ap (λ (n : ℕ). leb WORK n && (leb 262144 (length p) && (leb 131072 (length a) && leb 65536 (length b)))) e ∙ h
 
@@ -36,9 +35,9 @@ module _ (input : List ℕ) (before after : Lists) (work : List ℕ) (s : Sessio
   abbrev both : RoundTrip
   both = record { session = s; read = r }
 
-  module _ (ran : t ≡ the_session input before) (was_read : read_of both after ≡ the_reading t before) (back : ReadsBack version_1 counted input t) (same : length work ≡ length before.work) where
+  module _ (ran : t ≡ the_session input before) (was_read : read_of both after ≡ the_reading t before) (back : ReadsBack counted input t) (same : length work ≡ length before.work) where
     -- What was read is the tree of what reads back.
-    whole : {f : File} {handles : List ℕ} {k : ℕ} {next : Option Step} → read.long_enough version_1 (store-slices before.work before.pairs before.atoms before.bytes) ≡ true
+    whole : {f : File} {handles : List ℕ} {k : ℕ} {next : Option Step} → read.long_enough (store-slices before.work before.pairs before.atoms before.bytes) ≡ true
         → ReadBack counted version_1 f handles k next t → ReadWhole f handles k next t (read_of both after)
     whole long m = record {
       back = m;

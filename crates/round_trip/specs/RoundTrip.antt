@@ -4,8 +4,7 @@ use Rattle.std.proofs.Math.Option.{Option}
 use Rattle.path.specs.Measure.{counted}
 use Rattle.spec_reading.specs.Call as read
 use Rattle.spec_reading.specs.Promise.{ReadAs}
-use Rattle.limits.specs.Limits.{version_1}
-use Rattle.spec_session.specs.File.{File, Step, got, file}
+use Rattle.spec_session.specs.File.{File, Step, version_1, got, file}
 use Rattle.spec_session.specs.Demand3.{ReadBack}
 use Rattle.spec_session.specs.Call.{Result, session}
 use Rattle.session_state.specs.declared.checkpoints.Checkpoint.{Checkpoint}
@@ -34,7 +33,7 @@ the_session input l = session blank version_1 counted input (slices l.work l.wor
 
 -- The reading of the first `size` bytes of a session's output, with the work that the session left.
 abbrev pub the_reading : Result Checkpoint → Lists → read.Result
-the_reading r l = read.reading version_1 (take r.answer.size r.slices.output) (store-slices r.slices.work l.pairs l.atoms l.bytes)
+the_reading r l = read.reading (take r.answer.size r.slices.output) (store-slices r.slices.work l.pairs l.atoms l.bytes)
 
 -- What was read, and is in the slices.
 abbrev pub read_of : RoundTrip → Lists → read.Result
@@ -49,7 +48,7 @@ pub record ReadWhole (f : File) (handles : List ℕ) (k : ℕ) (next : Option St
 -- tree was read, and references stand exactly where the search rules put them.
 abbrev pub RoundTrips : (input : List ℕ) (lent : read.Slices) → Result Checkpoint → read.Result → Type 0
 RoundTrips input lent s r =
-    read.long_enough version_1 lent ≡ true → (f : File) (rest : List ℕ) → file version_1 input ≡ got f rest → Claimed f s (λ handles k next. ReadWhole f handles k next s r)
+    read.long_enough lent ≡ true → (f : File) (rest : List ℕ) → file version_1 input ≡ got f rest → Claimed f s (λ handles k next. ReadWhole f handles k next s r)
 
 -- The session's answer and slices. Its work is the definition's: the reading used it since.
 abbrev pub session_of : (input : List ℕ) (before after : Lists) → RoundTrip → Result Checkpoint

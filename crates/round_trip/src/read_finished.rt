@@ -1,6 +1,5 @@
 // The finished bytes of a session's output, read.
 ghost use Rattle.std.specs.Prelude.{◌≡◌, min, length, take};
-ghost use Rattle.limits.specs.Limits.{version_1};
 ghost use Rattle.spec_reading.specs.Call.{reading};
 ghost use Rattle.read_answer.specs.Answer.{slices as store-slices};
 ghost use Rattle.read_call.specs.Outcome.{read_result_of};
@@ -30,7 +29,7 @@ pub fn read_first(
     bytes: &mut [u8],
 ) -> ReadAnswer
     ensures { read_result_of result work.new pairs.new atoms.new bytes.new
-        ≡ reading version_1 (take session.size output.now)
+        ≡ reading (take session.size output.now)
         (store-slices work.old pairs.old atoms.old bytes.old) }
 {
     let n = lesser(output, session.size);

@@ -40,7 +40,7 @@ pub fn finish(
 ) -> SessionAnswer
     requires { (p.steps ≤ 1024)
         × (3 * p.steps ≤ length words.old)
-        × (p.counts.size ≤ 1048576)
+        × (p.counts.size ≤ 65535)
         × (p.counts.size ≤ length output.old) }
     ensures { (answer_of result ≡ answer_at p)
         × (Cleared p work.old words.old output.old work.new

@@ -11,7 +11,6 @@ use Rattle.words.specs.Lists.{all_at}
 use Rattle.words.proofs.Words.{part_length, put_length, put_at, put_other, Store, miss, hits}
 use Rattle.spec_session.specs.File.{File}
 use Rattle.spec_session.specs.Places.{ListedAtom}
-use Rattle.limits.specs.Limits.{Limits}
 use Rattle.file_parts.specs.Checked.{Passed}
 use Rattle.file_parts.specs.Loaded.{AtomPlace, AtomsLoaded, PairsLoaded}
 use Rattle.file_parts.specs.declared.session_file.Checked.{Checked}
@@ -35,7 +34,7 @@ part_clear w r a b h long len q = record {
 pub tables_clear : {w w₁ w₂ : List ℕ} → PartClear w w₁ ATOM_HEADS ATOM_NEXT → PartClear w₁ w₂ TOPS PARENTS → TablesClear w₂
 tables_clear a b = record { heads = λ k l m. b.others k (λ x y. omega arith) ∙ a.zeros k l m; zeros = b.zeros }
 
-pub few_twice : {l : Limits} {input : List ℕ} {f : File} {c : Checked} → Passed l input f c → (2 * c.atoms ≤ 2048) × (2 * c.pairs ≤ 2048)
+pub few_twice : {input : List ℕ} {f : File} {c : Checked} → Passed input f c → (2 * c.atoms ≤ 2048) × (2 * c.pairs ≤ 2048)
 few_twice p =
     (omega (arith, p.atoms_are, p.contents.few_atoms), omega (arith, p.pairs_are, p.contents.few_pairs))
 
@@ -48,7 +47,7 @@ pairs_room long w₀ r₁ e len₁ =
 
 -- ---- the places of the atoms and the handles of the pairs
 
-module _ {l : Limits} {input : List ℕ} {f : File} {c : Checked} (p : Passed l input f c) {n : ℕ} (long : WORK ≤ n) (w₀ r₁ r₂ : List ℕ) (long₀ : length w₀ ≡ n)
+module _ {input : List ℕ} {f : File} {c : Checked} (p : Passed input f c) {n : ℕ} (long : WORK ≤ n) (w₀ r₁ r₂ : List ℕ) (long₀ : length w₀ ≡ n)
     (clear : TablesClear w₀)
     (len₁ : length r₁ ≡ length (part w₀ 0 2048)) (l₁ : AtomsLoaded input f.atoms (part w₀ 0 2048) r₁)
     (len₂ : length r₂ ≡ length (part (put_mid 0 2048 w₀ r₁) 2048 2048)) (l₂ : PairsLoaded f.pairs (part (put_mid 0 2048 w₀ r₁) 2048 2048) r₂) where
@@ -102,7 +101,7 @@ module _ {l : Limits} {input : List ℕ} {f : File} {c : Checked} (p : Passed l 
 
 -- ---- the other tables
 
-module _ {l : Limits} {input : List ℕ} {f : File} {c : Checked} (p : Passed l input f c) {w : List ℕ} (long : WORK ≤ length w) (pl : Placed input f w) where
+module _ {input : List ℕ} {f : File} {c : Checked} (p : Passed input f c) {w : List ℕ} (long : WORK ≤ length w) (pl : Placed input f w) where
   pub firsts_ask : (n : ℕ) → n ≡ c.atoms → Ready input w n
   firsts_ask n e =
       record {

@@ -14,13 +14,12 @@ use Rattle.path.specs.Bytes.{odd}
 use Rattle.spec_session.specs.File.{File, Step}
 use Rattle.spec_session.specs.Places.{PairNamed, SentinelNamed, StepsAt}
 use Rattle.file_parts.specs.Loaded.{pair_of, forgets}
-use Rattle.limits.specs.Limits.{Limits}
 use Rattle.file_parts.specs.Checked.{Passed, Contents}
 use Rattle.file_parts.specs.CheckedLaws.{pair_named}
 use Rattle.file_parts.specs.declared.session_file.Checked.{Checked}
 use Rattle.spec_session.specs.Writer.{start}
-use Rattle.session_state.specs.declared.progress.Rules.{Rules}
-use Rattle.session_state.specs.State.{measure_by}
+use Rattle.path.specs.declared.Measure.{Measure}
+use Rattle.path.specs.Measure.{measure_of}
 use Rattle.spec_session.specs.Steps.{at_start, Run, run_steps}
 use Rattle.work_layout.specs.Layout.{TOPS, WRITTEN, MAPS, PARENTS, ENTRIES}
 use Rattle.work_layout.specs.Rows.{stack_of}
@@ -53,9 +52,9 @@ sorted f c =
 no_mark : (k : ℕ) → odd (0 / 2 ^ k) ≡ false
 no_mark k = ap odd (zero-div (2 ^ k))
 
-module _ (rules : Rules) (l : Limits) (input : List ℕ) (f : File) (c : Checked) (p : Passed l input f c) (flag : Bool)
+module _ (measure : Measure) (input : List ℕ) (f : File) (c : Checked) (p : Passed input f c) (flag : Bool)
     (known : (ss : List Step) → StepsAt input c.steps_at ss → flag ≡ forgets ss) (w words : List ℕ) (rows : List Checkpoint) (out : List ℕ) (o : Opened input f w)
-    (long : WORK ≤ length w) (many_words : 3072 ≤ length words) (many_rows : 16 ≤ length rows) (short : length out ≤ 1048576) where
+    (long : WORK ≤ length w) (many_words : 3072 ≤ length words) (many_rows : 16 ≤ length rows) (short : length out ≤ 65535) where
   handles : Handles w
   handles = tables_handles f w (sorted f p.contents) o.tables
 
@@ -89,7 +88,7 @@ module _ (rules : Rules) (l : Limits) (input : List ℕ) (f : File) (c : Checked
         waiting = refl;
       }
 
-  pub starts : Underway rules input f w words rows out (start_at rules c.steps_at flag)
+  pub starts : Underway measure input f w words rows out (start_at measure c.steps_at flag)
   unfolding whole_run
   starts =
       record {
@@ -124,12 +123,12 @@ module _ (rules : Rules) (l : Limits) (input : List ℕ) (f : File) (c : Checked
         quote_saved = λ e. clash cc;
         state = at_start;
         shown = refl;
-        rules_is = refl;
+        measure_is = refl;
         same = λ i. record { words = r.words; steps = none_before i; number = r.number; last = r.last };
       }
     where
       r : Run
-      r = run_steps (measure_by rules) (length out) f f.steps at_start
+      r = run_steps (measure_of measure) (length out) f f.steps at_start
 
       none_before : r.steps ≡ 0 + r.steps
       none_before = omega arith

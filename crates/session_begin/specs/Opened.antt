@@ -1,7 +1,7 @@
 -- What loading a session file leaves in work, and where its run starts.
 use Rattle.std.specs.Prelude.{ℕ, ◌+◌, ◌*◌, ◌≤◌, ◌<◌, ◌≡◌, Bool, false, List, [], length, get_or}
 use Rattle.words.specs.Words.{at}
-use Rattle.session_state.specs.declared.progress.Rules.{Rules}
+use Rattle.path.specs.declared.Measure.{Measure}
 use Rattle.spec_session.specs.File.{File}
 use Rattle.file_parts.specs.Loaded.{AtomPlace, pair_of}
 use Rattle.work_layout.specs.Layout.{ATOMS, PAIRS, ATOM_HEADS, ATOM_NEXT, TOPS, PARENTS}
@@ -35,5 +35,5 @@ pub record Opened (input : List ℕ) (f : File) (w : List ℕ) : Type 0 where
   pub zeros : (k : ℕ) → TOPS ≤ k → k < PARENTS → at w k ≡ 0
 
 -- The first step comes next; nothing is added, open or written.
-abbrev pub start_at : Rules → (place : ℕ) → (forgets : Bool) → Progress
-start_at m place b = record { at = place; steps = 0; adds = 0; opens = 0; depth = 0; counts = no_items; finished = false; number = 0; done = false; forgets = b; quoted = false; rules = m }
+abbrev pub start_at : Measure → (place : ℕ) → (forgets : Bool) → Progress
+start_at m place b = record { at = place; steps = 0; adds = 0; opens = 0; depth = 0; counts = no_items; finished = false; number = 0; done = false; forgets = b; quoted = false; measure = m }

@@ -4,14 +4,14 @@ mod session_lengths;
 ghost use Rattle.std.specs.Prelude.{◌≡◌, ◌≤◌, length};
 ghost use Rattle.words.specs.Words.{WORK};
 ghost use Rattle.words.specs.Lists.{Bytes};
-ghost use Rattle.limits.specs.Limits.{limits_of};
 ghost use Rattle.file_parts.specs.Checked.{Passed};
 ghost use Rattle.session_state.specs.State.{the_file};
 ghost use Rattle.session_begin.specs.Opened.{PartClear, TablesClear, Placed, Opened, start_at};
 ghost use Rattle.session_begin.specs.Begins.{asked, refused_with, Begins};
 
 use file_parts::Checked;
-use session_state::progress::{Progress, Rules};
+use path::Measure;
+use session_state::progress::Progress;
 use words::slices;
 
 // Where the run starts, and how many checkpoint records are to be cleared after it. With 1 to 8 the run is over before it starts, and no record is cleared.
@@ -39,17 +39,14 @@ fn clear_tables(work: &mut [u32])
 }
 
 // The places of the atoms and the handles of the pairs go to work; the heads of the atoms' slots are zero, and from TOPS up to the parents all words.
-fn load_places(file: &[u8], tables: &mut [u32], rules: Rules, checked: Checked)
-    requires { (Passed (limits_of rules.version) file.now (the_file rules file.now) checked) × (WORK ≤ length tables.old) }
-    ensures { Placed file.now (the_file rules file.now) tables.new }
+fn load_places(file: &[u8], tables: &mut [u32], checked: Checked)
+    requires { (Passed file.now (the_file file.now) checked) × (WORK ≤ length tables.old) }
+    ensures { Placed file.now (the_file file.now) tables.new }
 {
     clear_tables(tables);
-    let version = rules.version;
-    let l = limits::limits_of(version);
     file_parts::load_atoms(
         file,
         &mut tables[work_layout::ATOMS..work_layout::PAIRS],
-        l.count_bytes,
         checked.atoms,
     );
     file_parts::load_pairs(
@@ -61,20 +58,20 @@ fn load_places(file: &[u8], tables: &mut [u32], rules: Rules, checked: Checked)
 }
 
 // The tables of the file go to work; from TOPS up to the parents all words are zero.
-fn open(file: &[u8], work: &mut [u32], rules: Rules, checked: Checked)
-    requires { (Passed (limits_of rules.version) file.now (the_file rules file.now) checked) × (WORK ≤ length work.old) }
-    ensures { Opened file.now (the_file rules file.now) work.new }
+fn open(file: &[u8], work: &mut [u32], checked: Checked)
+    requires { (Passed file.now (the_file file.now) checked) × (WORK ≤ length work.old) }
+    ensures { Opened file.now (the_file file.now) work.new }
 {
-    load_places(file, work, rules, checked);
+    load_places(file, work, checked);
     file_tables::load_firsts(work, file, checked.atoms as usize);
     work[work_layout::ATOM_COUNT] = checked.atoms;
     work[work_layout::PAIR_COUNT] = checked.pairs;
     work[work_layout::SENTINEL] = checked.sentinel;
 }
 
-// The start of the steps, which stand from this place of the file on; whether one of them forgets or quotes; the rules of the call.
-fn start_at(rules: Rules, at: usize, forgets: bool) -> Progress
-    ensures { result ≡ start_at rules at forgets }
+// The start of the steps, which stand from this place of the file on; whether one of them forgets or quotes; the measure of a path.
+fn start_at(measure: Measure, at: usize, forgets: bool) -> Progress
+    ensures { result ≡ start_at measure at forgets }
 {
     let counts = write_counts::none();
     Progress {
@@ -89,44 +86,42 @@ fn start_at(rules: Rules, at: usize, forgets: bool) -> Progress
         done: false,
         forgets,
         quoted: false,
-        rules,
+        measure,
     }
 }
 
 // The call ends with this number.
-fn refused(rules: Rules, number: u32) -> Begun
-    ensures { result ≡ record { start = refused_with rules number; records = 0 } }
+fn refused(measure: Measure, number: u32) -> Begun
+    ensures { result ≡ record { start = refused_with measure number; records = 0 } }
 {
-    let mut start = start_at(rules, 0, false);
+    let mut start = start_at(measure, 0, false);
     start.number = number;
     start.done = true;
     Begun { start, records: 0 }
 }
 
 // The steps come next, from this place of the file on.
-fn started(rules: Rules, at: usize, forgets: bool, records: usize) -> Begun
-    ensures { result ≡ record { start = start_at rules at forgets; records = records } }
+fn started(measure: Measure, at: usize, forgets: bool, records: usize) -> Begun
+    ensures { result ≡ record { start = start_at measure at forgets; records = records } }
 {
-    let start = start_at(rules, at, forgets);
+    let start = start_at(measure, at, forgets);
     Begun { start, records }
 }
 
 // Questions 1 to 8, of so many words and checkpoint records. Where all get yes, the tables of the file are loaded.
-pub fn begin(file: &[u8], work: &mut [u32], words: usize, records: usize, rules: Rules) -> Begun
+pub fn begin(file: &[u8], work: &mut [u32], words: usize, records: usize, measure: Measure) -> Begun
     ensures { (Bytes file.now)
-        × (Begins rules file.now work.old words records work.new result
-        (asked rules file.now (length work.old) words records)) }
+        × (Begins measure file.now work.old words records work.new result
+        (asked file.now (length work.old) words records)) }
 {
-    let version = rules.version;
-    let l = limits::limits_of(version);
-    if !session_lengths::long_enough(l.work_words, work.len(), words, records) {
-        return refused(rules, 1);
+    if !session_lengths::long_enough(work.len(), words, records) {
+        return refused(measure, 1);
     }
-    let checked = file_check::check(file, version);
+    let checked = file_check::check(file);
     if checked.number != 0 {
-        return refused(rules, checked.number);
+        return refused(measure, checked.number);
     }
-    open(file, work, rules, checked);
+    open(file, work, checked);
     let forgets = file_parts::has_forget(file, checked.steps_at);
-    started(rules, checked.steps_at, forgets, records)
+    started(measure, checked.steps_at, forgets, records)
 }

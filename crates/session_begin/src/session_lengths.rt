@@ -2,11 +2,11 @@
 ghost use Rattle.std.specs.Prelude.{◌≡◌};
 ghost use Rattle.session_begin.specs.Lengths.{are_long};
 
-// Question 1, of the lengths of the slices, where `least` words of work are asked for: are they long enough?
-pub fn long_enough(least: usize, work: usize, words: usize, records: usize) -> bool
-    ensures { result ≡ are_long least work words records }
+// Question 1, of the lengths of the slices: are they long enough?
+pub fn long_enough(work: usize, words: usize, records: usize) -> bool
+    ensures { result ≡ are_long work words records }
 {
-    if work < least {
+    if work < words::WORK {
         return false;
     }
     if words < 3072 {

@@ -2,8 +2,7 @@
 use Rattle.std.specs.Prelude.{ℕ, suc, ◌<◌, ◌≡◌, Bool, List, map, take}
 use Rattle.std.proofs.Math.Option.{Option}
 use Rattle.words.specs.Lists.{All}
-use Rattle.limits.specs.Limits.{Limits}
-use Rattle.spec_session.specs.File.{File, Step, add, got, file}
+use Rattle.spec_session.specs.File.{File, Step, add, version_1, got, file}
 use Rattle.spec_session.specs.Unfold.{unfolded}
 use Rattle.spec_session.specs.Survivors.{survivors}
 use Rattle.spec_session.specs.Premises.{Apart, NoRestore, NoQuote, IfAny}
@@ -30,8 +29,8 @@ Claimed f r P =
     × ((handles : List ℕ) → f.steps ≡ map add handles → (k : ℕ) → k < r.answer.steps → Finished r.slices.words k
     → Apart (map (unfolded f) (take (suc k) handles)) → P (take (suc k) handles) k (nth (map add handles) (suc k)))
 
--- DEMAND 3, of the result r of a call with these bytes, by these limits and this measure of a path: reading the finished bytes, by the version's reading call, gives
--- the plain filling's whole tree, references stand exactly where the search rules put them, and all else that `ReadBack` says.
-abbrev pub ReadsBack : Limits → (measure : List Bool → ℕ) → (input : List ℕ) → Result Checkpoint → Type 0
-ReadsBack l measure input r =
-    (f : File) (rest : List ℕ) → file l input ≡ got f rest → Claimed f r (λ handles k next. ReadBack measure l f handles k next r)
+-- DEMAND 3, of the result r of a call with these bytes, by this measure of a path: reading the finished bytes gives the plain filling's whole tree, references stand exactly where the
+-- search rules put them, and all else that `ReadBack` says.
+abbrev pub ReadsBack : (measure : List Bool → ℕ) → (input : List ℕ) → Result Checkpoint → Type 0
+ReadsBack measure input r =
+    (f : File) (rest : List ℕ) → file version_1 input ≡ got f rest → Claimed f r (λ handles k next. ReadBack measure version_1 f handles k next r)

@@ -1,19 +1,16 @@
-// The session calls: a session file is checked, its tables are loaded, and its steps are run. They differ in the version of the file, and in the measure of a
-// found path.
+// The session calls: a session file is checked, its tables are loaded, and its steps are run. They differ in the measure of a found path.
 mod run_session;
 
 ghost use Rattle.std.specs.Prelude.{◌≡◌};
-ghost use Rattle.limits.specs.Limits.{version_1, version_2};
 ghost use Rattle.path.specs.Measure.{counted, documented};
+ghost use Rattle.spec_session.specs.File.{version_1};
 ghost use Rattle.spec_session.specs.Call.{session};
 ghost use Rattle.session_state.specs.Records.{blank};
 ghost use Rattle.session_call.specs.Outcome.{slices, result_of, ReadsBack};
 
-use limits::Version;
 use path::Measure;
 use session_answer::SessionAnswer;
 use session_state::Checkpoint;
-use session_state::progress::Rules;
 
 // A session file is run. The slices are lent: work, three words for each step, sixteen checkpoint records, and the output. A found path is measured by the
 // Rust's ranges.
@@ -28,14 +25,10 @@ pub extern "C" fn nikvoldra_session(
     ensures output_after { result_of result work.new words.new checkpoints.new output.new
         ≡ session blank version_1 counted file.now
         (slices work.old words.old checkpoints.old output.old) }
-    ensures reads_back { ReadsBack version_1 counted file.now
+    ensures reads_back { ReadsBack counted file.now
         (result_of result work.new words.new checkpoints.new output.new) }
 {
-    let rules = Rules {
-        version: Version::One,
-        measure: Measure::Counted,
-    };
-    run_session::run_session(file, work, words, checkpoints, output, rules)
+    run_session::run_session(file, work, words, checkpoints, output, Measure::Counted)
 }
 
 // The same, but a found path is measured as the documentation has it: a reference is written where it is no longer than what it stands for.
@@ -50,34 +43,8 @@ pub extern "C" fn nikvoldra_session_documented(
     ensures output_after { result_of result work.new words.new checkpoints.new output.new
         ≡ session blank version_1 documented file.now
         (slices work.old words.old checkpoints.old output.old) }
-    ensures reads_back { ReadsBack version_1 documented file.now
+    ensures reads_back { ReadsBack documented file.now
         (result_of result work.new words.new checkpoints.new output.new) }
 {
-    let rules = Rules {
-        version: Version::One,
-        measure: Measure::Documented,
-    };
-    run_session::run_session(file, work, words, checkpoints, output, rules)
-}
-
-// The same as the first, for version 2 of the file: counts and lengths of 32 bits, a file and an output of up to 1,048,576 bytes.
-#[unsafe(no_mangle)]
-pub extern "C" fn nikvoldra_session_v2(
-    file: &[u8],
-    work: &mut [u32],
-    words: &mut [u32],
-    checkpoints: &mut [Checkpoint],
-    output: &mut [u8],
-) -> SessionAnswer
-    ensures output_after { result_of result work.new words.new checkpoints.new output.new
-        ≡ session blank version_2 counted file.now
-        (slices work.old words.old checkpoints.old output.old) }
-    ensures reads_back { ReadsBack version_2 counted file.now
-        (result_of result work.new words.new checkpoints.new output.new) }
-{
-    let rules = Rules {
-        version: Version::Two,
-        measure: Measure::Counted,
-    };
-    run_session::run_session(file, work, words, checkpoints, output, rules)
+    run_session::run_session(file, work, words, checkpoints, output, Measure::Documented)
 }

@@ -8,8 +8,8 @@ use native.Mathlib.Omega.{arith}
 use lib.ListN.{length, take}
 use Rattle.write_place.proofs.Sizes.{size_written}
 use Rattle.session_state.specs.declared.checkpoints.Checkpoint.{Checkpoint}
-use Rattle.session_state.specs.declared.progress.Rules.{Rules}
-use Rattle.session_state.specs.State.{measure_by}
+use Rattle.path.specs.declared.Measure.{Measure}
+use Rattle.path.specs.Measure.{measure_of}
 use Rattle.spec_session.specs.File.{File}
 use Rattle.spec_session.specs.Steps.{State, Run, stop_at, run_steps}
 use Rattle.session_state.specs.declared.progress.Progress.{Progress}
@@ -19,7 +19,7 @@ use Rattle.session_state.specs.State.{whole_run, standing, after_words, Shows, U
 use Rattle.session_state.specs.Steps.{Onward}
 use Rattle.session_state.proofs.Runs.{words_ended}
 
-module _ (m : Rules) (input : List ℕ) (f : File) (w words : List ℕ) (rows : List Checkpoint) (out : List ℕ) (t : Progress) where
+module _ (m : Measure) (input : List ℕ) (f : File) (w words : List ℕ) (rows : List Checkpoint) (out : List ℕ) (t : Progress) where
   pub stands_on : t.done ≡ false → Underway m input f w words rows out t → Stands m input f w words rows out t t.done
   stands_on d u = subst (λ (b : Bool). Stands m input f w words rows out t b) (sym d) u
 
@@ -34,16 +34,16 @@ module _ (m : Rules) (input : List ℕ) (f : File) (w words : List ℕ) (rows : 
 
 module _ (input : List ℕ) (f : File) (w words out : List ℕ) (p : Progress) (c : Checkpoint) (none_open : p.quoted ≡ false) where
   -- The run from the session that is held, where no quote is open.
-  pub same-standing : (m : Rules) (rows : List Checkpoint) (u : Underway m input f w words rows out p)
-      → whole_run m f (length out) ≡ after_words p.steps (take (3 * p.steps) words) (run_steps (measure_by m) (length out) f u.left (standing u.past u.session))
+  pub same-standing : (m : Measure) (rows : List Checkpoint) (u : Underway m input f w words rows out p)
+      → whole_run m f (length out) ≡ after_words p.steps (take (3 * p.steps) words) (run_steps (measure_of m) (length out) f u.left (standing u.past u.session))
   same-standing m rows u =
       u.same
-      ∙ ap (λ (st : State). after_words p.steps (take (3 * p.steps) words) (run_steps (measure_by m) (length out) f u.left st))
+      ∙ ap (λ (st : State). after_words p.steps (take (3 * p.steps) words) (run_steps (measure_of m) (length out) f u.left st))
       (subst (λ (b : Bool). Shows m b f (length out) u.state u.past u.session) none_open u.shown)
 
   -- The run is over at a step.
-  over : (m : Rules) (rows : List Checkpoint) (u : Underway m input f w words rows out p) (n : ℕ)
-      → run_steps (measure_by m) (length out) f u.left (standing u.past u.session) ≡ stop_at n u.session → Ended m f words out (refused_at p n)
+  over : (m : Measure) (rows : List Checkpoint) (u : Underway m input f w words rows out p) (n : ℕ)
+      → run_steps (measure_of m) (length out) f u.left (standing u.past u.session) ≡ stop_at n u.session → Ended m f words out (refused_at p n)
   over m rows u n e =
       record {
         session = u.session;
@@ -57,8 +57,8 @@ module _ (input : List ℕ) (f : File) (w words out : List ℕ) (p : Progress) (
 
   -- The answer of a step that is refused, or of the end.
   pub stops : (n : ℕ) (a : StepAnswer) → a ≡ stopped_at p n c
-      → ((m : Rules) (rows : List Checkpoint) (u : Underway m input f w words rows out p)
-      → run_steps (measure_by m) (length out) f u.left (standing u.past u.session) ≡ stop_at n u.session)
+      → ((m : Measure) (rows : List Checkpoint) (u : Underway m input f w words rows out p)
+      → run_steps (measure_of m) (length out) f u.left (standing u.past u.session) ≡ stop_at n u.session)
       → Onward input f w words out p c w words out a
   stops n a is h =
       subst (λ (x : StepAnswer). Onward input f w words out p c w words out x) (sym is) (λ m rows u r. (over m rows u n (h m rows u), omega arith))

@@ -15,8 +15,8 @@ use Rattle.words.specs.Lists.{All}
 use Rattle.words.specs.Choice.{by_lt}
 use Rattle.session_state.specs.Records.{blank}
 use Rattle.session_state.specs.declared.checkpoints.Checkpoint.{Checkpoint}
-use Rattle.session_state.specs.declared.progress.Rules.{Rules}
-use Rattle.session_state.specs.State.{measure_by}
+use Rattle.path.specs.declared.Measure.{Measure}
+use Rattle.path.specs.Measure.{measure_of}
 use Rattle.spec_session.specs.File.{File, Step}
 use Rattle.spec_session.specs.Places.{StepsAt, StepNamed}
 use Rattle.spec_session.specs.Items.{size_of, references, prefix_bytes}
@@ -189,15 +189,15 @@ module _ (out out' : List ℕ) (long : length out' ≡ length out) where
 -- ---- a finished step
 
 -- The step's words are noted, and the run goes on at the next step.
-pub go_on : (m : Rules) (input : List ℕ) (f : File) (w words words' : List ℕ) (rows : List Checkpoint) (out : List ℕ) (q : Progress) (next : ℕ) (rest : List Step)
+pub go_on : (m : Measure) (input : List ℕ) (f : File) (w words words' : List ℕ) (rows : List Checkpoint) (out : List ℕ) (q : Progress) (next : ℕ) (rest : List Step)
     (past : List Session) (t : Session) (st : State) → At f w out q.opens q.depth q.counts q.finished t → Stocked input f w (q.steps + 1)
     → History f w out rows q.forgets (q.steps + 1) q.counts.size q.adds past t.cache
     → (q.forgets ≡ false → forgets rest ≡ false) → q.adds ≤ 16 → q.done ≡ false → StepsAt input next rest
     → All (StepNamed (length f.atoms) (length f.pairs)) rest → q.steps + 1 + length rest ≤ 1024 → 16 ≤ length rows → 3072 ≤ length words
     → (q.quoted ≡ true → q.forgets ≡ true) → Shows m q.quoted f (length out) st past t
-    → whole_run m f (length out) ≡ after_words q.steps (take (3 * q.steps) words) (with_words (words_of t) (run_steps (measure_by m) (length out) f rest st))
-    → words' ≡ noted_words words q → q.rules ≡ m → Underway m input f w words' rows out (noted_at q next)
-go_on m input f w words words' rows out q next rest past t st a s h known few goes there named left many_rows many_words saved shown run e ruled =
+    → whole_run m f (length out) ≡ after_words q.steps (take (3 * q.steps) words) (with_words (words_of t) (run_steps (measure_of m) (length out) f rest st))
+    → words' ≡ noted_words words q → q.measure ≡ m → Underway m input f w words' rows out (noted_at q next)
+go_on m input f w words words' rows out q next rest past t st a s h known few goes there named left many_rows many_words saved shown run e measured =
     record {
       left = rest;
       past = past;
@@ -216,12 +216,12 @@ go_on m input f w words words' rows out q next rest past t st a s h known few go
       quote_saved = saved;
       state = st;
       shown = shown;
-      rules_is = ruled;
+      measure_is = measured;
       same =
           run
-          ∙ ap (λ (vs : List ℕ). after_words q.steps (take (3 * q.steps) words) (with_words vs (run_steps (measure_by m) (length out) f rest st))) shown_words
-          ∙ words_noted words q.steps q.counts q.finished (run_steps (measure_by m) (length out) f rest st) (omega arith)
-          ∙ ap (λ (ws : List ℕ). after_words (q.steps + 1) (take (3 * (q.steps + 1)) ws) (run_steps (measure_by m) (length out) f rest st)) (sym e);
+          ∙ ap (λ (vs : List ℕ). after_words q.steps (take (3 * q.steps) words) (with_words vs (run_steps (measure_of m) (length out) f rest st))) shown_words
+          ∙ words_noted words q.steps q.counts q.finished (run_steps (measure_of m) (length out) f rest st) (omega arith)
+          ∙ ap (λ (ws : List ℕ). after_words (q.steps + 1) (take (3 * (q.steps + 1)) ws) (run_steps (measure_of m) (length out) f rest st)) (sym e);
     }
   where
     shown_words : words_of t ≡ told q.counts q.finished

@@ -23,7 +23,7 @@ refused_at p n =
       done = true;
       forgets = p.forgets;
       quoted = p.quoted;
-      rules = p.rules;
+      measure = p.measure;
     }
 
 -- A step is finished; the next one stands at `next`.
@@ -41,7 +41,7 @@ noted_at p next =
       done = p.done;
       forgets = p.forgets;
       quoted = p.quoted;
-      rules = p.rules;
+      measure = p.measure;
     }
 
 -- Another place of the writer, and another count of adds.
@@ -59,7 +59,7 @@ moved_to p q n b =
       done = false;
       forgets = p.forgets;
       quoted = false;
-      rules = p.rules;
+      measure = p.measure;
     }
 
 -- A quote is open, or none.
@@ -77,7 +77,7 @@ with_quote p b =
       done = p.done;
       forgets = p.forgets;
       quoted = b;
-      rules = p.rules;
+      measure = p.measure;
     }
 
 -- The progress after an add.

@@ -5,10 +5,9 @@ use Rattle.words.specs.Words.{at}
 use Rattle.words.specs.Lists.{All}
 use Rattle.session_state.specs.Records.{blank}
 use Rattle.session_state.specs.declared.checkpoints.Checkpoint.{Checkpoint}
-use Rattle.session_state.specs.declared.progress.Rules.{Rules}
+use Rattle.path.specs.declared.Measure.{Measure}
 use Rattle.path.specs.Measure.{measure_of}
-use Rattle.limits.specs.Limits.{limits_of}
-use Rattle.spec_session.specs.File.{File, Got, got, refused, Step, add, restore, forget, quote, take_quote, file}
+use Rattle.spec_session.specs.File.{File, Got, got, refused, Step, add, restore, forget, quote, take_quote, file, version_1}
 use Rattle.spec_session.specs.Places.{StepsAt, StepNamed}
 use Rattle.spec_session.specs.Items.{size_of, output}
 use Rattle.spec_session.specs.Cache.{Cache}
@@ -34,19 +33,13 @@ abbrev pub contents_of : Got File → File
 contents_of (got f rest) = f
 contents_of (refused n) = record { atoms = []; pairs = []; sentinel = none; steps = [] }
 
--- The measure of a path, by the rules of a call; the most bytes of output that are used; the file that the bytes are.
-abbrev pub measure_by : Rules → List Bool → ℕ
-measure_by m = measure_of m.measure
+-- The file that the bytes are.
+unfoldable pub the_file : List ℕ → File
+the_file input = contents_of (file version_1 input)
 
-abbrev pub output_most : Rules → ℕ
-output_most m = (limits_of m.version).output_bytes
-
-unfoldable pub the_file : Rules → List ℕ → File
-the_file m input = contents_of (file (limits_of m.version) input)
-
--- The run of its steps, by these rules and with so many bytes of output.
-unfoldable pub whole_run : Rules → File → (space : ℕ) → Run
-whole_run m f space = run_steps (measure_by m) space f f.steps at_start
+-- The run of its steps, by this measure of a path and with so many bytes of output.
+unfoldable pub whole_run : Measure → File → (space : ℕ) → Run
+whole_run m f space = run_steps (measure_of m) space f f.steps at_start
 
 abbrev pub standing : (past : List Session) → Session → State
 standing past s = record { now = s; past = past; quoted = none }
@@ -104,9 +97,9 @@ pub record History (f : File) (w out : List ℕ) (rows : List Checkpoint) (forge
 -- ---- an open quote
 
 -- The state st of the definitions, where a session and those before its adds are held. While a quote is open its add stands: held is what the taking leaves.
-abbrev pub Shows : Rules → (quoted : Bool) → File → (space : ℕ) → State → (past : List Session) → Session → Type 0
+abbrev pub Shows : Measure → (quoted : Bool) → File → (space : ℕ) → State → (past : List Session) → Session → Type 0
 Shows m false f space st past s = st ≡ standing past s
-Shows m true f space st past s = (run_step (measure_by m) space f take_quote st ≡ went (words_of s) (standing past s)) × (past ≡ st.past ++ st.now ∷ [])
+Shows m true f space st past s = (run_step (measure_of m) space f take_quote st ≡ went (words_of s) (standing past s)) × (past ≡ st.past ++ st.now ∷ [])
 
 -- ---- a run under way
 
@@ -117,7 +110,7 @@ pub record Stocked (input : List ℕ) (f : File) (w : List ℕ) (steps : ℕ) : 
   pub atoms_there : AtomsThere input f w
   pub room : Roomy w steps
 
-pub record Underway (m : Rules) (input : List ℕ) (f : File) (w words : List ℕ) (rows : List Checkpoint) (out : List ℕ) (p : Progress) : Type 0 where
+pub record Underway (m : Measure) (input : List ℕ) (f : File) (w words : List ℕ) (rows : List Checkpoint) (out : List ℕ) (p : Progress) : Type 0 where
   pub left : List Step
   pub past : List Session
   pub session : Session
@@ -137,20 +130,20 @@ pub record Underway (m : Rules) (input : List ℕ) (f : File) (w words : List �
   pub quote_saved : p.quoted ≡ true → p.forgets ≡ true
   pub state : State
   pub shown : Shows m p.quoted f (length out) state past session
-  pub rules_is : p.rules ≡ m
-  pub same : whole_run m f (length out) ≡ after_words p.steps (take (3 * p.steps) words) (run_steps (measure_by m) (length out) f left state)
+  pub measure_is : p.measure ≡ m
+  pub same : whole_run m f (length out) ≡ after_words p.steps (take (3 * p.steps) words) (run_steps (measure_of m) (length out) f left state)
 
 -- The run is over: no step is left, or one is refused.
-pub record Ended (m : Rules) (f : File) (words out : List ℕ) (p : Progress) : Type 0 where
+pub record Ended (m : Measure) (f : File) (words out : List ℕ) (p : Progress) : Type 0 where
   pub session : Session
   pub size_is : p.counts.size ≡ size_of session.written.items
   pub bytes_are : take p.counts.size out ≡ output session.written.items
-  pub short : length out ≤ 1048576
+  pub short : length out ≤ 65535
   pub few_steps : p.steps ≤ 1024
   pub many_words : 3072 ≤ length words
   pub same : whole_run m f (length out) ≡ record { words = take (3 * p.steps) words; steps = p.steps; number = p.number; last = session }
 
-abbrev pub Stands : (m : Rules) (input : List ℕ) (f : File) (w words : List ℕ) (rows : List Checkpoint) (out : List ℕ) (p : Progress) → Bool → Type 0
+abbrev pub Stands : (m : Measure) (input : List ℕ) (f : File) (w words : List ℕ) (rows : List Checkpoint) (out : List ℕ) (p : Progress) → Bool → Type 0
 Stands m input f w words rows out p true = Ended m f words out p
 Stands m input f w words rows out p false = Underway m input f w words rows out p
 

@@ -16,7 +16,7 @@ told c finished = (c.size * 2 + bit finished) ∷ c.references ∷ c.prefix_byte
 -- What the words of the step take: their room, and counts that fit.
 pub record Noting (words : List ℕ) (p : Progress) : Type 0 where
   pub room : 3 * p.steps + 3 ≤ length words
-  pub short : p.counts.size ≤ 1048576
+  pub short : p.counts.size ≤ 65535
   pub bounded : Bounded p.counts
   pub few_steps : p.steps < 1024
 

@@ -3,23 +3,15 @@ ghost use Rattle.std.specs.Prelude.{◌≡◌, ◌<◌};
 ghost use Rattle.session_state.specs.Moves.{refused_at, moved_to, after_outcome, counts_in, undone_at, stopped_at, with_quote, refusal_of};
 
 use crate::checkpoints::Checkpoint;
-use limits::Version;
 use path::Measure;
 use words::wide;
 use write_counts::Counts;
 use write_place::{Outcome, Place};
 
-// What a session call fixes: the version of the file, and the measure of a path.
-#[derive(Drop)]
-pub struct Rules {
-    pub version: Version,
-    pub measure: Measure,
-}
-
 // Where a session stands: the next step's place in the file, the finished steps, the adds on the present history, the open pairs, the depth of the stack,
 // what is counted of the items written, and whether the session is finished. The run is done at the end of the file, with number 0, or where a question
 // gets no. `forgets` says whether a step of the file is a forget or a quote: then each add saves the tree cache too. While a quote is open (`quoted`) its
-// add stands as the last one of the history, until it is taken or dropped. `rules` are those of the call, and stay.
+// add stands as the last one of the history, until it is taken or dropped. `measure` is that of the call, and stays.
 #[derive(Drop)]
 pub struct Progress {
     pub at: usize,
@@ -33,7 +25,7 @@ pub struct Progress {
     pub done: bool,
     pub forgets: bool,
     pub quoted: bool,
-    pub rules: Rules,
+    pub measure: Measure,
 }
 
 // After a step: where the session stands, and the checkpoint record to store.
@@ -58,7 +50,7 @@ fn moved(p: Progress, q: Place, adds: usize, finished: bool) -> Progress
     ensures { result ≡ moved_to p q adds finished }
 {
     let counts = q.counts;
-    let rules = p.rules;
+    let measure = p.measure;
     Progress {
         at: p.at,
         steps: p.steps,
@@ -71,7 +63,7 @@ fn moved(p: Progress, q: Place, adds: usize, finished: bool) -> Progress
         done: false,
         forgets: p.forgets,
         quoted: false,
-        rules,
+        measure,
     }
 }
 

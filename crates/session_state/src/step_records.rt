@@ -16,6 +16,9 @@ use write_counts::Counts;
 // The most adds on the present history.
 const ADDS: usize = 16;
 
+// The most bytes of output that are used.
+const OUTPUT: usize = 65535;
+
 // A number of a checkpoint record, or 0.
 pub fn within(n: usize) -> usize
     ensures { (result < 16) × (result ≡ low_slot n) }
@@ -53,7 +56,7 @@ pub fn record_of(work: &[u32], p: Progress) -> Checkpoint
 
 // A step's first word: the size times 2, and 1 more where the session is finished.
 fn word_of(size: usize, finished: bool) -> u32
-    requires { size ≤ 1048576 }
+    requires { size ≤ 65535 }
     ensures { result ≡ size * 2 + bit finished }
 {
     let twice = size as u32 * 2;
@@ -65,7 +68,7 @@ fn word_of(size: usize, finished: bool) -> u32
 
 // The words of a finished step are written.
 fn tell(words: &mut [u32], at: usize, counts: Counts, finished: bool)
-    requires { (at + 3 ≤ length words.old) × (counts.size ≤ 1048576) × (Bounded counts) }
+    requires { (at + 3 ≤ length words.old) × (counts.size ≤ 65535) × (Bounded counts) }
     ensures { words.new ≡ paste words.old at (told counts finished) 3 }
 {
     words[at] = word_of(counts.size, finished);
@@ -112,13 +115,13 @@ pub fn question(ended: bool, adds: usize) -> u32
     0
 }
 
-// The bytes of output that are used, at most `most`.
-pub fn space_of(output: &[u8], most: usize) -> usize
-    ensures { result ≡ min (length output.now) most }
+// The bytes of output that are used.
+pub fn space_of(output: &[u8]) -> usize
+    ensures { result ≡ min (length output.now) 65535 }
 {
     let n = output.len();
-    if n < most {
+    if n < OUTPUT {
         return n;
     }
-    most
+    OUTPUT
 }

@@ -13,8 +13,8 @@ use Rattle.words.specs.Words.{at}
 use Rattle.words.specs.Lists.{All}
 use Rattle.words.specs.Choice.{cond_true, clash}
 use Rattle.session_state.specs.declared.checkpoints.Checkpoint.{Checkpoint}
-use Rattle.session_state.specs.declared.progress.Rules.{Rules}
-use Rattle.session_state.specs.State.{measure_by}
+use Rattle.path.specs.declared.Measure.{Measure}
+use Rattle.path.specs.Measure.{measure_of}
 use Rattle.allocator.specs.Handle.{node_of}
 use Rattle.allocator.specs.declared.NodePtr.{NodePtr}
 use Rattle.spec_session.specs.File.{File, Step, named}
@@ -61,9 +61,9 @@ first_named : (b : Bool) (h : ℕ) (rest : List Step) (atoms pairs : ℕ) → Al
 first_named false h rest atoms pairs a = a.0
 first_named true h rest atoms pairs a = a.0
 
-pub adding : {rules : Rules} {input : List ℕ} {f : File} {w words : List ℕ} {rows : List Checkpoint} {out : List ℕ} {p : Progress} {h : ℕ} {rest : List Step}
-    (b : Bool) (u : Underway rules input f w words rows out p) → u.left ≡ add_of b h ∷ rest → p.finished ≡ false → p.adds < 16 → Adding input w out p h
-adding {rules} {input} {f} {w} {words} {rows} {out} {p} {h} {rest} b u e fin few =
+pub adding : {measure : Measure} {input : List ℕ} {f : File} {w words : List ℕ} {rows : List Checkpoint} {out : List ℕ} {p : Progress} {h : ℕ} {rest : List Step}
+    (b : Bool) (u : Underway measure input f w words rows out p) → u.left ≡ add_of b h ∷ rest → p.finished ≡ false → p.adds < 16 → Adding input w out p h
+adding {measure} {input} {f} {w} {words} {rows} {out} {p} {h} {rest} b u e fin few =
     let left : length u.left ≡ suc (length rest) = ap length e in
     record {
       places = u.stocked.places;
@@ -182,8 +182,8 @@ module _ {input w out : List ℕ} {p : Progress} {h : ℕ} (ad : Adding input w 
 
 -- ---- what an add leaves
 
-module _ {rules : Rules} {input : List ℕ} {f : File} {w words : List ℕ} {rows : List Checkpoint} {out : List ℕ} {p : Progress} {node : NodePtr} (b : Bool) (next : ℕ) {rest : List Step}
-    (u : Underway rules input f w words rows out p) (none_open : p.quoted ≡ false) (e : u.left ≡ add_of b node.0 ∷ rest) (there : StepsAt input next rest)
+module _ {measure : Measure} {input : List ℕ} {f : File} {w words : List ℕ} {rows : List Checkpoint} {out : List ℕ} {p : Progress} {node : NodePtr} (b : Bool) (next : ℕ) {rest : List Step}
+    (u : Underway measure input f w words rows out p) (none_open : p.quoted ≡ false) (e : u.left ≡ add_of b node.0 ∷ rest) (there : StepsAt input next rest)
     (fin : p.finished ≡ false) (few : p.adds < 16) {w' out' : List ℕ} {q : Progress} (a : Added input w out w' out' p node q) where
   abbrev h : ℕ
   h = node.0
@@ -219,10 +219,10 @@ module _ {rules : Rules} {input : List ℕ} {f : File} {w words : List ℕ} {row
   atoms₂ = atoms_kept w w₂ (low₂ ad a.saved_long a.saved a.updated) few_atoms input f u.stocked.tables u.stocked.atoms_there
 
   -- What was written, by the measure of the run.
-  resumed : Turns rules.measure input w₂ w' out out' (next_turn.Parse (place_at p) node) (ended a.outcome)
-  resumed = subst (λ (x : Rules). Turns x.measure input w₂ w' out out' (next_turn.Parse (place_at p) node) (ended a.outcome)) u.rules_is a.resumed
+  resumed : Turns measure input w₂ w' out out' (next_turn.Parse (place_at p) node) (ended a.outcome)
+  resumed = subst (λ (x : Measure). Turns x input w₂ w' out out' (next_turn.Parse (place_at p) node) (ended a.outcome)) u.measure_is a.resumed
 
-  meant : Leads rules.measure f c₂ (length out) w' out' (ended a.outcome) (goes_on rules.measure c₂ (length out) (writer.parse (unfolded f h) ∷ todo_of f w₂ p.opens) s.written)
+  meant : Leads measure f c₂ (length out) w' out' (ended a.outcome) (goes_on measure c₂ (length out) (writer.parse (unfolded f h) ∷ todo_of f w₂ p.opens) s.written)
   meant =
       resumed.leads f c₂ s.written tables₂ atoms₂
       (writes₂ ad a.saved_long a.saved a.updated f s.cache s.written u.stocked.tables u.present.writes)
@@ -291,17 +291,17 @@ module _ {rules : Rules} {input : List ℕ} {f : File} {w words : List ℕ} {row
 
   -- What the definitions' add comes to.
   abbrev outcome_of : Outcome → writer.Added
-  outcome_of o = settle s c₂ (comes_to rules.measure f c₂ (length out) w' (ended o) meant.last)
+  outcome_of o = settle s c₂ (comes_to measure f c₂ (length out) w' (ended o) meant.last)
 
-  adds : add_handle (measure_by rules) (length out') f h s ≡ outcome_of a.outcome
+  adds : add_handle (measure_of measure) (length out') f h s ≡ outcome_of a.outcome
   adds =
-      subst (λ (n : ℕ). add_handle (measure_by rules) n f h s ≡ outcome_of a.outcome) (sym a.out_long)
-      (add_settles rules (length out) f u.past s h (todo_of f w p.opens) _ waiting resumes)
+      subst (λ (n : ℕ). add_handle (measure_of measure) n f h s ≡ outcome_of a.outcome) (sym a.out_long)
+      (add_settles measure (length out) f u.past s h (todo_of f w p.opens) _ waiting resumes)
     where
-      resumes : writer.resume (find_in (measure_by rules)) (room_in (length out)) c₂ (writer.parse (unfolded f h) ∷ todo_of f w p.opens) s.written
-          ≡ comes_to rules.measure f c₂ (length out) w' (ended a.outcome) meant.last
+      resumes : writer.resume (find_in (measure_of measure)) (room_in (length out)) c₂ (writer.parse (unfolded f h) ∷ todo_of f w p.opens) s.written
+          ≡ comes_to measure f c₂ (length out) w' (ended a.outcome) meant.last
       resumes =
-          ap (λ (k : List Todo). writer.resume (find_in (measure_by rules)) (room_in (length out)) c₂ (writer.parse (unfolded f h) ∷ k) s.written)
+          ap (λ (k : List Todo). writer.resume (find_in (measure_of measure)) (room_in (length out)) c₂ (writer.parse (unfolded f h) ∷ k) s.written)
           (sym (todo₂ ad a.saved_long a.saved a.updated f))
           ∙ meant.same
 
@@ -309,14 +309,14 @@ module _ {rules : Rules} {input : List ℕ} {f : File} {w words : List ℕ} {row
   few_past = omega (arith, u.history.long)
 
   -- The run up to this add, and the add.
-  run : (r : writer.Added) → add_handle (measure_by rules) (length out') f h s ≡ r → whole_run rules f (length out')
-      ≡ after_words p.steps (take (3 * p.steps) words) (after_step (after_tried b h r (standing u.past s)) (λ t. run_steps (measure_by rules) (length out') f rest t))
+  run : (r : writer.Added) → add_handle (measure_of measure) (length out') f h s ≡ r → whole_run measure f (length out')
+      ≡ after_words p.steps (take (3 * p.steps) words) (after_step (after_tried b h r (standing u.past s)) (λ t. run_steps (measure_of measure) (length out') f rest t))
   run r q =
-      subst (λ (n : ℕ). whole_run rules f n ≡ after_words p.steps (take (3 * p.steps) words) (run_steps (measure_by rules) n f u.left (standing u.past s))) (sym a.out_long)
-      (same-standing input f w words out p (record_of w p) none_open rules rows u)
-      ∙ ap (λ (ss : List Step). after_words p.steps (take (3 * p.steps) words) (run_steps (measure_by rules) (length out') f ss (standing u.past s))) e
+      subst (λ (n : ℕ). whole_run measure f n ≡ after_words p.steps (take (3 * p.steps) words) (run_steps (measure_of measure) n f u.left (standing u.past s))) (sym a.out_long)
+      (same-standing input f w words out p (record_of w p) none_open measure rows u)
+      ∙ ap (λ (ss : List Step). after_words p.steps (take (3 * p.steps) words) (run_steps (measure_of measure) (length out') f ss (standing u.past s))) e
       ∙ ap (λ (y : Run). after_words p.steps (take (3 * p.steps) words) y)
-      (run_add rules (length out') f u.past s b h rest (todo_of f w p.opens) r waiting few_past q)
+      (run_add measure (length out') f u.past s b h rest (todo_of f w p.opens) r waiting few_past q)
 
   long₂ : length w' ≡ length w₂
   long₂ = a.long ∙ sym a.updated_long
@@ -358,29 +358,29 @@ module _ {rules : Rules} {input : List ℕ} {f : File} {w words : List ℕ} {row
   many = omega (arith, length_set rows p.adds (record_of w p), u.many_rows)
 
   going : (pl : Place) (end : Bool) (k : Option (List Todo)) → At f w' out' pl.opens pl.depth pl.counts end (after k) → p.counts.size ≤ pl.counts.size
-      → add_handle (measure_by rules) (length out') f h s ≡ writer.added (after k) → (words' : List ℕ) → words' ≡ noted_words words (moved_to p pl (p.adds + 1) end)
-      → Underway rules input f w' words' rows' out' (noted_at (with_quote (moved_to p pl (p.adds + 1) end) b) next)
+      → add_handle (measure_of measure) (length out') f h s ≡ writer.added (after k) → (words' : List ℕ) → words' ≡ noted_words words (moved_to p pl (p.adds + 1) end)
+      → Underway measure input f w' words' rows' out' (noted_at (with_quote (moved_to p pl (p.adds + 1) end) b) next)
   going pl end k there-at longer is words' ws =
-      go_on rules input f w' words words' rows' out' (with_quote (moved_to p pl (p.adds + 1) end) b) next rest past' (after k) (tried rules (length out') f u.past s b h (after k))
+      go_on measure input f w' words words' rows' out' (with_quote (moved_to p pl (p.adds + 1) end) b) next rest past' (after k) (tried measure (length out') f u.past s b h (after k))
       there-at stocked (history pl.counts.size longer) known (omega arith) refl there named_rest few_rest many u.many_words saved_cache
-      (shows_tried rules (length out') f u.past s b h (todo_of f w p.opens) (after k) waiting few_past is)
+      (shows_tried measure (length out') f u.past s b h (todo_of f w p.opens) (after k) waiting few_past is)
       (run (writer.added (after k)) is
       ∙ ap (λ (r : Run). after_words p.steps (take (3 * p.steps) words) r)
-      (tried_went rules (length out') f u.past s b h (after k) (λ y. run_steps (measure_by rules) (length out') f rest y)))
-      ws u.rules_is
+      (tried_went measure (length out') f u.past s b h (after k) (λ y. run_steps (measure_of measure) (length out') f rest y)))
+      ws u.measure_is
 
-  on : (o : Outcome) → Fine w' out' (ended o) → WritesTo o → p.counts.size ≤ (place_of (ended o)).counts.size → add_handle (measure_by rules) (length out') f h s ≡ outcome_of o
+  on : (o : Outcome) → Fine w' out' (ended o) → WritesTo o → p.counts.size ≤ (place_of (ended o)).counts.size → add_handle (measure_of measure) (length out') f h s ≡ outcome_of o
       → (after_outcome p o).done ≡ false → (words' : List ℕ)
       → words' ≡ noted_words words (after_outcome p o)
-      → Underway rules input f w' words' rows' out' (noted_at (with_quote (after_outcome p o) b) next)
+      → Underway measure input f w' words' rows' out' (noted_at (with_quote (after_outcome p o) b) next)
   on (outcome.Done pl) ends writes longer is d words' ws =
       going pl true none (record { running = ends.0; writes = writes; waiting = refl }) longer is words' ws
   on (outcome.Stopped pl) ends writes longer is d words' ws =
       going pl false (some (todo_of f w' pl.opens)) (record { running = ends; writes = writes; waiting = refl }) longer is words' ws
   on (outcome.Refused n pl) ends writes longer is d words' ws = clash cc
 
-  off : (o : Outcome) → WritesTo o → add_handle (measure_by rules) (length out') f h s ≡ outcome_of o → (after_outcome p o).done ≡ true
-      → Ended rules f words out' (refusal_of b p (after_outcome p o))
+  off : (o : Outcome) → WritesTo o → add_handle (measure_of measure) (length out') f h s ≡ outcome_of o → (after_outcome p o).done ≡ true
+      → Ended measure f words out' (refusal_of b p (after_outcome p o))
   off (outcome.Done pl) writes is d = clash cc
   off (outcome.Stopped pl) writes is d = clash cc
   off (outcome.Refused n pl) writes is d = go b (run _ is)
@@ -388,10 +388,10 @@ module _ {rules : Rules} {input : List ℕ} {f : File} {w words : List ℕ} {row
       t : Session
       t = after s.waiting
 
-      go : (c : Bool) → whole_run rules f (length out')
+      go : (c : Bool) → whole_run measure f (length out')
           ≡ after_words p.steps (take (3 * p.steps) words) (after_step (after_tried c h (writer.turned_down n t) (standing u.past s))
-          (λ y. run_steps (measure_by rules) (length out') f rest y))
-          → Ended rules f words out' (refusal_of c p (after_outcome p (outcome.Refused n pl)))
+          (λ y. run_steps (measure_of measure) (length out') f rest y))
+          → Ended measure f words out' (refusal_of c p (after_outcome p (outcome.Refused n pl)))
       go false to =
           record {
             session = t;
@@ -415,16 +415,16 @@ module _ {rules : Rules} {input : List ℕ} {f : File} {w words : List ℕ} {row
 
   -- An add that is not refused: its words are noted, and the run goes on.
   pub added_on : {words' : List ℕ} {t : Progress} → q.done ≡ false → words' ≡ noted_words words q → t ≡ noted_at (with_quote q b) next
-      → Underway rules input f w' words' (set rows (slot_for p.quoted u.left p.adds) (record_of w p)) out' t
+      → Underway measure input f w' words' (set rows (slot_for p.quoted u.left p.adds) (record_of w p)) out' t
   added_on {words'} {t} d ws is =
-      subst (λ (k : ℕ). Underway rules input f w' words' (set rows k (record_of w p)) out' t) (sym slot)
-      (subst (λ (x : Progress). Underway rules input f w' words' rows' out' x) (sym is)
+      subst (λ (k : ℕ). Underway measure input f w' words' (set rows k (record_of w p)) out' t) (sym slot)
+      (subst (λ (x : Progress). Underway measure input f w' words' rows' out' x) (sym is)
       (subst (λ (x : Progress). x.done ≡ false → words' ≡ noted_words words x
-      → Underway rules input f w' words' rows' out' (noted_at (with_quote x b) next)) (sym a.is)
+      → Underway measure input f w' words' rows' out' (noted_at (with_quote x b) next)) (sym a.is)
       (λ x y. on a.outcome a.resumed.fine meant.writes a.resumed.grows adds x words' y) d ws))
 
   -- A refused add ends the run, and keeps the whole items written; a refused quote keeps what was there before.
-  pub added_off : {t : Progress} → q.done ≡ true → t ≡ refusal_of b p q → Ended rules f words out' t
+  pub added_off : {t : Progress} → q.done ≡ true → t ≡ refusal_of b p q → Ended measure f words out' t
   added_off {t} d is =
-      subst (λ (x : Progress). Ended rules f words out' x) (sym is)
-      (subst (λ (x : Progress). x.done ≡ true → Ended rules f words out' (refusal_of b p x)) (sym a.is) (λ x. off a.outcome meant.writes adds x) d)
+      subst (λ (x : Progress). Ended measure f words out' x) (sym is)
+      (subst (λ (x : Progress). x.done ≡ true → Ended measure f words out' (refusal_of b p x)) (sym a.is) (λ x. off a.outcome meant.writes adds x) d)

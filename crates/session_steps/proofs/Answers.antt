@@ -10,7 +10,7 @@ use lib.ListN.{length, set}
 use borrow.Author.Tests.{ltb-true, ltb-false}
 use Rattle.words.specs.Choice.{clash}
 use Rattle.session_state.specs.declared.checkpoints.Checkpoint.{Checkpoint}
-use Rattle.session_state.specs.State.{measure_by}
+use Rattle.path.specs.Measure.{measure_of}
 use Rattle.allocator.specs.declared.NodePtr.{NodePtr}
 use Rattle.spec_session.specs.File.{File, Step}
 use Rattle.spec_session.specs.Places.{StepsAt}
@@ -52,16 +52,16 @@ module _ {input : List ℕ} {f : File} {w words out : List ℕ} {p : Progress} {
     (none_open : p.quoted ≡ false) where
   pub stops-at-end : {a : StepAnswer} → a ≡ stopped_at p 0 c → Comes input p.at next_step.End → Onward input f w words out p c w words out a
   stops-at-end {a} is comes =
-      stops input f w words out p c none_open 0 a is (λ rules rows u.
+      stops input f w words out p c none_open 0 a is (λ measure rows u.
       let e = comes u.left u.steps_there in
-      ap (λ (ss : List Step). run_steps (measure_by rules) (length out) f ss (standing u.past u.session)) e ∙ run_ends rules (length out) f u.past u.session)
+      ap (λ (ss : List Step). run_steps (measure_of measure) (length out) f ss (standing u.past u.session)) e ∙ run_ends measure (length out) f u.past u.session)
 
   -- A taking with no quote open.
   pub stops-17 : {next : ℕ} {a : StepAnswer} → a ≡ stopped_at p 17 c → Comes input p.at (next_step.Take next) → Onward input f w words out p c w words out a
   stops-17 {next} {a} is comes =
-      stops input f w words out p c none_open 17 a is (λ rules rows u.
+      stops input f w words out p c none_open 17 a is (λ measure rows u.
       let e = comes u.left u.steps_there in
-      ap (λ (ss : List Step). run_steps (measure_by rules) (length out) f ss (standing u.past u.session)) e.1 ∙ run_none_open rules (length out) f u.past u.session e.0)
+      ap (λ (ss : List Step). run_steps (measure_of measure) (length out) f ss (standing u.past u.session)) e.1 ∙ run_none_open measure (length out) f u.past u.session e.0)
 
   module _ (quotes : Bool) (node : NodePtr) (next : ℕ) (told : Comes input p.at (told_add quotes node next)) where
     -- The steps that are left begin with it.
@@ -75,19 +75,19 @@ module _ {input : List ℕ} {f : File} {w words out : List ℕ} {p : Progress} {
     -- Question 9.
     stops-9 : (a : StepAnswer) → a ≡ stopped_at p 9 c → p.finished ≡ true → Onward input f w words out p c w words out a
     stops-9 a is fin =
-        stops input f w words out p c none_open 9 a is (λ rules rows u.
+        stops input f w words out p c none_open 9 a is (λ measure rows u.
         let e = comes u.left u.steps_there in
-        ap (λ (ss : List Step). run_steps (measure_by rules) (length out) f ss (standing u.past u.session)) e.1
-        ∙ run_finished rules (length out) f u.past u.session quotes node.0 e.0
+        ap (λ (ss : List Step). run_steps (measure_of measure) (length out) f ss (standing u.past u.session)) e.1
+        ∙ run_finished measure (length out) f u.past u.session quotes node.0 e.0
         (u.present.waiting ∙ ap (λ (b : Bool). waits b (todo_of f w p.opens)) fin))
 
     -- Question 10.
     stops-10 : (a : StepAnswer) → a ≡ stopped_at p 10 c → p.finished ≡ false → 16 ≤ p.adds → Onward input f w words out p c w words out a
     stops-10 a is fin full =
-        stops input f w words out p c none_open 10 a is (λ rules rows u.
+        stops input f w words out p c none_open 10 a is (λ measure rows u.
         let e = comes u.left u.steps_there in
-        ap (λ (ss : List Step). run_steps (measure_by rules) (length out) f ss (standing u.past u.session)) e.1
-        ∙ run_full rules (length out) f u.past u.session quotes node.0 e.0 (todo_of f w p.opens)
+        ap (λ (ss : List Step). run_steps (measure_of measure) (length out) f ss (standing u.past u.session)) e.1
+        ∙ run_full measure (length out) f u.past u.session quotes node.0 e.0 (todo_of f w p.opens)
         (u.present.waiting ∙ ap (λ (b : Bool). waits b (todo_of f w p.opens)) fin) (omega (arith, u.history.long)))
 
     -- Both questions.
@@ -117,7 +117,7 @@ module _ {input : List ℕ} {f : File} {w words out : List ℕ} {p : Progress} {
         same-steps = ap (λ (x : Progress). x.steps) ad.is ∙ steps-same ad.outcome
 
         fits : (o : Outcome) → Fine w' out' (ended_at o) → (after_outcome p o).done ≡ false
-            → ((after_outcome p o).counts.size ≤ 1048576) × Bounded (after_outcome p o).counts
+            → ((after_outcome p o).counts.size ≤ 65535) × Bounded (after_outcome p o).counts
         fits (outcome.Done pl) r d = (omega (arith, r.0.fits, r.0.short), r.0.bounded)
         fits (outcome.Stopped pl) r d = (omega (arith, r.fits, r.short), r.bounded)
         fits (outcome.Refused n pl) r d = clash cc
@@ -127,18 +127,18 @@ module _ {input : List ℕ} {f : File} {w words out : List ℕ} {p : Progress} {
             let u = ready.underway in
             let e = comes u.left u.steps_there in
             let l : length u.left ≡ suc (length e.0) = ap length e.1 in
-            let z : (q.counts.size ≤ 1048576) × Bounded q.counts =
-            subst (λ (x : Progress). x.done ≡ false → (x.counts.size ≤ 1048576) × Bounded x.counts) (sym ad.is) (fits ad.outcome ad.resumed.fine) d in
+            let z : (q.counts.size ≤ 65535) × Bounded q.counts =
+            subst (λ (x : Progress). x.done ≡ false → (x.counts.size ≤ 65535) × Bounded x.counts) (sym ad.is) (fits ad.outcome ad.resumed.fine) d in
             subst (Noting words) (sym is)
             (record { room = omega (arith, u.few_steps, u.many_words, same-steps); short = z.0; bounded = z.1; few_steps = omega (arith, u.few_steps, same-steps) })
 
         -- A refused add.
         pub adds-off : (saved : Checkpoint) {t : Progress} → q.done ≡ true → t ≡ refusal_of quotes p q
             → Onward input f w words out p c w' words out' (record { state = t; saved = saved })
-        adds-off saved {t} d is rules rows u r-is =
+        adds-off saved {t} d is measure rows u r-is =
             let e = comes u.left u.steps_there in
             let r = refused-so quotes in (
-              stands-off rules input f w' words (set rows (slot_for p.quoted u.left p.adds) saved) out' t (ap (λ (x : Progress). x.done) is ∙ r.0)
+              stands-off measure input f w' words (set rows (slot_for p.quoted u.left p.adds) saved) out' t (ap (λ (x : Progress). x.done) is ∙ r.0)
                   (added_off quotes next u none_open e.1 e.2 free.0 free.1 ad d is),
               omega (arith, ap (λ (x : Progress). x.steps) is, r.1, ap (λ (x : Progress). bit x.done) is, ap bit r.0, bit-most (not p.quoted)),
             )
@@ -151,14 +151,14 @@ module _ {input : List ℕ} {f : File} {w words out : List ℕ} {p : Progress} {
         pub adds_on : {words' : List ℕ} {saved : Checkpoint} {t : Progress} → saved ≡ record_of w p → q.done ≡ false
             → {k : Progress} → k ≡ with_quote q quotes → words' ≡ noted_words words k → t ≡ noted_at k next
             → Onward input f w words out p c w' words' out' (record { state = t; saved = saved })
-        adds_on {words'} {saved} {t} sv d {k} kept ws is rules rows u r-is =
+        adds_on {words'} {saved} {t} sv d {k} kept ws is measure rows u r-is =
             let e = comes u.left u.steps_there in
             let is' : t ≡ noted_at (with_quote q quotes) next = is ∙ ap (λ (x : Progress). noted_at x next) kept in
             let ws' : words' ≡ noted_words words q =
             ws ∙ ap (λ (x : Progress). noted_words words x) kept in
             let s : t.steps ≡ q.steps + 1 = ap (λ (x : Progress). x.steps) is' in (
-              stands_on rules input f w' words' (set rows (slot_for p.quoted u.left p.adds) saved) out' t (ap (λ (x : Progress). x.done) is' ∙ d)
-                  (subst (λ (x : Checkpoint). Underway rules input f w' words' (set rows (slot_for p.quoted u.left p.adds) x) out' t) (sym sv)
+              stands_on measure input f w' words' (set rows (slot_for p.quoted u.left p.adds) saved) out' t (ap (λ (x : Progress). x.done) is' ∙ d)
+                  (subst (λ (x : Checkpoint). Underway measure input f w' words' (set rows (slot_for p.quoted u.left p.adds) x) out' t) (sym sv)
                   (added_on quotes next u none_open e.1 e.2 free.0 free.1 ad d ws' is')),
               omega (arith, same-steps, bit-most (not p.quoted)),
             )

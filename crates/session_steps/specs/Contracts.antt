@@ -49,7 +49,7 @@ pub record Added (input w out w' out' : List ℕ) (p : Progress) (node : NodePtr
   pub saved_long : length saved_words ≡ length w
   pub updated : Updated saved_words updated_words node.0
   pub updated_long : length updated_words ≡ length w
-  pub resumed : Turns p.rules.measure input updated_words w' out out' (next.Parse (place_at p) node) (ended outcome)
+  pub resumed : Turns p.measure input updated_words w' out out' (next.Parse (place_at p) node) (ended outcome)
   pub long : length w' ≡ length w
   pub out_long : length out' ≡ length out
   pub is : q ≡ after_outcome p outcome

@@ -4,7 +4,7 @@ pub mod run_steps;
 mod undo_step;
 
 ghost use Rattle.std.specs.Prelude.{◌≡◌, false, ◌<◌, take};
-ghost use Rattle.session_state.specs.State.{the_file, output_most};
+ghost use Rattle.session_state.specs.State.{the_file};
 ghost use Rattle.session_state.specs.Steps.{Comes, Ready, Onward};
 ghost use Rattle.write_place.specs.State.{Standing};
 ghost use Rattle.session_steps.specs.Contracts.{told_add, StateSaved, Adding, Added};
@@ -35,8 +35,7 @@ fn add(file: &[u8], work: &mut [u32], output: &mut [u8], p: Progress, node: Node
     save_state(work, p);
     cache_update::update(work, node);
     let counts = p.counts;
-    let rules = p.rules;
-    let measure = rules.measure;
+    let measure = p.measure;
     let place = Place {
         opens: p.opens,
         depth: p.depth,
@@ -59,9 +58,9 @@ fn add_step(
     next: usize,
     c: Checkpoint,
 ) -> StepAnswer
-    requires { (Ready file.now (the_file p.rules file.now) work.old words.old output.old p c) × (p.quoted ≡ false)
+    requires { (Ready file.now (the_file file.now) work.old words.old output.old p c) × (p.quoted ≡ false)
         × (Comes file.now p.at (told_add quotes node next)) }
-    ensures { Onward file.now (the_file p.rules file.now) work.old words.old
+    ensures { Onward file.now (the_file file.now) work.old words.old
         output.old p c work.new words.new output.new result }
 {
     let number = step_records::question(p.finished, p.adds);
@@ -91,8 +90,8 @@ pub fn core_step(
     p: Progress,
     c: Checkpoint,
 ) -> StepAnswer
-    requires { Ready file.now (the_file p.rules file.now) work.old words.old output.old p c }
-    ensures { Onward file.now (the_file p.rules file.now) work.old words.old
+    requires { Ready file.now (the_file file.now) work.old words.old output.old p c }
+    ensures { Onward file.now (the_file file.now) work.old words.old
         output.old p c work.new words.new output.new result }
 {
     if p.quoted {
@@ -116,7 +115,7 @@ pub fn core_step(
     }
 }
 
-// A step, with as many bytes of the output as the version uses.
+// A step, with the first 65,535 bytes of the output.
 pub fn bounded_step(
     work: &mut [u32],
     words: &mut [u32],
@@ -125,14 +124,11 @@ pub fn bounded_step(
     p: Progress,
     c: Checkpoint,
 ) -> StepAnswer
-    requires { Ready file.now (the_file p.rules file.now) work.old words.old (take (output_most p.rules) output.old) p c }
-    ensures { Onward file.now (the_file p.rules file.now) work.old words.old
-        (take (output_most p.rules) output.old) p c work.new words.new
-        (take (output_most p.rules) output.new) result }
+    requires { Ready file.now (the_file file.now) work.old words.old (take 65535 output.old) p c }
+    ensures { Onward file.now (the_file file.now) work.old words.old
+        (take 65535 output.old) p c work.new words.new
+        (take 65535 output.new) result }
 {
-    let rules = p.rules;
-    let version = rules.version;
-    let l = limits::limits_of(version);
-    let space = step_records::space_of(output, l.output_bytes);
+    let space = step_records::space_of(output);
     core_step(file, work, words, &mut output[..space], p, c)
 }

@@ -47,8 +47,8 @@ pub fn quoted_step(
     p: Progress,
     c: Checkpoint,
 ) -> StepAnswer
-    requires { (Ready file.now (the_file p.rules file.now) work.old words.old output.now p c) × (p.quoted ≡ true) }
-    ensures { Onward file.now (the_file p.rules file.now) work.old words.old
+    requires { (Ready file.now (the_file file.now) work.old words.old output.now p c) × (p.quoted ≡ true) }
+    ensures { Onward file.now (the_file file.now) work.old words.old
         output.now p c work.new words.new output.now result }
 {
     match file_parts::next_step(file, p.at) {

@@ -43,9 +43,9 @@ pub fn undo_step(
     next: usize,
     c: Checkpoint,
 ) -> StepAnswer
-    requires { (Ready file.now (the_file p.rules file.now) work.old words.old output.now p c) × (p.quoted ≡ false)
+    requires { (Ready file.now (the_file file.now) work.old words.old output.now p c) × (p.quoted ≡ false)
         × (Comes file.now p.at (told_undo forgets number next)) }
-    ensures { Onward file.now (the_file p.rules file.now) work.old words.old
+    ensures { Onward file.now (the_file file.now) work.old words.old
         output.now p c work.new words.new output.now result }
 {
     let n = number as usize;

@@ -1,5 +1,4 @@
--- The store's reader and the plain reader agree on every input of at most 2^25 bytes, whose pairs have numbers of 26 bits: the same refusal, or the same tree
--- and the same count of pairs.
+-- The store's reader and the plain reader agree on every input within the limit: the same refusal, or the same tree and the same count of pairs.
 use Rattle.std.specs.Prelude.{ℕ, ◌+◌, ◌-◌, ◌*◌, ◌^◌, ◌≤◌, ◌<◌, ◌≡◌, refl, Bool, true, false, List, [], ◌∷◌, ◌++◌, length, take, drop}
 use Rattle.std.proofs.Common.{sym, ap, ap₂, ◌∙◌, subst, append-nil, arith, length_append, get_or-append-add}
 use Rattle.std.proofs.Math.Option.{Option, none, some}
@@ -227,7 +226,7 @@ push_names : (s : Store) (vs : List Value) (ts : List Tree) (n : ℕ) (t : Tree)
 push_names s vs ts n t nt ns =
     (names_more s (add_ghost s) (node_of n) t (ghosts_only s (s.ghosts + 1)) nt, tt, all_more s (add_ghost s) vs ts (ghosts_only s (s.ghosts + 1)) ns)
 
-join_names : (used : ℕ) (ops : List ParseOp) (vs : List Value) (s : Store) (ts : List Tree) (made : ℕ) → used ≤ 2 ^ 25
+join_names : (used : ℕ) (ops : List ParseOp) (vs : List Value) (s : Store) (ts : List Tree) (made : ℕ) → used ≤ 65535
     → Agrees used (Cons ∷ ops) (record { values = vs; store = s }) (record { trees = ts; made = made })
     → NamesAll (join_values vs s).store (join_values vs s).values (join_trees ts) × (pair_count (join_values vs s).store + (join_values vs s).store.ghosts ≡ made + 2)
 join_names used ops [] s ts made m h = absurd h.sound.fits
@@ -244,7 +243,7 @@ join_names used ops (r ∷ l ∷ vs) s (tr ∷ tl ∷ ts) made m h = (
     u : Store
     u = (new_pair l.node r.node s).store
 
-agrees_join : (used : ℕ) (ops : List ParseOp) (s : Stored) (p : Plain) → used ≤ 2 ^ 25 → Agrees used (Cons ∷ ops) s p
+agrees_join : (used : ℕ) (ops : List ParseOp) (s : Stored) (p : Plain) → used ≤ 65535 → Agrees used (Cons ∷ ops) s p
     → Agrees used ops (store_values.join s) (plain_values.join p)
 agrees_join used ops s p m h =
     let j = join_names used ops s.values s.store p.trees p.made m h in
@@ -262,14 +261,14 @@ atom_names vs s ts b h low n none e = (
   omega arith,
 )
 
-agrees_atom : (used n : ℕ) (ops : List ParseOp) (b : List ℕ) (s : Stored) (p : Plain) → 1 ≤ n → length b ≤ n → used + n ≤ 2 ^ 25
+agrees_atom : (used n : ℕ) (ops : List ParseOp) (b : List ℕ) (s : Stored) (p : Plain) → 1 ≤ n → length b ≤ n → used + n ≤ 65535
     → Agrees used (SExp ∷ ops) s p → Agrees (used + n) ops (store_values.push_atom b s) (plain_values.push_atom b p)
 agrees_atom used n ops b s p one fit limit h =
     let a = atom_names s.values s.store p.trees b h.sound.holds (omega (arith, h.sound.atoms_bound)) h.named (fits_in_small_atom b) refl in
     record { sound = sound_atom used n ops b s one fit limit h.sound; named = a.0; counted = omega (arith, a.1, h.counted) }
 
 -- A path: both readers refuse it, or both go on.
-module _ (used n : ℕ) (ops : List ParseOp) (s : Stored) (p : Plain) (one : 1 ≤ n) (limit : used + n ≤ 2 ^ 25) (h : Agrees used (SExp ∷ ops) s p) where
+module _ (used n : ℕ) (ops : List ParseOp) (s : Stored) (p : Plain) (one : 1 ≤ n) (limit : used + n ≤ 65535) (h : Agrees used (SExp ∷ ops) s p) where
   push_agrees : (o : Option ℕ) (t : Stored) (q : Option Tree) → SoundOption (used + n) ops (push_led o t) → NamesAll t.store t.values p.trees
       → pair_count t.store + t.store.ghosts ≡ p.made → BothOrNone (NamesHandle t.store) o q → BothOrNone (Agrees (used + n) ops) (push_led o t) (found q p)
   push_agrees none t none k ns c r = tt
@@ -288,7 +287,7 @@ module _ (used n : ℕ) (ops : List ParseOp) (s : Stored) (p : Plain) (one : 1 �
       push_agrees (lead bits s.values s.store).node (lead bits s.values s.store).stored (follow bits (as_list p.trees))
       (sound_path used n ops s one limit h.sound (some bits)) l.all_named (k.relisted.total ∙ h.counted) l.leads
 
-agree_alike : (total : ℕ) → total ≤ 2 ^ 25 → Alike store_values plain_values Agrees total
+agree_alike : (total : ℕ) → total ≤ 65535 → Alike store_values plain_values Agrees total
 agree_alike total m =
     record {
       pair_alike = λ used ops s p limit h. record { sound = sound_pair used ops s h.sound; named = h.named; counted = h.counted };
@@ -297,7 +296,7 @@ agree_alike total m =
       join_alike = λ used ops s p limit h. agrees_join used ops s p (omega arith) h;
     }
 
-pub read_agrees : (input : List ℕ) → Bytes input → length input ≤ 2 ^ 25 → SameRead Agrees (length input) (read_stored input) (read_plain input)
+pub read_agrees : (input : List ℕ) → Bytes input → length input ≤ 65535 → SameRead Agrees (length input) (read_stored input) (read_plain input)
 read_agrees input bs m = read_same store_values plain_values Agrees input nothing_stored no_trees (agree_alike (length input) m) bs agrees_start
 
 -- ---- for the whole input
@@ -320,8 +319,8 @@ one_tree s (v ∷ []) (t ∷ []) e n = (t, refl, n.0)
 one_tree s (v ∷ []) (t ∷ u ∷ us) e n = absurd n.2
 one_tree s (v ∷ w ∷ vs) ts e n = absurd (omega arith)
 
--- On every such input the store's reader and the plain reader agree.
-pub readers_agree : (input : List ℕ) → Bytes input → length input ≤ 2 ^ 25 → ReadersAgree input
+-- On every input within the limit the store's reader and the plain reader agree.
+pub readers_agree : (input : List ℕ) → Bytes input → length input ≤ 65535 → ReadersAgree input
 readers_agree input bs m = both (read_stored input) (read_plain input) refl refl (read_agrees input bs m)
   where
     both : (x : Read Stored) (y : Read Plain) → read_stored input ≡ x → read_plain input ≡ y → SameRead Agrees (length input) x y → ReadersAgree input

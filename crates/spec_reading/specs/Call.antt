@@ -1,6 +1,5 @@
 -- The reading call: 01's questions 1 and 2, then 14 to 16 by the store's reader; the answer, and what each slice holds afterwards.
 use Rattle.std.specs.Prelude.{ℕ, ◌-◌, Bool, cond, ◌&&◌, List, [], ◌∷◌, ◌++◌, leb, length, replicate}
-use Rattle.limits.specs.Limits.{Limits}
 use Rattle.spec_reading.specs.Format.{Read, accepted, turned_down}
 use Rattle.spec_reading.specs.Store.{Value, Stored, pair_count, atom_count, read_stored}
 
@@ -67,14 +66,12 @@ after (accepted s) l =
     }
 
 -- Question 1: are the slices long enough?
-abbrev pub long_enough : Limits → Slices → Bool
-long_enough l s =
-    leb l.work_words (length s.work)
-    && (leb l.pair_words (length s.pairs) && (leb l.atom_words (length s.atoms) && leb l.store_bytes (length s.bytes)))
+abbrev pub long_enough : Slices → Bool
+long_enough l = leb 524288 (length l.work) && (leb 262144 (length l.pairs) && (leb 131072 (length l.atoms) && leb 65536 (length l.bytes)))
 
--- Question 2: is the input short enough? Questions 1 and 2 touch nothing. Over any limits; 01's are `version_1`.
-unfoldable pub reading : Limits → List ℕ → Slices → Result
-reading l input s =
-    cond (long_enough l s)
-    (cond (leb (length input) l.input_bytes) (after (read_stored input) s) (record { answer = refusal 2; slices = s }))
-    (record { answer = refusal 1; slices = s })
+-- Questions 1 and 2 touch nothing.
+unfoldable pub reading : List ℕ → Slices → Result
+reading input l =
+    cond (long_enough l)
+    (cond (leb (length input) 65535) (after (read_stored input) l) (record { answer = refusal 2; slices = l }))
+    (record { answer = refusal 1; slices = l })

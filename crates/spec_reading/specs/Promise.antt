@@ -1,13 +1,11 @@
 -- What the reading call promises of its result: the tree that the input stands for, or why there is none. The call's definition keeps it, for every input
 -- and all slices.
 -- Assumes nothing.
-use Rattle.std.specs.Prelude.{ℕ, ◌+◌, ◌-◌, ◌^◌, ◌≤◌, ◌<◌, ◌≡◌, true, false, List, [], ◌∷◌, leb, length, replicate}
+use Rattle.std.specs.Prelude.{ℕ, ◌+◌, ◌-◌, ◌≤◌, ◌<◌, ◌≡◌, true, false, List, [], ◌∷◌, leb, length, replicate}
 use Rattle.std.proofs.Math.Path.{refl}
-use Rattle.std.proofs.Common.{sym, ◌∙◌, subst, arith}
-use borrow.Author.Tests.{leb-true, leb-false, le-leb}
+use Rattle.std.proofs.Common.{sym, ◌∙◌, subst, leb-true, leb-false, le-leb}
 use Rattle.words.specs.Choice.{by_cond}
 use Rattle.words.specs.Lists.{Bytes}
-use Rattle.limits.specs.Limits.{Limits}
 use Rattle.spec_reading.specs.Tree.{Tree}
 use Rattle.spec_reading.specs.Grammar.{StandsFor}
 use Rattle.spec_reading.specs.Format.{accepted, turned_down}
@@ -30,17 +28,17 @@ pub record ReadAs (r : Result) (tree : Tree) : Type 0 where
   pub number : r.answer.number ≡ 0
   pub root : NamesHandle (store_in r) r.answer.root tree
 
--- What the result of a reading call with these limits and this input says, by its number.
-pub data ReadsPlainly (l : Limits) (input : List ℕ) (r : Result) : Type 0 where
+-- What the result of a reading call with this input says, by its number.
+pub data ReadsPlainly (input : List ℕ) (r : Result) : Type 0 where
   -- 0: the input stands for a tree, the root in the slices is that tree, and pairs and ghost pairs together are as many as the plain reader makes.
   a_tree : (tree : Tree) → StandsFor [] input tree → ReadAs r tree
-      → read_plain input ≡ accepted (record { trees = tree ∷ []; made = r.answer.pairs + r.answer.ghosts }) → ReadsPlainly l input r
+      → read_plain input ≡ accepted (record { trees = tree ∷ []; made = r.answer.pairs + r.answer.ghosts }) → ReadsPlainly input r
   -- 14, 15 or 16: the input stands for no tree, and the plain reader turns it down with this number.
   no_tree : 14 ≤ r.answer.number → r.answer.number ≤ 16 → ((tree : Tree) → StandsFor [] input tree → ⊥)
-      → read_plain input ≡ turned_down r.answer.number → ReadsPlainly l input r
+      → read_plain input ≡ turned_down r.answer.number → ReadsPlainly input r
   -- 1 or 2: the input was not read, since a slice is too short or the input too long.
-  too_short : r.answer.number ≡ 1 → long_enough l r.slices ≡ false → ReadsPlainly l input r
-  too_long : r.answer.number ≡ 2 → l.input_bytes < length input → ReadsPlainly l input r
+  too_short : r.answer.number ≡ 1 → long_enough r.slices ≡ false → ReadsPlainly input r
+  too_long : r.answer.number ≡ 2 → 65535 < length input → ReadsPlainly input r
 
 -- ---- the store in the slices
 
@@ -63,40 +61,37 @@ accepted_as s tree l named =
     }
 
 -- What the store's reader accepts, the call reads as the root's tree.
-pub read_as : (l : Limits) (input : List ℕ) (s : Stored) (tree : Tree) → length input ≤ l.input_bytes → read_stored input ≡ accepted s
-    → NamesHandle s.store (root_of s.values) tree → (lent : Slices) → long_enough l lent ≡ true → ReadAs (reading l input lent) tree
+pub read_as : (input : List ℕ) (s : Stored) (tree : Tree) → length input ≤ 65535 → read_stored input ≡ accepted s → NamesHandle s.store (root_of s.values) tree
+    → (l : Slices) → long_enough l ≡ true → ReadAs (reading input l) tree
 unfolding reading
-read_as l input s tree short got named lent long =
-    let few : leb (length input) l.input_bytes ≡ true = le-leb (length input) l.input_bytes short in
-    rw (long, few, got) (accepted_as s tree lent named)
+read_as input s tree short got named l long =
+    let few : leb (length input) 65535 ≡ true = le-leb (length input) 65535 short in
+    rw (long, few, got) (accepted_as s tree l named)
 
 -- ---- the promise
 
--- Over any limits whose input's pairs have numbers.
-module _ (l : Limits) (numbered : l.input_bytes ≤ 2 ^ 25) (input : List ℕ) (bytes : Bytes input) (lent : Slices) where
-  read_tree : (s : Stored) (p : Plain) → read_plain input ≡ accepted p → SameTree s p → ReadsPlainly l input (after (accepted s) lent)
+module _ (input : List ℕ) (bytes : Bytes input) (l : Slices) where
+  read_tree : (s : Stored) (p : Plain) → read_plain input ≡ accepted p → SameTree s p → ReadsPlainly input (after (accepted s) l)
   read_tree s p e same =
       let g = read_grammar input p bytes e in
       let lists : ◌≡◌ {A = List Tree} (g.0 ∷ []) (same.tree ∷ []) = sym g.1 ∙ same.only_tree in
       let one : g.0 ≡ same.tree = cc in
-      a_tree same.tree (subst (λ (t : Tree). StandsFor [] input t) one g.2) (accepted_as s same.tree lent same.root_named)
+      a_tree same.tree (subst (λ (t : Tree). StandsFor [] input t) one g.2) (accepted_as s same.tree l same.root_named)
       (e ∙ (λ i. accepted (record { trees = same.only_tree i; made = sym same.same_pairs i })))
 
-  read_in : length input ≤ 2 ^ 25 → ReadsPlainly l input (after (read_stored input) lent)
+  read_in : length input ≤ 65535 → ReadsPlainly input (after (read_stored input) l)
   read_in short = go (readers_agree input bytes short)
     where
-      go : ReadersAgree input → ReadsPlainly l input (after (read_stored input) lent)
+      go : ReadersAgree input → ReadsPlainly input (after (read_stored input) l)
       go (both_turned_down n e f) =
           let n_is = read_refusal plain_values input no_trees n f in
           rw e (no_tree n_is.0 n_is.1 (turned_down_none input n f) f)
       go (both_accepted s p e f same) = rw e (read_tree s p f same)
 
   -- THE PROMISE, of every input and all slices.
-  pub reads_plainly : ReadsPlainly l input (reading l input lent)
+  pub reads_plainly : ReadsPlainly input (reading input l)
   unfolding reading
   reads_plainly =
-      by_cond (ReadsPlainly l input) (long_enough l lent) _ _
-      (λ long.
-      by_cond (ReadsPlainly l input) (leb (length input) l.input_bytes) _ _ (λ e. read_in (omega (arith, leb-true (length input) l.input_bytes e)))
-      (λ e. too_long refl (leb-false _ _ e)))
+      by_cond (ReadsPlainly input) (long_enough l) _ _
+      (λ long. by_cond (ReadsPlainly input) (leb (length input) 65535) _ _ (λ e. read_in (leb-true _ _ e)) (λ e. too_long refl (leb-false _ _ e)))
       (λ e. too_short refl e)

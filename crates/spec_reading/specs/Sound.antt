@@ -216,7 +216,7 @@ below_holds v vs s h =
       words_known = h.words_known;
     }
 
-join_sound : (used : ℕ) (ops : List ParseOp) (vs : List Value) (s : Store) → used ≤ 2 ^ 25
+join_sound : (used : ℕ) (ops : List ParseOp) (vs : List Value) (s : Store) → used ≤ 65535
     → Sound used (Cons ∷ ops) (record { values = vs; store = s }) → Sound used ops (join_values vs s)
 join_sound used ops [] s m h = absurd h.fits
 join_sound used ops (v ∷ []) s m h = absurd h.fits
@@ -239,12 +239,12 @@ join_sound used ops (r ∷ l ∷ vs) s m h =
         new_pair_holds vs s l.node r.node (below_holds l vs s (below_holds r (l ∷ vs) s h.holds)) (omega (arith, h.pairs_bound))
         h.holds.values_known.1.0.node_known h.holds.values_known.0.node_known
 
-pub sound_join : (used : ℕ) (ops : List ParseOp) (s : Stored) → used ≤ 2 ^ 25 → Sound used (Cons ∷ ops) s → Sound used ops (store_values.join s)
+pub sound_join : (used : ℕ) (ops : List ParseOp) (s : Stored) → used ≤ 65535 → Sound used (Cons ∷ ops) s → Sound used ops (store_values.join s)
 sound_join used ops s m h = join_sound used ops s.values s.store m h
 
 -- ---- an atom
 
-module _ (used n : ℕ) (ops : List ParseOp) (b : List ℕ) (s : Stored) (some_byte : 1 ≤ n) (blob : length b ≤ n) (limit : used + n ≤ 2 ^ 25) (h : Sound used (SExp ∷ ops) s) where
+module _ (used n : ℕ) (ops : List ParseOp) (b : List ℕ) (s : Stored) (some_byte : 1 ≤ n) (blob : length b ≤ n) (limit : used + n ≤ 65535) (h : Sound used (SExp ∷ ops) s) where
   atom_sound : (o : Option ℕ) → fits_in_small_atom b ≡ o → Sound (used + n) ops (push_made (small_or_listed o b s.store) s.values)
   atom_sound (some v) e =
       record {
@@ -463,7 +463,7 @@ abbrev pub SoundOption : (used : ℕ) (ops : List ParseOp) → Option Stored →
 SoundOption used ops none = Unit {0}
 SoundOption used ops (some s) = Sound used ops s
 
-module _ (used n : ℕ) (ops : List ParseOp) (s : Stored) (some_byte : 1 ≤ n) (limit : used + n ≤ 2 ^ 25) (h : Sound used (SExp ∷ ops) s) where
+module _ (used n : ℕ) (ops : List ParseOp) (s : Stored) (some_byte : 1 ≤ n) (limit : used + n ≤ 65535) (h : Sound used (SExp ∷ ops) s) where
   push_led_sound : (o : Option ℕ) (t : Stored) → Relisted s.values s.store t.values t.store → KnownOption (pair_count t.store) (atom_count t.store) o
       → SoundOption (used + n) ops (push_led o t)
   push_led_sound none t r k = tt

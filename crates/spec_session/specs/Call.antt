@@ -1,8 +1,7 @@
 -- The session call of 01, whole: from the file's bytes and the lent slices to the answer and to what each slice holds afterwards, for every input.
 use Rattle.std.specs.Prelude.{ℕ, ◌*◌, min, Bool, cond, ◌&&◌, List, leb, length, replicate}
-use Rattle.limits.specs.Limits.{Limits}
 use Rattle.spec_reading.specs.Call.{zeroed, filled}
-use Rattle.spec_session.specs.File.{File, Got, got, refused, file}
+use Rattle.spec_session.specs.File.{File, Limits, Got, got, refused, file}
 use Rattle.spec_session.specs.Items.{size_of, output}
 use Rattle.spec_session.specs.Steps.{Run, at_start, run_steps}
 
@@ -31,7 +30,7 @@ untouched n s = record { answer = record { number = n; steps = 0; size = 0 }; sl
 abbrev pub long_enough : {C : Type 0} → Limits → Slices C → Bool
 long_enough l s = leb l.work_words (length s.work) && (leb (3 * l.steps) (length s.words) && leb 16 (length s.checkpoints))
 
--- The output, "of which at most 65,535 bytes are used"; in version 2, 1,048,576.
+-- The output, "of which at most 65,535 bytes are used".
 abbrev pub usable : {C : Type 0} → Limits → Slices C → ℕ
 usable l s = min (length s.output) l.output_bytes
 
@@ -57,6 +56,6 @@ module _ {C : Type 0} (blank : C) where
   after_file l measure (refused n) s = untouched n s
   after_file l measure (got f rest) s = after_run (run_steps measure (usable l s) f f.steps at_start) s
 
-  -- Over any limits and any measure of a found path. 01's are `version_1` and `counted`; 02's L6 has `documented`, and L8 `version_2`.
+  -- Over any limits and any measure of a found path. 01's are `version_1` and `counted`.
   unfoldable pub session : Limits → (measure : List Bool → ℕ) → (input : List ℕ) → Slices C → Result C
   session l measure input s = cond (long_enough l s) (after_file l measure (file l input) s) (untouched 1 s)

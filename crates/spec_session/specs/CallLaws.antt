@@ -4,10 +4,9 @@ use Rattle.std.specs.Prelude.{ℕ, ◌-◌, ◌≤◌, ◌<◌, ◌≡◌, Bool,
 use Rattle.std.proofs.Common.{sym, ap, arith, length_append, take_at}
 use Rattle.std.proofs.Math.ListN.{get_or_append}
 use Rattle.std.proofs.lemmas.List.{length_replicate}
-use Rattle.limits.specs.Limits.{Limits}
 use Rattle.words.specs.Words.{at}
 use Rattle.spec_reading.specs.Call.{filled}
-use Rattle.spec_session.specs.File.{File, Got, got, refused, file}
+use Rattle.spec_session.specs.File.{File, Limits, Got, got, refused, file}
 use Rattle.spec_session.specs.Steps.{at_start, run_steps}
 use Rattle.spec_session.specs.Call.{Slices, long_enough, usable, untouched, after_run, after_file, session}
 

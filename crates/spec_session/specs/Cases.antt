@@ -2,7 +2,6 @@
 use Rattle.std.specs.Prelude.{ℕ, ◌≡◌, refl, List, [], ◌∷◌, map, replicate}
 use Rattle.std.proofs.Common.{inl, inr, arith}
 use Rattle.std.proofs.Math.Option.{Option, none, some, bind}
-use Rattle.limits.specs.Limits.{version_1}
 use Rattle.words.specs.BigEndian.{big_endian, number_after}
 use Rattle.allocator.specs.Handle.{node_of, handle_of}
 use Rattle.allocator.specs.SmallAtom.{small_bytes, len_for_value, further_bytes, fits_in_small_atom, is_small_atom}
@@ -13,7 +12,7 @@ use Rattle.spec_reading.specs.Tree.{Tree, place, atom, cons}
 use Rattle.path.specs.Bytes.{path_bytes, octets}
 use Rattle.path.specs.Measure.{counted}
 use Rattle.spec_search.specs.Search.{walk, passes, search}
-use Rattle.spec_session.specs.File.{File, Step, got, add, restore, forget, quote, take_quote, file, atoms, pairs, steps}
+use Rattle.spec_session.specs.File.{File, Step, got, add, restore, forget, quote, take_quote, version_1, file, atoms, pairs, steps}
 use Rattle.spec_session.specs.Unfold.{unfolded}
 use Rattle.spec_session.specs.Filling.{plain_filling}
 use Rattle.spec_session.specs.Survivors.{survivors}

@@ -1,5 +1,4 @@
--- DEMAND 3 of the session calls: one claim about a whole file, a refused last step included, from one argument that takes the version's limits and the
--- measure of a path as given.
+-- DEMAND 3 of the session calls: one claim about a whole file, a refused last step included, from one argument that takes the measure of a path as given.
 -- No step that was taken is a `02`; the last one taken is no `04`, and its first word says finished. The adds that survive keep 01's premises. Then the reading call
 -- accepts the finished bytes, which are the first `size` bytes of the output at the end of the run, and gives a root whose tree is the plain filling's whole
 -- tree; the bytes are those of the items that the writer makes of the surviving adds, so references stand exactly where 01's search rules put them (`write`
@@ -11,9 +10,6 @@
 use Rattle.std.specs.Prelude.{ℕ, zero, suc, ◌+◌, ◌*◌, ◌%◌, ◌^◌, ◌≤◌, ◌<◌, ◌≡◌, refl, Bool, true, List, [], ◌∷◌, ◌++◌, map, length, take}
 use Rattle.std.proofs.Common.{sym, ap, ◌∙◌, subst, append-nil, append_assoc, arith}
 use Rattle.std.proofs.Math.Option.{Option, none, some}
-use Rattle.limits.specs.declared.Version.{Version}
-use Rattle.limits.specs.declared.Version.TheVariants.{One, Two}
-use Rattle.limits.specs.Limits.{Limits, version_1, version_2, limits_of, Meet, meet_of}
 use Rattle.words.specs.Lists.{All, Bytes}
 use Rattle.words.specs.Words.{at}
 use Rattle.spec_reading.specs.Tree.{Tree}
@@ -22,7 +18,7 @@ use Rattle.path.specs.declared.Measure.TheVariants.{Counted, Documented}
 use Rattle.path.specs.Measure.{counted, documented, measure_of}
 use Rattle.spec_reading.specs.Call as read
 use Rattle.spec_reading.specs.Promise.{ReadAs, read_as}
-use Rattle.spec_session.specs.File.{File, Step, add, got, file}
+use Rattle.spec_session.specs.File.{File, Step, add, Limits, version_1, got, file}
 use Rattle.spec_session.specs.Unfold.{unfolded}
 use Rattle.spec_session.specs.Filling.{plain_filling}
 use Rattle.spec_session.specs.Survivors.{survive, survivors}
@@ -62,8 +58,8 @@ pub record ReadBack {C : Type 0} (measure : List Bool → ℕ) (l : Limits) (f :
   pub is_whole : opens tree ≡ 0
   pub filling : plain_filling f handles ≡ tree
   pub stays : (more : List ℕ) → plain_filling f (handles ++ more) ≡ tree
-  -- The finished bytes, read by the version's reading call with any slices that pass its question 1, give that tree.
-  pub reads : (lent : read.Slices) → read.long_enough l lent ≡ true → ReadAs (read.reading l (take r.answer.size r.slices.output) lent) tree
+  -- The finished bytes, read with any slices that pass question 1, give that tree.
+  pub reads : (lent : read.Slices) → read.long_enough lent ≡ true → ReadAs (read.reading (take r.answer.size r.slices.output) lent) tree
   -- The items read as that tree too, and each reference takes at most as many bytes as its subtree in full.
   pub items_read : read_items made.written.items ≡ some tree
   pub no_longer : NoLonger made.written.items
@@ -114,8 +110,8 @@ nth_adds P p (h ∷ hs) (suc k) = nth_adds P p hs k
 
 -- ---- THE THEOREM
 
--- Over any limits that meet, and any measure that covers a path's atom.
-module _ {C : Type 0} (blank : C) (l : Limits) (meet : Meet l) (measure : List Bool → ℕ) (covers : Covers measure) where
+-- Over any limits whose atoms a prefix can carry and whose output the reading call takes, and any measure that covers a path's atom.
+module _ {C : Type 0} (blank : C) (l : Limits) (carried : l.file_bytes < 2 ^ 34) (most : l.output_bytes ≤ 65535) (measure : List Bool → ℕ) (covers : Covers measure) where
   -- The run of these steps on a fresh session, over the output of these slices.
   abbrev run_in : File → List Step → Slices C → Run
   run_in f steps s = run_steps measure (usable l s) f steps at_start
@@ -134,8 +130,7 @@ module _ {C : Type 0} (blank : C) (l : Limits) (meet : Meet l) (measure : List B
           let adds-are : add_all (find_in measure) (room_in (usable l s)) (map (unfolded f) (survivors (take (suc k) steps))) start ≡ added r.last =
           forget_survivors measure (usable l s) f (take (suc k) steps) m.reached no-02 m.walked ∙ ap added (sym m.last_is) in
           let b =
-          read_back_file l meet.carried measure covers (usable l s) (omega (arith, meet.taken, meet.numbered)) input bytes f rest file-is
-          (survivors (take (suc k) steps)) r.last apart adds-are m.is_finished in
+          read_back_file l carried measure covers (usable l s) (omega arith) input bytes f rest file-is (survivors (take (suc k) steps)) r.last apart adds-are m.is_finished in
           let size_is = output_size r.last.written.items in
           let front : take (size_of r.last.written.items) (read.filled s.output (output r.last.written.items)) ≡ output r.last.written.items =
           taken s.output (output r.last.written.items) (size_of r.last.written.items) size_is in
@@ -152,8 +147,8 @@ module _ {C : Type 0} (blank : C) (l : Limits) (meet : Meet l) (measure : List B
             filling = b.filled;
             stays = λ more. filling_stays f (survivors (take (suc k) steps)) more b.result b.is_whole b.filled;
             reads =
-                subst (λ (x : List ℕ). (lent : read.Slices) → read.long_enough l lent ≡ true → ReadAs (read.reading l x lent) b.result) (sym front)
-                (read_as l (output r.last.written.items) b.stored b.result (omega (arith, size_is, b.short, meet.taken)) b.reads b.root_named);
+                subst (λ (x : List ℕ). (lent : read.Slices) → read.long_enough lent ≡ true → ReadAs (read.reading x lent) b.result) (sym front)
+                (read_as (output r.last.written.items) b.stored b.result (omega (arith, size_is, b.short)) b.reads b.root_named);
             items_read = b.items_read;
             no_longer = b.no_longer;
             word = at_front s.words r.words (3 * k) (omega arith) ∙ m.word_is;
@@ -200,30 +195,23 @@ module _ {C : Type 0} (blank : C) (l : Limits) (meet : Meet l) (measure : List B
 
 -- ---- the session calls
 
--- Of either version, by either measure.
-pub demand_3_of : {C : Type 0} (blank : C) (v : Version) (m : Measure) → Demand3 blank (limits_of v) (measure_of m)
-demand_3_of blank v m = read_back_session blank (limits_of v) (meet_of v) (measure_of m) (measure_covers m)
+-- By either measure.
+pub demand_3_of : {C : Type 0} (blank : C) (m : Measure) → Demand3 blank version_1 (measure_of m)
+demand_3_of blank m = read_back_session blank version_1 (omega arith) (omega arith) (measure_of m) (measure_covers m)
 
-pub demand_3_adds_of : {C : Type 0} (blank : C) (v : Version) (m : Measure) → Demand3Adds blank (limits_of v) (measure_of m)
-demand_3_adds_of blank v m = read_back_adds blank (limits_of v) (meet_of v) (measure_of m) (measure_covers m)
+pub demand_3_adds_of : {C : Type 0} (blank : C) (m : Measure) → Demand3Adds blank version_1 (measure_of m)
+demand_3_adds_of blank m = read_back_adds blank version_1 (omega arith) (omega arith) (measure_of m) (measure_covers m)
 
 -- Of 01's call, which measures by the Rust's ranges.
 pub demand_3 : {C : Type 0} (blank : C) → Demand3 blank version_1 counted
-demand_3 blank = demand_3_of blank One Counted
+demand_3 blank = demand_3_of blank Counted
 
 pub demand_3_adds : {C : Type 0} (blank : C) → Demand3Adds blank version_1 counted
-demand_3_adds blank = demand_3_adds_of blank One Counted
+demand_3_adds blank = demand_3_adds_of blank Counted
 
 -- Of the call that measures by the documentation.
 pub demand_3_documented : {C : Type 0} (blank : C) → Demand3 blank version_1 documented
-demand_3_documented blank = demand_3_of blank One Documented
+demand_3_documented blank = demand_3_of blank Documented
 
 pub demand_3_documented_adds : {C : Type 0} (blank : C) → Demand3Adds blank version_1 documented
-demand_3_documented_adds blank = demand_3_adds_of blank One Documented
-
--- Of the call for version 2.
-pub demand_3_version_2 : {C : Type 0} (blank : C) → Demand3 blank version_2 counted
-demand_3_version_2 blank = demand_3_of blank Two Counted
-
-pub demand_3_version_2_adds : {C : Type 0} (blank : C) → Demand3Adds blank version_2 counted
-demand_3_version_2_adds blank = demand_3_adds_of blank Two Counted
+demand_3_documented_adds blank = demand_3_adds_of blank Documented

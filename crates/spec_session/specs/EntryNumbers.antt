@@ -2,8 +2,7 @@
 -- Assumes nothing.
 use Rattle.std.specs.Prelude.{ℕ, ◌≤◌, ◌<◌, ◌≡◌, Bool, List, [], ◌∷◌, ◌++◌, length, take}
 use Rattle.std.proofs.Common.{arith, length_append, length-take}
-use Rattle.limits.specs.Limits.{Limits, Small}
-use Rattle.spec_session.specs.File.{File, Step, add, got, file}
+use Rattle.spec_session.specs.File.{File, Step, add, Limits, got, file, version_1}
 use Rattle.spec_session.specs.FileLaws.{count_most, pairs_long, steps_most, parts_read}
 use Rattle.spec_session.specs.Cache.{Cache}
 use Rattle.spec_session.specs.Steps.{at_start, run_steps}
@@ -39,19 +38,22 @@ cache_after measure space f k = cache_of measure space f (take k f.steps)
 abbrev pub cache_within : (measure : List Bool → ℕ) → (space : ℕ) → File → (k handle : ℕ) → Cache
 cache_within measure space f k h = cache_of measure space f (take k f.steps ++ add h ∷ [])
 
--- Over any limits that the tables of a session are made for.
-module _ (l : Limits) (small : Small l) (input : List ℕ) (f : File) (rest : List ℕ) (passes : file l input ≡ got f rest) (measure : List Bool → ℕ) (space : ℕ) where
-  steps_entry_numbers : (steps : List Step) → length steps ≤ length f.steps → EntryNumbersFit (cache_of measure space f steps)
-  steps_entry_numbers steps few =
-      run_entry_numbers measure space f steps (omega (arith, small.few_pairs, file_pairs l input f rest passes))
-      (omega (arith, small.few_steps, adds_few steps, file_steps l input f rest passes))
+steps_entry_numbers : (input : List ℕ) (f : File) (rest : List ℕ) → file version_1 input ≡ got f rest → (measure : List Bool → ℕ) (space : ℕ) (steps : List Step)
+    → length steps ≤ length f.steps → EntryNumbersFit (cache_of measure space f steps)
+steps_entry_numbers input f rest passes measure space steps l =
+    run_entry_numbers measure space f steps (file_pairs version_1 input f rest passes)
+    (omega (arith, adds_few steps, file_steps version_1 input f rest passes))
 
-  -- For every file: whatever the input's bytes are, if they pass questions 2 to 8 as the file f, then after any number k of its steps there are at most 4,096
-  -- entries, each parent's entry number is below 4,096, and entry × 2 + position takes 16 bits. Over any measure of a path and any output.
-  pub file_entry_numbers : (k : ℕ) → EntryNumbersFit (cache_after measure space f k)
-  file_entry_numbers k = steps_entry_numbers (take k f.steps) (omega (arith, length-take k f.steps))
+-- For every file: whatever the input's bytes are, if they pass questions 2 to 8 as the file f, then after any number k of its steps there are at most 4,096
+-- entries, each parent's entry number is below 4,096, and entry × 2 + position takes 16 bits. Over any measure of a path and any output.
+pub file_entry_numbers : (input : List ℕ) (f : File) (rest : List ℕ) → file version_1 input ≡ got f rest → (measure : List Bool → ℕ) (space k : ℕ)
+    → EntryNumbersFit (cache_after measure space f k)
+file_entry_numbers input f rest passes measure space k =
+    steps_entry_numbers input f rest passes measure space (take k f.steps) (omega (arith, length-take k f.steps))
 
-  -- The same within a quote, at any of its steps.
-  pub quote_entry_numbers : (k handle : ℕ) → k < length f.steps → EntryNumbersFit (cache_within measure space f k handle)
-  quote_entry_numbers k h low =
-      steps_entry_numbers (take k f.steps ++ add h ∷ []) (omega (arith, length_append (take k f.steps) (add h ∷ []), length-take k f.steps))
+-- The same within a quote, at any of its steps.
+pub quote_entry_numbers : (input : List ℕ) (f : File) (rest : List ℕ) → file version_1 input ≡ got f rest → (measure : List Bool → ℕ) (space k handle : ℕ)
+    → k < length f.steps → EntryNumbersFit (cache_within measure space f k handle)
+quote_entry_numbers input f rest passes measure space k h l =
+    steps_entry_numbers input f rest passes measure space (take k f.steps ++ add h ∷ [])
+    (omega (arith, length_append (take k f.steps) (add h ∷ []), length-take k f.steps))

@@ -7,7 +7,6 @@ use Rattle.std.proofs.Math.Path.{ap}
 use Rattle.std.proofs.Math.Option.{none}
 use Rattle.std.proofs.Math.ListN.{take}
 use Rattle.std.proofs.lemmas.List.{length_replicate}
-use Rattle.limits.specs.Limits.{version_1}
 use Rattle.words.specs.Choice.{both_true}
 use Rattle.words.specs.BigEndian.{big_endian}
 use Rattle.words.specs.Words.{at}
@@ -21,6 +20,7 @@ use Rattle.spec_search.specs.Search.{walk, passes, search}
 use Rattle.spec_reading.specs.Tree.{Tree, place, atom, cons}
 use Rattle.spec_reading.specs.Call as read
 use Rattle.spec_reading.specs.Promise.{ReadAs}
+use Rattle.spec_session.specs.File.{version_1}
 use Rattle.spec_session.specs.Unfold.{unfolded}
 use Rattle.spec_session.specs.Cases.{foobar, whole_case, whole_file, whole_case_is, whole_states, whole_apart}
 use Rattle.spec_session.specs.Cache.{enter, update}
@@ -75,13 +75,12 @@ module _ {C : Type 0} (blank : C) (slices : Slices C) (long : long_enough versio
       demand_3_adds blank whole_case whole_bytes whole_file [] whole_case_is (1 ∷ 0x4000000 ∷ []) refl slices 1 (omega (arith, ap (λ a. a.steps) answer_is)) (omega (arith, word_1)) whole_apart
 
   -- Reading those ten bytes gives (foobar . foobar).
-  pub whole_read : (lent : read.Slices) → read.long_enough version_1 lent ≡ true → ReadAs (read.reading version_1 finished_bytes lent) (cons (atom foobar) (atom foobar))
+  pub whole_read : (lent : read.Slices) → read.long_enough lent ≡ true → ReadAs (read.reading finished_bytes lent) (cons (atom foobar) (atom foobar))
   whole_read lent enough =
       let read-are : take the_call.answer.size the_call.slices.output ≡ finished_bytes =
       ap (λ (a : Answer). take a.size the_call.slices.output) answer_is ∙ bytes_are in
-      subst (λ (bytes : List ℕ). ReadAs (read.reading version_1 bytes lent) (cons (atom foobar) (atom foobar))) read-are
-      (subst (λ (t : Tree). ReadAs (read.reading version_1 (take the_call.answer.size the_call.slices.output) lent) t)
-      (sym whole_back.filling ∙ ap (λ (ts : List Tree). get_or ts 2 place) whole_states)
+      subst (λ (bytes : List ℕ). ReadAs (read.reading bytes lent) (cons (atom foobar) (atom foobar))) read-are
+      (subst (λ (t : Tree). ReadAs (read.reading (take the_call.answer.size the_call.slices.output) lent) t) (sym whole_back.filling ∙ ap (λ (ts : List Tree). get_or ts 2 place) whole_states)
       (whole_back.reads lent enough))
 
 -- Such slices: of 01's least lengths, whatever they hold.

@@ -4,14 +4,13 @@ use Prim.Native.Nat.{ℕ, zero, suc, ◌+◌, ◌/◌, ◌%◌, ◌^◌, ◌<◌
 use Rattle.std.specs.Prelude.{◌≡◌, leb, length, take, drop}
 use Rattle.std.proofs.Common.{subst, arith, length-take, length_drop}
 use mathlib.Core.List.{List, [], ◌∷◌, ◌++◌, map}
-use Rattle.limits.specs.Limits.{Limits}
 use Rattle.spec_session.specs.FileLaws.{by_first, asked_of, got_value, got_rest, parts_read}
 use Rattle.words.specs.Lists.{All, all_append, all_take, all_drop, all_or, Bytes}
 use Rattle.words.specs.Choice.{by_cond}
 use Rattle.allocator.specs.Handle.{pair, node_of, node_of_kind, handle_of}
 use Rattle.allocator.specs.SmallAtom.{small_bytes, fits_in_small_atom}
 use Rattle.allocator.specs.SmallAtomLaws.{bytes_small_bytes, len_at_most, length_small_bytes}
-use Rattle.spec_session.specs.File.{File, Pair, got, asked, bytes_of, field, count, listed, atom, atoms, file}
+use Rattle.spec_session.specs.File.{File, Pair, Limits, got, asked, bytes_of, field, count, listed, atom, atoms, file}
 use Rattle.spec_session.specs.Unfold.{Unfolded, hole, leaf, node, is_sentinel, named_by, unfold_with, unfold_pairs, unfolded}
 use Rattle.spec_session.specs.Kept.{Leaves}
 use Rattle.spec_session.specs.Formed.{Atom}
@@ -66,22 +65,22 @@ bytes_parts n s b r h e =
 field_rest : (n : ℕ) (s : List ℕ) (v : ℕ) (r : List ℕ) → Atom s → field n s ≡ got v r → Atom r
 field_rest n s v r h e = by_first (bytes_of n s) _ v r e (λ b t i j. subst Atom (got_rest _ v t r j) (bytes_parts n s b t h i).1)
 
-atom_parts : (w most u : ℕ) (s b r : List ℕ) → Atom s → atom w most u s ≡ got b r → Atom b × Atom r
-atom_parts w most u s b r h e =
-    by_first (field w s) _ b r e (λ n t i j.
+atom_parts : (l : Limits) (u : ℕ) (s b r : List ℕ) → Atom s → atom l u s ≡ got b r → Atom b × Atom r
+atom_parts l u s b r h e =
+    by_first (field l.count_bytes s) _ b r e (λ n t i j.
     by_first (bytes_of n t) _ b r j (λ c v p q.
-    let g = (asked_of 6 (listed (fits_in_small_atom c)) (got c v) b r (asked_of 5 (leb (u + n) most) (asked 6 (listed (fits_in_small_atom c)) (got c v)) b r q).1).1 in
-    let parts = bytes_parts n t c v (field_rest w s n t h i) p in
+    let g = (asked_of 6 (listed (fits_in_small_atom c)) (got c v) b r (asked_of 5 (leb (u + n) l.atom_bytes) (asked 6 (listed (fits_in_small_atom c)) (got c v)) b r q).1).1 in
+    let parts = bytes_parts n t c v (field_rest l.count_bytes s n t h i) p in
     (subst Atom (got_value c b v r g) parts.0, subst Atom (got_rest c b v r g) parts.1)))
 
-atoms_parts : (w most n u : ℕ) (done : List (List ℕ)) (s : List ℕ) (xs : List (List ℕ)) (r : List ℕ) → All Atom done → Atom s
-    → atoms w most n u done s ≡ got xs r → All Atom xs
+atoms_parts : (l : Limits) (n u : ℕ) (done : List (List ℕ)) (s : List ℕ) (xs : List (List ℕ)) (r : List ℕ) → All Atom done → Atom s
+    → atoms l n u done s ≡ got xs r → All Atom xs
 unfolding atoms
-atoms_parts w most zero u done s xs r d h e = subst (All Atom) (got_value done xs s r e) d
-atoms_parts w most (suc n) u done s xs r d h e =
-    by_first (atom w most u s) _ xs r e (λ b t i j.
-    let p = atom_parts w most u s b t h i in
-    atoms_parts w most n (u + length b) (done ++ b ∷ []) t xs r (all_append Atom done (b ∷ []) d (p.0, tt)) p.1 j)
+atoms_parts l zero u done s xs r d h e = subst (All Atom) (got_value done xs s r e) d
+atoms_parts l (suc n) u done s xs r d h e =
+    by_first (atom l u s) _ xs r e (λ b t i j.
+    let p = atom_parts l u s b t h i in
+    atoms_parts l n (u + length b) (done ++ b ∷ []) t xs r (all_append Atom done (b ∷ []) d (p.0, tt)) p.1 j)
 
 count_rest : (w most : ℕ) (s : List ℕ) (v : ℕ) (r : List ℕ) → Atom s → count w most s ≡ got v r → Atom r
 count_rest w most s v r h e =
@@ -92,7 +91,7 @@ pub file_atoms : (l : Limits) (input : List ℕ) (f : File) (r : List ℕ) → A
 file_atoms l input f r h e =
     let p = parts_read l input f r e in
     let rest = count_rest l.count_bytes l.atoms (drop 5 input) p.atom_count p.at_atoms (part_drop 5 input h) p.atom_count_is in
-    atoms_parts l.count_bytes l.atom_bytes p.atom_count 0 [] p.at_atoms f.atoms p.at_pair_count tt rest p.atoms_are
+    atoms_parts l p.atom_count 0 [] p.at_atoms f.atoms p.at_pair_count tt rest p.atoms_are
 
 -- Over any limits that keep a file shorter than what a prefix can carry.
 pub read_atoms : (l : Limits) → l.file_bytes < 2 ^ 34 → (input : List ℕ) → Bytes input → (f : File) (r : List ℕ) → file l input ≡ got f r → All Atom f.atoms

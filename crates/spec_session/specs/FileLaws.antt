@@ -7,15 +7,14 @@ use Rattle.std.proofs.Math.Option.{Option, none, some}
 use Rattle.std.proofs.Math.ListN.{length_drop}
 use Rattle.std.proofs.Math.Seq.{drop-drop}
 use borrow.Author.Tests.{leb-true, ltb-true, eqb-true}
-use Rattle.limits.specs.Limits.{Limits}
 use Rattle.words.specs.Choice.{clash}
 use Rattle.words.specs.Words.{part}
 use Rattle.words.specs.BigEndian.{number}
 use Rattle.words.specs.Lists.{same}
 use Rattle.allocator.specs.Handle.{node_of}
 use Rattle.allocator.specs.SmallAtom.{fits_in_small_atom}
-use Rattle.spec_session.specs.File.{Got, got, refused, and_then, asked, bytes_of, field, count, listed, atom, atoms, named, handle}
-use Rattle.spec_session.specs.File.{Pair, one_pair, pairs, sentinel, Step, add, restore, forget, quote, take_quote, operand, one_step, steps, File, mark, after_mark, file}
+use Rattle.spec_session.specs.File.{Got, got, refused, and_then, asked, bytes_of, field, count, version_1, listed, atom, atoms, named, handle}
+use Rattle.spec_session.specs.File.{Pair, one_pair, pairs, sentinel, Step, add, restore, forget, quote, take_quote, operand, one_step, steps, File, Limits, mark, after_mark, file}
 use Rattle.spec_session.specs.Places.{SentinelNamed, StepIs, StepNamed, step_size}
 
 not_refused : {A : Type 0} (n : ℕ) (a : A) (r : List ℕ) → ◌≡◌ {A = Got A} (refused n) (got a r) → ⊥
@@ -94,13 +93,13 @@ module _ (input : List ℕ) where
       }
 
   -- An atom at a place was read.
-  pub record AtomAt (width most at used : ℕ) (b r : List ℕ) : Type 0 where
-    pub there : at + width + length b ≤ length input
-    pub size_is : number (part input at width) ≡ length b
-    pub is : part input (at + width) (length b) ≡ b
-    pub few : used + length b ≤ most
+  pub record AtomAt (at used : ℕ) (b r : List ℕ) : Type 0 where
+    pub there : at + 2 + length b ≤ length input
+    pub size_is : number (part input at 2) ≡ length b
+    pub is : part input (at + 2) (length b) ≡ b
+    pub few : used + length b ≤ 32768
     pub listed_is : fits_in_small_atom b ≡ none
-    pub rest_is : r ≡ drop (at + width + length b) input
+    pub rest_is : r ≡ drop (at + 2 + length b) input
 
   moved : (i j : ℕ) → i ≡ j → drop i input ≡ drop j input
   moved i j e = ap (λ (k : ℕ). drop k input) e
@@ -113,23 +112,23 @@ module _ (input : List ℕ) where
   listed_none none e = refl
   listed_none (some v) e = clash cc
 
-  pub atom_at : (width most : ℕ) → 1 ≤ width → (at used : ℕ) (b r : List ℕ) → atom width most used (drop at input) ≡ got b r → AtomAt width most at used b r
-  atom_at width most wide at used b r e =
-      let t = then_of (field width (drop at input)) _ b r e in
-      let f = field_at at width t.first t.rest t.first_is in
+  pub atom_at : (at used : ℕ) (b r : List ℕ) → atom version_1 used (drop at input) ≡ got b r → AtomAt at used b r
+  atom_at at used b r e =
+      let t = then_of (field 2 (drop at input)) _ b r e in
+      let f = field_at at 2 t.first t.rest t.first_is in
       let u = then_of (bytes_of t.first t.rest) _ b r t.then_is in
-      let n = bytes_at (at + width) t.first u.first u.rest (ap (bytes_of t.first) (sym f.rest_is) ∙ u.first_is) in
-      let five = asked_of 5 (leb (used + t.first) most) (asked 6 (listed (fits_in_small_atom u.first)) (got u.first u.rest)) b r u.then_is in
+      let n = bytes_at (at + 2) t.first u.first u.rest (ap (bytes_of t.first) (sym f.rest_is) ∙ u.first_is) in
+      let five = asked_of 5 (leb (used + t.first) 32768) (asked 6 (listed (fits_in_small_atom u.first)) (got u.first u.rest)) b r u.then_is in
       let six = asked_of 6 (listed (fits_in_small_atom u.first)) (got u.first u.rest) b r five.1 in
       let same : u.first ≡ b = got_value u.first b u.rest r six.1 in
-      let size : length b ≡ t.first = ap length (sym same ∙ n.is) ∙ part_size (at + width) t.first n.there in
+      let size : length b ≡ t.first = ap length (sym same ∙ n.is) ∙ part_size (at + 2) t.first n.there in
       record {
-        there = omega (arith, f.there, n.there, size, wide);
+        there = omega (arith, f.there, n.there);
         size_is = sym f.is ∙ sym size;
-        is = ap (part input (at + width)) size ∙ sym n.is ∙ same;
-        few = omega (arith, leb-true (used + t.first) most five.0);
+        is = ap (part input (at + 2)) size ∙ sym n.is ∙ same;
+        few = omega (arith, leb-true (used + t.first) 32768 five.0);
         listed_is = listed_none (fits_in_small_atom b) (ap (λ (x : List ℕ). listed (fits_in_small_atom x)) (sym same) ∙ six.0);
-        rest_is = sym (got_rest u.first b u.rest r six.1) ∙ n.rest_is ∙ ap (λ (k : ℕ). drop (at + width + k) input) (sym size);
+        rest_is = sym (got_rest u.first b u.rest r six.1) ∙ n.rest_is ∙ ap (λ (k : ℕ). drop (at + 2 + k) input) (sym size);
       }
 
   -- ---- handles
@@ -276,26 +275,25 @@ steps_most (suc n) a p most done (b ∷ s) xs r l e =
     by_first (one_step a p (length done) most (b ∷ s)) _ xs r e (λ x t i j.
     steps_most n a p most (done ++ x ∷ []) t xs r (omega (arith, (step_at (b ∷ s) a p (length done) most 0 x t i).few, length_append done (x ∷ []))) j)
 
--- ---- what is left of a file after each part, from its count of atoms on
+-- ---- what is left of a file of version 1 after each part, from its count of atoms on
 
 abbrev pub after_steps : List (List ℕ) → List Pair → Option ℕ → List Step → List ℕ → Got File
 after_steps xs ps z ss r = got (record { atoms = xs; pairs = ps; sentinel = z; steps = ss }) r
 
-module _ (l : Limits) where
-  abbrev pub after_sentinel : List (List ℕ) → List Pair → Option ℕ → List ℕ → Got File
-  after_sentinel xs ps z r = and_then (steps (length r) (length xs) (length ps) l.steps [] r) (after_steps xs ps z)
+abbrev pub after_sentinel : List (List ℕ) → List Pair → Option ℕ → List ℕ → Got File
+after_sentinel xs ps z r = and_then (steps (length r) (length xs) (length ps) 1024 [] r) (after_steps xs ps z)
 
-  abbrev pub after_pairs : List (List ℕ) → List Pair → List ℕ → Got File
-  after_pairs xs ps r = and_then (sentinel (length xs) (length ps) r) (after_sentinel xs ps)
+abbrev pub after_pairs : List (List ℕ) → List Pair → List ℕ → Got File
+after_pairs xs ps r = and_then (sentinel (length xs) (length ps) r) (after_sentinel xs ps)
 
-  abbrev pub after_pair_count : List (List ℕ) → ℕ → List ℕ → Got File
-  after_pair_count xs np r = and_then (pairs (length xs) np [] r) (after_pairs xs)
+abbrev pub after_pair_count : List (List ℕ) → ℕ → List ℕ → Got File
+after_pair_count xs np r = and_then (pairs (length xs) np [] r) (after_pairs xs)
 
-  abbrev pub after_atoms : List (List ℕ) → List ℕ → Got File
-  after_atoms xs r = and_then (count l.count_bytes l.pairs r) (after_pair_count xs)
+abbrev pub after_atoms : List (List ℕ) → List ℕ → Got File
+after_atoms xs r = and_then (count 2 1024 r) (after_pair_count xs)
 
-  abbrev pub after_atom_count : ℕ → List ℕ → Got File
-  after_atom_count na r = and_then (atoms l.count_bytes l.atom_bytes na 0 [] r) after_atoms
+abbrev pub after_atom_count : ℕ → List ℕ → Got File
+after_atom_count na r = and_then (atoms version_1 na 0 [] r) after_atoms
 
 -- ---- the parts of a file that passed questions 2 to 8, each read after the one before it
 
@@ -310,7 +308,7 @@ pub record PartsRead (l : Limits) (input : List ℕ) (f : File) : Type 0 where
   pub at_end : List ℕ
   pub short : length input ≤ l.file_bytes
   pub atom_count_is : count l.count_bytes l.atoms (drop 5 input) ≡ got atom_count at_atoms
-  pub atoms_are : atoms l.count_bytes l.atom_bytes atom_count 0 [] at_atoms ≡ got f.atoms at_pair_count
+  pub atoms_are : atoms l atom_count 0 [] at_atoms ≡ got f.atoms at_pair_count
   pub pair_count_is : count l.count_bytes l.pairs at_pair_count ≡ got pair_count at_pairs
   pub pairs_are : pairs (length f.atoms) pair_count [] at_pairs ≡ got f.pairs at_sentinel
   pub sentinel_is : sentinel (length f.atoms) (length f.pairs) at_sentinel ≡ got f.sentinel at_steps
@@ -322,7 +320,7 @@ parts_read l input f r e =
     let two = asked_of 2 (leb (length input) l.file_bytes) (asked 3 (same (take 5 input) (mark l)) (after_mark l (drop 5 input))) f r e in
     let three = asked_of 3 (same (take 5 input) (mark l)) (after_mark l (drop 5 input)) f r two.1 in
     by_first (count l.count_bytes l.atoms (drop 5 input)) _ f r three.1 (λ na s₁ i₁ e₁.
-    by_first (atoms l.count_bytes l.atom_bytes na 0 [] s₁) _ f r e₁ (λ xs s₂ i₂ e₂.
+    by_first (atoms l na 0 [] s₁) _ f r e₁ (λ xs s₂ i₂ e₂.
     by_first (count l.count_bytes l.pairs s₂) _ f r e₂ (λ np s₃ i₃ e₃.
     by_first (pairs (length xs) np [] s₃) _ f r e₃ (λ ps s₄ i₄ e₄.
     by_first (sentinel (length xs) (length ps) s₄) _ f r e₄ (λ z s₅ i₅ e₅.

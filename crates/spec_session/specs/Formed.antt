@@ -53,7 +53,7 @@ count_size (i ∷ items) n f = omega (arith, item_byte i n f.0, count_size items
 path_formed : (path : List Bool) → length path < 2 ^ 34 → length (path_bytes (path ++ true ∷ [])) < 2 ^ 34
 path_formed path h = let l : length (path ++ true ∷ []) ≡ length path + 1 = simp length_append (omega arith) in omega (arith, length_path_bytes (path ++ true ∷ []), l)
 
-module _ (n : ℕ) (few : n < 2 ^ 33) where
+module _ (n : ℕ) (few : n ≤ 65535) where
   item_formed : (i : Item) → Fine Atom n i → Formed i
   item_formed cons_item f = tt
   item_formed (atom_item a) f = encoded a f.0

@@ -4,7 +4,6 @@ pub mod UnfoldLaws
 pub mod Filling
 pub mod Places
 pub mod FileLaws
-pub mod LongAtoms
 pub mod Cache
 pub mod CacheLaws
 pub mod Items

@@ -5,13 +5,10 @@
 use Rattle.std.specs.Prelude.{ℕ, suc, ◌+◌, ◌*◌, ◌/◌, ◌^◌, ◌≤◌, ◌<◌, ◌≡◌, Bool, ◌≢◌, List, length, take}
 use Rattle.std.proofs.Common.{sym, ap, ◌∙◌, subst, arith}
 use Rattle.std.proofs.Math.Option.{Option, none, some}
-use Rattle.limits.specs.declared.Version.{Version}
-use Rattle.limits.specs.Limits.{Limits, limits_of, Meet, meet_of}
 use Rattle.words.specs.Lists.{All, Bytes}
 use Rattle.words.specs.Words.{at}
-use Rattle.path.specs.declared.Measure.{Measure}
-use Rattle.path.specs.Measure.{measure_of}
-use Rattle.spec_session.specs.File.{File, got, file}
+use Rattle.path.specs.Measure.{counted}
+use Rattle.spec_session.specs.File.{File, Limits, version_1, got, file}
 use Rattle.spec_session.specs.Premises.{NoQuote, IfAny}
 use Rattle.spec_session.specs.Items.{size_of, output}
 use Rattle.spec_session.specs.Output.{output_size}
@@ -41,8 +38,8 @@ halved s = go s.waiting
     go none = omega arith
     go (some k) = omega arith
 
--- Over any limits that meet, and any measure.
-module _ {C : Type 0} (blank : C) (l : Limits) (meet : Meet l) (measure : List Bool → ℕ) where
+-- Over any limits whose atoms a prefix can carry and whose output the reading call takes, and any measure.
+module _ {C : Type 0} (blank : C) (l : Limits) (carried : l.file_bytes < 2 ^ 34) (most : l.output_bytes ≤ 65535) (measure : List Bool → ℕ) where
   -- From a run whose last words are those of its last session.
   of_run : (r : Run) (k : ℕ) (s : Slices C) → suc k ≡ r.steps → length r.words ≡ 3 * r.steps → All Formed r.last.written.items
       → words_at r.words k ≡ words_of r.last → CountsScanned k (after_run blank r s)
@@ -71,13 +68,12 @@ module _ {C : Type 0} (blank : C) (l : Limits) (meet : Meet l) (measure : List B
       let no-13' = subst (λ (r : Result C). r.answer.number ≢ 13) is no-13 in
       subst (CountsScanned k) (sym is)
       (of_run (run_steps measure space f f.steps at_start) k s last' (run_ends measure space f f.steps at_start).three
-      (last_formed measure space (omega (arith, meet.taken, meet.numbered)) f (read_atoms l meet.carried input bytes f rest file-is) f.steps)
+      (last_formed measure space (omega arith) f (read_atoms l carried input bytes f rest file-is) f.steps)
       (last_words measure space f f.steps k last' no-04 no-12' no-13'))
 
--- Of the session calls: of either version, by either measure.
-pub counts_scanned : {C : Type 0} (blank : C) (v : Version) (m : Measure) (input : List ℕ) → Bytes input → (f : File) (rest : List ℕ) → file (limits_of v) input ≡ got f rest
-    → (slices : Slices C) (k : ℕ)
-    → suc k ≡ (session blank (limits_of v) (measure_of m) input slices).answer.steps → IfAny NoQuote (nth f.steps k)
-    → (session blank (limits_of v) (measure_of m) input slices).answer.number ≢ 12 → (session blank (limits_of v) (measure_of m) input slices).answer.number ≢ 13
-    → CountsScanned k (session blank (limits_of v) (measure_of m) input slices)
-counts_scanned blank v m = counts_in_session blank (limits_of v) (meet_of v) (measure_of m)
+-- Of 01's call.
+pub counts_scanned : {C : Type 0} (blank : C) (input : List ℕ) → Bytes input → (f : File) (rest : List ℕ) → file version_1 input ≡ got f rest → (slices : Slices C) (k : ℕ)
+    → suc k ≡ (session blank version_1 counted input slices).answer.steps → IfAny NoQuote (nth f.steps k)
+    → (session blank version_1 counted input slices).answer.number ≢ 12 → (session blank version_1 counted input slices).answer.number ≢ 13
+    → CountsScanned k (session blank version_1 counted input slices)
+counts_scanned blank = counts_in_session blank version_1 (omega arith) (omega arith) counted

@@ -4,9 +4,8 @@
 use Rattle.std.specs.Prelude.{ℕ, ◌+◌, ◌*◌, ◌^◌, ◌≤◌, ◌<◌, ◌≡◌, Bool, List, [], ◌∷◌, ◌++◌, length, take}
 use Rattle.std.proofs.Common.{ap, ◌∙◌, subst, arith}
 use Rattle.std.proofs.Math.Option.{some}
-use Rattle.limits.specs.Limits.{Limits}
 use Rattle.words.specs.Lists.{All, all_append, all_take, Bytes}
-use Rattle.spec_session.specs.File.{File, Step, add, restore, forget, quote, take_quote, got, file}
+use Rattle.spec_session.specs.File.{File, Step, add, restore, forget, quote, take_quote, Limits, got, file}
 use Rattle.spec_session.specs.Unfold.{unfolded}
 use Rattle.spec_session.specs.Premises.{NoQuote}
 use Rattle.spec_session.specs.Items.{Item, size_of, output}
@@ -70,8 +69,8 @@ module _ (measure : List Bool → ℕ) (space : ℕ) (f : File) where
 
 -- ---- every item has bytes
 
--- Of a file whose atoms a prefix can carry, and an output of at most 2^25 bytes.
-module _ (measure : List Bool → ℕ) (space : ℕ) (most : space ≤ 2 ^ 25) (f : File) (atoms_are : All Atom f.atoms) where
+-- Of a file whose atoms a prefix can carry, and an output of at most 65,535 bytes.
+module _ (measure : List Bool → ℕ) (space : ℕ) (most : space ≤ 65535) (f : File) (atoms_are : All Atom f.atoms) where
   abbrev Fits : List Item → Type 0
   Fits items = size_of items ≤ space
 
@@ -149,7 +148,7 @@ module _ (measure : List Bool → ℕ) (space : ℕ) (most : space ≤ 2 ^ 25) (
       }
 
 -- THE WORDS OF EVERY FINISHED STEP, over any limits of the file that a prefix can carry, any measure, and any output that the reading call takes.
-pub steps_scanned : (l : Limits) → l.file_bytes < 2 ^ 34 → (measure : List Bool → ℕ) (space : ℕ) → space ≤ 2 ^ 25 → (input : List ℕ) → Bytes input
+pub steps_scanned : (l : Limits) → l.file_bytes < 2 ^ 34 → (measure : List Bool → ℕ) (space : ℕ) → space ≤ 65535 → (input : List ℕ) → Bytes input
     → (f : File) (rest : List ℕ) → file l input ≡ got f rest → (steps : List Step) (k : ℕ) → k < (run_steps measure space f steps at_start).steps
     → StepScanned measure space f steps k (run_steps measure space f steps at_start)
 steps_scanned l carried measure space most input bytes f rest file-is steps k h =

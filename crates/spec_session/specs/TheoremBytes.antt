@@ -1,7 +1,7 @@
 -- The read-back theorem over bytes: the reading call's definition, the store's reader, accepts the bytes of a finished session, and its root names the plain
 -- filling's tree. Two facts of the items are premises here: every item has bytes, and they are bytes.
 -- Assumes nothing.
-use Rattle.std.specs.Prelude.{ℕ, ◌^◌, ◌≤◌, ◌≡◌, Bool, List, [], ◌∷◌, map}
+use Rattle.std.specs.Prelude.{ℕ, ◌≤◌, ◌≡◌, Bool, List, [], ◌∷◌, map}
 use Rattle.std.proofs.Common.{sym, ap, ◌∙◌, subst, arith}
 use Rattle.std.proofs.Math.Option.{none, some}
 use Rattle.words.specs.Choice.{clash}
@@ -47,7 +47,7 @@ same_accepted p q r e f = cc
 first_tree : (t u : Tree) → ◌≡◌ {A = List Tree} (t ∷ []) (u ∷ []) → t ≡ u
 first_tree t u e = cc
 
-module _ (space : ℕ) (most : space ≤ 2 ^ 25) (f : File) (hs : List ℕ) (items : List Item) (formed : All Formed items) (bytes : Bytes (output items)) (fits : size_of items ≤ space) where
+module _ (space : ℕ) (most : space ≤ 65535) (f : File) (hs : List ℕ) (items : List Item) (formed : All Formed items) (bytes : Bytes (output items)) (fits : size_of items ≤ space) where
   pub stored_back : ReadsBack f hs items → BytesReadBack space f hs items
   stored_back b = go (readers_agree (output items) bytes (omega (arith, output_size items)))
     where
@@ -75,7 +75,7 @@ module _ (space : ℕ) (most : space ≤ 2 ^ 25) (f : File) (hs : List ℕ) (ite
 -- With 01's search, and any measure that covers a path's atom.
 pub read_back_bytes : (measure : List Bool → ℕ) → Covers measure → (room : List Todo → List Item → Item → ℕ) (f : File) (hs : List ℕ) (q : Session)
     → Apart (map (unfolded f) hs) → add_all (find_in measure) room (map (unfolded f) hs) start ≡ added q → q.waiting ≡ none
-    → All Formed q.written.items → Bytes (output q.written.items) → (space : ℕ) → space ≤ 2 ^ 25 → size_of q.written.items ≤ space
+    → All Formed q.written.items → Bytes (output q.written.items) → (space : ℕ) → space ≤ 65535 → size_of q.written.items ≤ space
     → BytesReadBack space f hs q.written.items
 read_back_bytes measure covers room f hs q apart e fin formed bytes space most fits =
     stored_back space most f hs q.written.items formed bytes fits (read_back_measure measure covers room f hs q apart e fin)

@@ -19,7 +19,7 @@ use Rattle.write_counts.specs.Counts.{counts_of, Bounded}
 
 -- Where each atom's bytes start and end.
 pub record AtomPlaces (file w : List ℕ) : Type 0 where
-  pub short : length file ≤ 1048576
+  pub short : length file ≤ 65535
   pub ordered : (i : ℕ) → i < at w ATOM_COUNT → start_of w i ≤ end_of w i
   pub inside : (i : ℕ) → i < at w ATOM_COUNT → end_of w i ≤ length file
 
@@ -58,7 +58,7 @@ pub record Running (w out : List ℕ) (opens depth : ℕ) (counts : Counts) (val
   pub stands : Standing w opens depth values
   pub fits : counts.size ≤ length out
   pub bounded : Bounded counts
-  pub short : length out ≤ 1048576
+  pub short : length out ≤ 65535
 
 -- ---- what they mean
 

@@ -1,18 +1,16 @@
 //! How long the port's reading call takes, and the Rust's, on the same bytes.
 
-use crate::compare::{ReadCall, least};
 use crate::times::measure;
 use clvm_rs::Allocator;
 use clvm_rs::serde::node_from_bytes_backrefs;
-use nikvoldra::call;
+use nikvoldra::call::{self, ATOMS_LENGTH, BYTES_LENGTH, PAIRS_LENGTH, WORK_LENGTH};
 use oracle::generate::trees::{encode_atom, path_bytes};
-use oracle::reading;
+use oracle::reading::{self, MAX_INPUT};
 use oracle::rng::Rng;
-use oracle::version::{V1, V2, Version};
 use std::hint::black_box;
 
 struct Case {
-    name: String,
+    name: &'static str,
     input: Vec<u8>,
 }
 
@@ -43,25 +41,21 @@ fn reference(steps: &[bool]) -> Vec<u8> {
     out
 }
 
-fn grow(out: &mut Vec<u8>, rng: &mut Rng, depth: usize, longest: usize) {
-    if depth == 0 {
-        let n = *rng.pick(&[0, 1, 2, 6, longest]);
-        encode_atom(out, &rng.bytes(n));
-    } else {
-        out.push(0xff);
-        grow(out, rng, depth - 1, longest);
-        grow(out, rng, depth - 1, longest);
-    }
-}
-
-/// The inputs of version 1, which are small or have the most bytes that it reads.
-fn small_cases(rng: &mut Rng) -> Vec<Case> {
-    let case = |name: &str, input| Case {
-        name: name.to_string(),
-        input,
-    };
+fn cases() -> Vec<Case> {
+    let case = |name, input| Case { name, input };
+    let mut rng = Rng::new(1);
     let mut balanced = vec![];
-    grow(&mut balanced, rng, 12, 33);
+    fn grow(out: &mut Vec<u8>, rng: &mut Rng, depth: usize) {
+        if depth == 0 {
+            let n = *rng.pick(&[0, 1, 2, 6, 33]);
+            encode_atom(out, &rng.bytes(n));
+        } else {
+            out.push(0xff);
+            grow(out, rng, depth - 1);
+            grow(out, rng, depth - 1);
+        }
+    }
+    grow(&mut balanced, &mut rng, 12);
     vec![
         case("(foobar . foobar), one reference", {
             [&[0xff][..], &atom(b"foobar"), &reference(&[false])].concat()
@@ -86,43 +80,23 @@ fn small_cases(rng: &mut Rng) -> Vec<Case> {
             [items, vec![0x80]].concat()
         }),
         case("balanced, 4,095 pairs, atoms of 0 to 33 bytes", balanced),
-    ]
-}
-
-/// A number with a comma before each three digits.
-fn commas(n: usize) -> String {
-    let digits = n.to_string();
-    let groups: Vec<&str> = digits
-        .as_bytes()
-        .rchunks(3)
-        .rev()
-        .map(|g| std::str::from_utf8(g).expect("digits"))
-        .collect();
-    groups.join(",")
-}
-
-/// Inputs with the most bytes that a version reads.
-fn large_cases(rng: &mut Rng, v: Version) -> Vec<Case> {
-    let most = v.input;
-    let case = |name: &str, input| Case {
-        name: format!("{name}, {} bytes", commas(most)),
-        input,
-    };
-    vec![
-        case("list, small atoms", list(most, |_| vec![5])),
-        case("deep to the left, small atoms", {
-            let pairs = (most - 1) / 2;
+        case(
+            "list, small atoms, 65,535 bytes",
+            list(MAX_INPUT, |_| vec![5]),
+        ),
+        case("deep to the left, small atoms, 65,535 bytes", {
+            let pairs = (MAX_INPUT - 1) / 2;
             [vec![0xff; pairs], vec![0x05; pairs + 1]].concat()
         }),
-        case("list, atoms of 1 byte in the heap", {
-            list(most, |i| vec![0x81, 0x80 | i as u8])
+        case("list, atoms of 1 byte in the heap, 65,535 bytes", {
+            list(MAX_INPUT, |i| vec![0x81, 0x80 | i as u8])
         }),
-        case("list, atoms of 32 bytes", {
-            list(most, |_| atom(&rng.bytes(32)))
+        case("list, atoms of 32 bytes, 65,535 bytes", {
+            list(MAX_INPUT, |_| atom(&rng.bytes(32)))
         }),
-        case("one atom", atom(&rng.bytes(most - 3))),
-        case("references to the top of the stack", {
-            list(most, |i| {
+        case("one atom, 65,535 bytes", atom(&rng.bytes(MAX_INPUT - 3))),
+        case("references to the top of the stack, 65,535 bytes", {
+            list(MAX_INPUT, |i| {
                 if i == 0 {
                     atom(b"foobar")
                 } else {
@@ -130,8 +104,8 @@ fn large_cases(rng: &mut Rng, v: Version) -> Vec<Case> {
                 }
             })
         }),
-        case("references 200 down the stack", {
-            list(most, |i| {
+        case("references 200 down the stack, 65,535 bytes", {
+            list(MAX_INPUT, |i| {
                 if i < 256 {
                     atom(&[i as u8])
                 } else {
@@ -139,57 +113,29 @@ fn large_cases(rng: &mut Rng, v: Version) -> Vec<Case> {
                 }
             })
         }),
+        case("references to the stack itself, 6,000 bytes", {
+            list(6_000, |_| reference(&[]))
+        }),
+        case("references to the stack itself, 65,535 bytes", {
+            list(MAX_INPUT, |_| reference(&[]))
+        }),
     ]
 }
 
-/// References to the stack itself; the Rust's time grows with the square of their number.
-fn lists_of_the_stack(length: usize) -> Case {
-    Case {
-        name: format!("references to the stack itself, {} bytes", commas(length)),
-        input: list(length, |_| reference(&[])),
-    }
-}
-
-fn cases(v: Version) -> Vec<Case> {
-    let mut rng = Rng::new(1);
-    let mut all = match v {
-        V1 => small_cases(&mut rng),
-        _ => {
-            let mut input = vec![];
-            grow(&mut input, &mut rng, 16, 60);
-            let name = "balanced, 65,535 pairs, atoms of 0 to 60 bytes".to_string();
-            vec![Case { name, input }]
-        }
-    };
-    all.extend(large_cases(&mut rng, v));
-    all.extend(match v {
-        V1 => vec![lists_of_the_stack(6_000), lists_of_the_stack(V1.input)],
-        _ => vec![lists_of_the_stack(V1.input)],
-    });
-    all
-}
-
-/// The call of version 1, unless that of version 2 is asked for alone; then that one.
-pub fn run(only_v2: bool) {
-    if !only_v2 {
-        heading();
-        rows(V1, call::read);
-    }
-    println!("\nThe same by `nikvoldra_read_v2`.\n");
-    columns();
-    rows(V2, call::read_v2);
-}
-
-fn rows(v: Version, call: ReadCall) {
-    let [work, pairs, atoms, bytes] = least(v);
-    let (mut work, mut pairs) = (vec![0; work], vec![0; pairs]);
-    let (mut atoms, mut bytes) = (vec![0; atoms], vec![0; bytes]);
+pub fn run() {
+    let mut work = vec![0; WORK_LENGTH];
+    let mut pairs = vec![0; PAIRS_LENGTH];
+    let mut atoms = vec![0; ATOMS_LENGTH];
+    let mut bytes = vec![0; BYTES_LENGTH];
     let mut port = |input: &[u8]| {
         let input = black_box(input);
-        black_box(call(input, &mut work, &mut pairs, &mut atoms, &mut bytes))
+        black_box(call::read(
+            input, &mut work, &mut pairs, &mut atoms, &mut bytes,
+        ))
     };
-    for c in cases(v) {
-        let expected = reading::read(v, &c.input);
+    heading();
+    for c in cases() {
+        let expected = reading::read(&c.input);
         let now = port(&c.input);
         assert_eq!(
             (now.number, now.pairs, now.ghosts),
@@ -220,10 +166,6 @@ fn heading() {
         "Medians in microseconds. *Zeroing* is a call on the one byte `80`; *reading* is a call less the zeroing right after it."
     );
     println!("The Rust makes and drops an `Allocator` each time.\n");
-    columns();
-}
-
-fn columns() {
     println!(
         "| input | bytes | pairs | the call | zeroing | reading | the Rust | reading : Rust |"
     );

@@ -6,8 +6,7 @@ use crate::times::{Row, measure};
 use clvm_rs::serde::TreeCache;
 use clvm_rs::{Allocator, NodePtr, SExp};
 use oracle::node::from_word;
-use oracle::session::{self, SessionFile, Step};
-use oracle::version::V1;
+use oracle::session::{self, MAX_OUTPUT, SessionFile, Step};
 use std::hint::black_box;
 
 /// The sentinel and the tree of a file's one add.
@@ -63,7 +62,7 @@ fn times(c: &Case, port: &mut Port, output: usize, rust: &mut [&mut dyn FnMut()]
 }
 
 pub fn row(c: &Case, port: &mut Port) -> String {
-    let parsed = session::parse(V1, &c.file).expect("a good file");
+    let parsed = session::parse(&c.file).expect("a good file");
     let store = parsed.allocator();
     let (sentinel, node) = added(&parsed);
     assert_eq!(port(&c.file, 0).number, 13, "{}", c.name);
@@ -81,7 +80,7 @@ pub fn row(c: &Case, port: &mut Port) -> String {
         black_box(cache);
     };
     let first = times(c, port, 0, &mut [&mut update]);
-    let all = times(c, port, V1.output, &mut [&mut once, &mut twice]);
+    let all = times(c, port, MAX_OUTPUT, &mut [&mut once, &mut twice]);
     let (port_update, port_writing) = (first.difference, all.difference - first.difference);
     let (rust_update, rust_searches) = (first.rust[0], all.rust[1] - all.rust[0]);
     format!(

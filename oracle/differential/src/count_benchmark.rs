@@ -8,8 +8,7 @@ use clvm_rs::serde::{Serializer, UndoState};
 use nikvoldra::Writer;
 use oracle::counts::{self, Counts};
 use oracle::node::from_word;
-use oracle::session::{self, SessionFile, Step};
-use oracle::version::V1;
+use oracle::session::{self, MAX_OUTPUT, SessionFile, Step};
 use std::hint::black_box;
 
 /// The steps by the unchanged `Serializer`, and the counts of each: those of the bytes that an
@@ -46,9 +45,9 @@ fn counted_steps(s: &SessionFile, a: &Allocator) -> Vec<Counts> {
 /// The call and the Rust on a case: a line of the table.
 pub fn row(c: &Case, port: &mut Port) -> String {
     let now = checked(c.name, &c.file, port);
-    let parsed = session::parse(V1, &c.file).expect("a good file");
+    let parsed = session::parse(&c.file).expect("a good file");
     let store = parsed.allocator();
-    let counts = session::run(&c.file, V1.output, true).counts;
+    let counts = session::run(&c.file, MAX_OUTPUT, true).counts;
     assert_eq!(counted_steps(&parsed, &store), counts, "{}", c.name);
     let run = Writer::new().run_file(&c.file).expect("a good session");
     let both = |s: &nikvoldra::Step| Counts {
@@ -59,7 +58,7 @@ pub fn row(c: &Case, port: &mut Port) -> String {
     assert_eq!(told, counts, "{}", c.name);
     let last = counts.last().expect("a step");
     let mut once = |file: &[u8]| {
-        port(file, V1.output);
+        port(file, MAX_OUTPUT);
     };
     let mut alone = || {
         black_box(steps(black_box(&parsed), &store));

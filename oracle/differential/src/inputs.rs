@@ -2,99 +2,61 @@
 
 use crate::sets::Set;
 use oracle::generate::exhaustive::LETTERS;
-use oracle::generate::trees::{WIDE, encode_atom, path_bytes};
+use oracle::generate::trees::{encode_atom, path_bytes};
 use oracle::generate::{any_tree, damage, tree};
+use oracle::reading::MAX_INPUT;
 use oracle::rng::Rng;
-use oracle::version::{V1, V2, Version};
 
 pub struct Input {
     pub bytes: Vec<u8>,
-    pub pace: Pace,
-}
-
-/// In how many calls of a set one has the slices filled with rubbish and compared whole, and one
-/// has slices that are too short.
-#[derive(Clone, Copy)]
-pub struct Pace {
+    /// In how many calls of its set one has the slices filled with rubbish and compared whole.
     pub whole_each: usize,
-    pub short_each: Option<usize>,
 }
-
-const ALL: Pace = Pace {
-    whole_each: 1,
-    short_each: Some(16),
-};
-/// For many inputs, and for slices of 57 MiB.
-const SOME: Pace = Pace {
-    whole_each: 8,
-    short_each: None,
-};
-const OF_V2: Pace = Pace {
-    whole_each: 16,
-    short_each: Some(64),
-};
-/// Trees of each kind of version 2 alone.
-const OF_EACH: usize = 60;
 
 fn set(
     name: &'static str,
     size: usize,
-    pace: Pace,
+    whole_each: usize,
     get: impl Fn(usize) -> Vec<u8> + Sync + 'static,
 ) -> Set<Input> {
     Set::new(name, size, move |i| Input {
         bytes: get(i),
-        pace,
+        whole_each,
     })
 }
 
-/// The sets of a version, the small ones first.
-pub fn sets(v: Version, generated: usize, seed: u64) -> Vec<Set<Input>> {
+/// The sets, the small ones first.
+pub fn sets(generated: usize, seed: u64) -> Vec<Set<Input>> {
     let boundaries = boundaries();
-    let pace = if v == V1 { ALL } else { OF_V2 };
-    let mut all = vec![
-        set("at the boundaries of prefixes", boundaries.len(), pace, {
+    vec![
+        set("at the boundaries of prefixes", boundaries.len(), 1, {
             move |i| boundaries[i].clone()
         }),
-        set("of 65,534 to 65,537 bytes", 240, pace, move |i| {
-            at_the_limit(V1, &mut of(seed, 1, i), i)
+        set("of 65,534 to 65,537 bytes", 240, 1, move |i| {
+            at_the_limit(&mut of(seed, 1, i), i)
         }),
-        set("large", 2_000, pace, move |i| large(v, &mut of(seed, 2, i))),
-        set("of up to 2 bytes", 1 + 256 + 65_536, pace, |i| match i {
+        set("large", 2_000, 1, move |i| large(&mut of(seed, 2, i))),
+        set("of up to 2 bytes", 1 + 256 + 65_536, 1, |i| match i {
             0 => vec![],
             1..=256 => bytes_of(i - 1, 1),
             _ => bytes_of(i - 257, 2),
         }),
-        set("of 4 bytes over the alphabet", 20_736, pace, |i| {
-            letters(i, 4)
-        }),
-        set("of 5 bytes over the alphabet", 248_832, pace, |i| {
+        set("of 4 bytes over the alphabet", 20_736, 1, |i| letters(i, 4)),
+        set("of 5 bytes over the alphabet", 248_832, 1, |i| {
             letters(i, 5)
         }),
-        set("generated", generated, pace, move |i| {
-            any_tree(v, &mut of(seed, 3, i)).1
+        set("generated", generated, 1, move |i| {
+            any_tree(&mut of(seed, 3, i)).1
         }),
-    ];
-    all.extend(match v {
-        V1 => vec![set("of 3 bytes", 1 << 24, SOME, |i| bytes_of(i, 3))],
-        _ => vec![
-            set("of 1,048,575 to 1,048,578 bytes", 240, pace, move |i| {
-                at_the_limit(V2, &mut of(seed, 4, i), i)
-            }),
-            set("of each kind", WIDE.len() * OF_EACH, pace, move |i| {
-                let own = seed.wrapping_mul(1_000_003) + (i / WIDE.len()) as u64;
-                tree(v, own, WIDE[i % WIDE.len()].0).expect("a kind")
-            }),
-        ],
-    });
-    all
+        set("of 3 bytes", 1 << 24, 16, |i| bytes_of(i, 3)),
+    ]
 }
 
 /// The inputs of 3 bytes whose first byte is one of these.
 pub fn three(first: u8, last: u8) -> Set<Input> {
     let (first, last) = (first as usize, last as usize);
     let size = (last + 1).saturating_sub(first) << 16;
-    set("of 3 bytes", size, SOME, move |i| {
+    set("of 3 bytes", size, 16, move |i| {
         bytes_of((first << 16) + i, 3)
     })
 }
@@ -179,33 +141,32 @@ fn boundaries() -> Vec<Vec<u8>> {
         .collect()
 }
 
-/// A tree of as many bytes as a version reads, or one byte fewer, or one or two more.
-fn at_the_limit(v: Version, rng: &mut Rng, i: usize) -> Vec<u8> {
-    let mut out = tree(v, rng.next(), "long").expect("a kind");
+/// A tree of 65,535 bytes, or one byte fewer, or one or two more.
+fn at_the_limit(rng: &mut Rng, i: usize) -> Vec<u8> {
+    let mut out = tree(rng.next(), "long").expect("a kind");
     if rng.percent(20) {
         damage(rng, &mut out);
     }
-    let length = v.input - 1 + i % 4;
+    let length = MAX_INPUT - 1 + i % 4;
     let fill = rng.byte();
     out.resize(length, fill);
     out
 }
 
 /// Deep trees, long paths, many references.
-fn large(v: Version, rng: &mut Rng) -> Vec<u8> {
-    let deep = v.input * 20_000 / V1.input;
+fn large(rng: &mut Rng) -> Vec<u8> {
     let mut out = vec![];
     match rng.below(4) {
         // a path of many zero bytes
         0 => {
-            let mut path = vec![0; rng.range(1, v.input - 5_535)];
+            let mut path = vec![0; rng.range(1, 60_000)];
             *path.last_mut().expect("a byte") = *rng.pick(&[0, 1, 2, 3, 4, 6]);
             out.extend([0xff, 0x01, 0xfe]);
             encode_atom(&mut out, &path);
         }
         // deep to the left, and a walk down it
         1 => {
-            let depth = rng.range(2, deep);
+            let depth = rng.range(2, 20_000);
             out.extend(vec![0xff; depth]);
             out.push(0x05);
             out.extend(vec![0x06; depth - 1]);
@@ -218,7 +179,7 @@ fn large(v: Version, rng: &mut Rng) -> Vec<u8> {
         }
         // deep to the right, and a walk down the stack
         2 => {
-            let depth = rng.range(2, deep);
+            let depth = rng.range(2, 20_000);
             for _ in 0..depth {
                 out.extend([0xff, *rng.pick(&[0x05, 0x80, 0x00])]);
             }

@@ -13,10 +13,6 @@ pub const ABOVE: usize = 4096;
 const SHIFT: usize = 8192;
 /// Words that get rubbish anew where the whole slice doesn't.
 const SAMPLE: usize = 64;
-/// Of 100 slices of which only those do so many are compared with zero in all words.
-const ALL: usize = 20;
-/// The most words of a slice that always gets rubbish in all of them.
-const SMALL: usize = 65_536;
 
 pub trait Word: Copy + Default + PartialEq + Debug {
     fn rubbish(rng: &mut Rng) -> Self;
@@ -116,10 +112,7 @@ pub struct Lent<T> {
     length: usize,
     rubbish: Vec<T>,
     shift: usize,
-    /// the words that got rubbish anew, where not all of them did
-    sampled: Vec<(usize, T)>,
-    /// whether all words are compared with zero even so
-    all: bool,
+    sampled: Vec<usize>,
 }
 
 impl<T: Word> Lent<T> {
@@ -132,17 +125,6 @@ impl<T: Word> Lent<T> {
             rubbish: (0..size + SHIFT).map(|_| T::rubbish(rng)).collect(),
             shift: 0,
             sampled: vec![],
-            all: true,
-        }
-    }
-
-    /// Rubbish everywhere, or, where the slice is large, keeps its length and needn't be
-    /// compared as a `whole`, in some words.
-    pub fn prepare(&mut self, length: usize, whole: bool, rng: &mut Rng) {
-        if whole || length <= SMALL || length != self.length {
-            self.fill(length, rng);
-        } else {
-            self.sprinkle(rng);
         }
     }
 
@@ -151,22 +133,19 @@ impl<T: Word> Lent<T> {
         self.length = length;
         self.shift = rng.below(SHIFT);
         self.sampled.clear();
-        self.all = true;
         let size = GUARD + length + GUARD;
         self.memory[..size].copy_from_slice(&self.rubbish[self.shift..self.shift + size]);
     }
 
-    /// Rubbish in the first words, in the last one and in a sample of the others. The rest,
-    /// which the call before has left, and the length stay.
-    fn sprinkle(&mut self, rng: &mut Rng) {
-        let mut at: Vec<usize> = (0..SAMPLE).map(|_| rng.below(self.length)).collect();
-        at[..8].copy_from_slice(&[0, 1, 2, 3, 4, 5, 6, 7]);
-        at[8] = self.length - 1;
-        for i in &at {
-            self.memory[GUARD + i] = T::rubbish(rng);
+    /// Rubbish in the first words and in a sample of the others. The rest, which
+    /// the call before has left, and the length stay.
+    pub fn sprinkle(&mut self, rng: &mut Rng) {
+        self.sampled.clear();
+        for i in 0..SAMPLE {
+            let at = if i < 8 { i } else { rng.below(self.length) };
+            self.memory[GUARD + at] = T::rubbish(rng);
+            self.sampled.push(at);
         }
-        self.sampled = at.iter().map(|i| (*i, self.memory[GUARD + i])).collect();
-        self.all = rng.percent(ALL);
     }
 
     pub fn slice(&mut self) -> &mut [T] {
@@ -212,17 +191,10 @@ impl<T: Word> Lent<T> {
         Ok(())
     }
 
-    /// The slice is as `fill` left it; else the sampled words are as they were.
+    /// The slice is as `fill` left it.
     pub fn untouched(&self) -> Result<(), String> {
         let end = GUARD + self.length;
         self.guards()?;
-        if !self.sampled.is_empty() {
-            let differs = |(at, then): &&(usize, T)| self.memory[GUARD + at] != *then;
-            return match self.sampled.iter().find(differs) {
-                None => Ok(()),
-                Some((at, then)) => Err(self.differs(*at, self.memory[GUARD + at], *then)),
-            };
-        }
         self.same(
             &self.memory[GUARD..end],
             &self.rubbish[self.shift + GUARD..self.shift + end],
@@ -230,14 +202,14 @@ impl<T: Word> Lent<T> {
     }
 
     /// The slice begins with `used`, and the rest is zero: all of it after
-    /// `fill`, and at times else, or the next words and the sampled ones.
+    /// `fill`, else the next words and the sampled ones.
     pub fn holds(&self, used: &[T]) -> Result<(), String> {
         self.guards()?;
         let now = &self.memory[GUARD..GUARD + self.length];
         let n = used.len();
         self.same(&now[..n], used)?;
         let zero = T::default();
-        if self.all {
+        if self.sampled.is_empty() {
             if T::all_zero(&now[n..]) {
                 return Ok(());
             }
@@ -245,7 +217,7 @@ impl<T: Word> Lent<T> {
             return Err(self.differs(at, now[at], zero));
         }
         let next = n..(n + GUARD).min(now.len());
-        let sampled = self.sampled.iter().map(|s| s.0).filter(|at| *at >= n);
+        let sampled = self.sampled.iter().copied().filter(|at| *at >= n);
         match next.chain(sampled).find(|at| now[*at] != zero) {
             None => Ok(()),
             Some(at) => Err(self.differs(at, now[at], zero)),

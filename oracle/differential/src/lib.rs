@@ -25,4 +25,3 @@ mod stand_in;
 pub mod times;
 pub mod trial;
 pub mod undo_benchmark;
-pub mod version_benchmark;

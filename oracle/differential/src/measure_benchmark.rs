@@ -7,16 +7,16 @@ use crate::times::measure_beside;
 use nikvoldra::call::{self, SessionAnswer};
 use oracle::generate::sessions::Builder;
 use oracle::rng::Rng;
-use oracle::session::{self, SESSION, SESSION_DOCUMENTED};
-use oracle::version::V1;
+use oracle::session::{self, MAX_OUTPUT};
+use oracle::writer::Measure;
 use std::hint::black_box;
 
 /// A session call on a file.
 pub type AnyPort<'a> = dyn FnMut(SessionCall, &[u8]) -> SessionAnswer + 'a;
 
-const CALLS: [(session::Call, SessionCall); 2] = [
-    (SESSION, call::session),
-    (SESSION_DOCUMENTED, call::session_documented),
+const CALLS: [(Measure, SessionCall); 2] = [
+    (Measure::Counted, call::session),
+    (Measure::Documented, call::session_documented),
 ];
 
 /// The trees, and so many values of a spine after them; then the trees again.
@@ -61,11 +61,11 @@ pub fn cases() -> Vec<Case> {
 
 /// The calls and the Rust on a case: a line of the table.
 pub fn row(c: &Case, port: &mut AnyPort) -> String {
-    let parsed = session::parse(V1, &c.file).expect("a good file");
+    let parsed = session::parse(&c.file).expect("a good file");
     let store = parsed.allocator();
     let [references, sizes] = {
-        let answers = CALLS.map(|(which, call)| {
-            let expected = session::run_by(which, &c.file, V1.output, true);
+        let answers = CALLS.map(|(measure, call)| {
+            let expected = session::run_by(measure, &c.file, MAX_OUTPUT, true);
             let now = port(call, &c.file);
             assert_eq!((now.number, expected.number), (0, 0), "{}", c.name);
             assert_eq!(now.size as usize, expected.output.len(), "{}", c.name);

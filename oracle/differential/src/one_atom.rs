@@ -5,8 +5,8 @@
 use crate::benchmark::{atom, rust};
 use crate::times::{micros, quartile};
 use nikvoldra::call::{self, ATOMS_LENGTH, BYTES_LENGTH, PAIRS_LENGTH, WORK_LENGTH};
+use oracle::reading::MAX_INPUT;
 use oracle::rng::Rng;
-use oracle::version::V1;
 use std::hint::black_box;
 
 const ROUNDS: usize = 2_000;
@@ -30,7 +30,7 @@ fn row(name: &str, mut round: impl FnMut() -> f64) {
 
 pub fn run() {
     let mut rng = Rng::new(1);
-    let long = atom(&rng.bytes(V1.input - 3));
+    let long = atom(&rng.bytes(MAX_INPUT - 3));
     let short = atom(&rng.bytes(33));
     let (mut work, mut pairs) = (vec![0; WORK_LENGTH], vec![0; PAIRS_LENGTH]);
     let (mut atoms, mut bytes) = (vec![0; ATOMS_LENGTH], vec![0; BYTES_LENGTH]);

@@ -6,8 +6,7 @@ use crate::times::{measure_beside, measure_in_turns, median};
 use crate::undo_benchmark;
 use oracle::generate::sessions::Builder;
 use oracle::rng::Rng;
-use oracle::session::{self, Step};
-use oracle::version::V1;
+use oracle::session::{self, MAX_OUTPUT, Step};
 use std::hint::black_box;
 
 /// The same trees with other steps: a block alone; bundles added to it; each bundle
@@ -103,9 +102,9 @@ pub fn row(c: &Case, port: &mut Port) -> String {
         .each_ref()
         .map(|file| checked(c.name, file, port).size);
     assert!(sizes[1..].iter().all(|n| *n == sizes[1]), "{}", c.name);
-    let parsed = session::parse(V1, &c.files[1]).expect("a good file");
+    let parsed = session::parse(&c.files[1]).expect("a good file");
     let mut once = |file: &[u8]| {
-        port(file, V1.output);
+        port(file, MAX_OUTPUT);
     };
     let files = c.files.each_ref().map(Vec::as_slice);
     let turns = measure_in_turns(&mut once, files, EMPTY);
@@ -153,7 +152,7 @@ pub fn heading() {
 
 /// The files of `undo_benchmark` with each add that is taken back a quote that is dropped.
 fn dropping(file: &[u8]) -> Vec<u8> {
-    let mut s = session::parse(V1, file).expect("a good file");
+    let mut s = session::parse(file).expect("a good file");
     let steps = std::mem::take(&mut s.steps);
     for (i, step) in steps.iter().enumerate() {
         match (*step, steps.get(i + 1)) {
@@ -162,7 +161,7 @@ fn dropping(file: &[u8]) -> Vec<u8> {
             (step, _) => s.steps.push(step),
         }
     }
-    s.to_bytes(V1)
+    s.to_bytes()
 }
 
 /// `02`, `03` and `04`.
@@ -180,10 +179,10 @@ pub fn tries() -> Vec<(&'static str, [Vec<u8>; 3])> {
 pub fn tries_row((name, files): &(&'static str, [Vec<u8>; 3]), port: &mut Port) -> String {
     let sizes = files.each_ref().map(|file| checked(name, file, port).size);
     assert!(sizes.iter().all(|n| *n == sizes[0]), "{name}: what stays");
-    let parsed = session::parse(V1, &files[0]).expect("a good file");
+    let parsed = session::parse(&files[0]).expect("a good file");
     let store = parsed.allocator();
     let mut once = |file: &[u8]| {
-        port(file, V1.output);
+        port(file, MAX_OUTPUT);
     };
     let mut rust = || {
         black_box(steps(black_box(&parsed), &store));

@@ -3,10 +3,7 @@
 
 use crate::session_compare::SessionCall;
 use crate::times::measure;
-use crate::{
-    cache_benchmark, count_benchmark, measure_benchmark, quote_benchmark, undo_benchmark,
-    version_benchmark,
-};
+use crate::{cache_benchmark, count_benchmark, measure_benchmark, quote_benchmark, undo_benchmark};
 use clvm_rs::Allocator;
 use clvm_rs::serde::{Serializer, UndoState};
 use nikvoldra::call::{
@@ -15,8 +12,7 @@ use nikvoldra::call::{
 use oracle::generate::sessions::Builder;
 use oracle::node::{NIL, from_word};
 use oracle::rng::Rng;
-use oracle::session::{self, SESSION, SessionFile, Step};
-use oracle::version::{V1, Version};
+use oracle::session::{self, MAX_OUTPUT, SessionFile, Step};
 use std::hint::black_box;
 
 pub struct Case {
@@ -30,14 +26,9 @@ pub type Port<'a> = dyn FnMut(&[u8], usize) -> SessionAnswer + 'a;
 /// A file that only has the slices zeroed: no atoms, pairs, sentinel and steps.
 pub const EMPTY: &[u8] = b"BRS\x00\x01\x00\x00\x00\x00\xff\xff\xff\xff";
 
-/// That file of a version.
-pub fn empty(v: Version) -> Vec<u8> {
-    SessionFile::default().to_bytes(v)
-}
-
 /// A builder with a listed atom of its own as the sentinel.
 pub fn begin() -> (Builder, u32) {
-    let mut b = Builder::new(V1);
+    let mut b = Builder::default();
     let s = b.list_atom(b"\xff sentinel");
     b.sentinel(s);
     (b, s)
@@ -184,7 +175,7 @@ fn visits(rng: &mut Rng, again: usize) -> Vec<u8> {
     b.done()
 }
 
-pub fn cases() -> Vec<Case> {
+fn cases() -> Vec<Case> {
     let case = |name, file| Case { name, file };
     let mut rng = Rng::new(1);
     let rng = &mut rng;
@@ -221,21 +212,20 @@ fn one_add_cases() -> Vec<Case> {
     })
     .into();
     all.extend(cases().into_iter().filter(|c| {
-        let s = session::parse(V1, &c.file).expect("a good file");
+        let s = session::parse(&c.file).expect("a good file");
         s.steps.len() == 1
     }));
     all
 }
 
-/// The files of `cases`, then those that take back by `02` and by `03`, then those that quote, then those with long paths, then those
-/// of version 2, numbered from 1, in a folder.
+/// The files of `cases`, then those that take back by `02` and by `03`, then those that quote, then those with long paths, numbered
+/// from 1, in a folder.
 pub fn write(folder: &str) -> std::io::Result<()> {
     std::fs::create_dir_all(folder)?;
     let mut files: Vec<Vec<u8>> = cases().into_iter().map(|c| c.file).collect();
     files.extend(undo_benchmark::cases().into_iter().flat_map(|c| c.files));
     files.extend(quote_benchmark::cases().into_iter().flat_map(|c| c.files));
     files.extend(measure_benchmark::cases().into_iter().map(|c| c.file));
-    files.extend(version_benchmark::large_cases().into_iter().map(|c| c.file));
     for (i, file) in files.iter().enumerate() {
         std::fs::write(format!("{folder}/{}.session", i + 1), file)?;
     }
@@ -263,42 +253,37 @@ pub fn steps(s: &SessionFile, a: &Allocator) -> u64 {
 
 /// The call's answer, which is the Rust's.
 pub fn checked(name: &str, file: &[u8], port: &mut Port) -> SessionAnswer {
-    checked_by(SESSION, name, file, port)
-}
-
-/// The same of a call.
-pub fn checked_by(call: session::Call, name: &str, file: &[u8], port: &mut Port) -> SessionAnswer {
-    let v = call.version;
-    let expected = session::run_by(call, file, v.output, true);
-    let now = port(file, v.output);
+    let expected = session::run(file, MAX_OUTPUT, true);
+    let now = port(file, MAX_OUTPUT);
     assert_eq!(
         (now.number, now.steps as usize, now.size as usize),
         (0, expected.words.len(), expected.output.len()),
         "{name}"
     );
-    let empty = port(&empty(v), v.output).number;
-    assert_eq!((expected.number, empty), (0, 0), "{name}");
+    assert_eq!(
+        (expected.number, port(EMPTY, MAX_OUTPUT).number),
+        (0, 0),
+        "{name}"
+    );
     now
 }
 
 /// The call and the Rust on a case: a line of the table.
-pub fn row(call: session::Call, c: &Case, port: &mut Port) -> String {
-    let v = call.version;
-    let now = checked_by(call, c.name, &c.file, port);
-    let parsed = session::parse(v, &c.file).expect("a good file");
+fn row(c: &Case, port: &mut Port) -> String {
+    let now = checked(c.name, &c.file, port);
+    let parsed = session::parse(&c.file).expect("a good file");
     let store = parsed.allocator();
     let mut once = |file: &[u8]| {
-        port(file, v.output);
+        port(file, MAX_OUTPUT);
     };
     let mut alone = || {
         black_box(steps(black_box(&parsed), &store));
     };
     let mut whole = || {
-        let s = session::parse(v, black_box(&c.file)).expect("a good file");
+        let s = session::parse(black_box(&c.file)).expect("a good file");
         black_box(steps(&s, &s.allocator()));
     };
-    let empty = empty(v);
-    let r = measure(&mut once, &c.file, &empty, &mut [&mut alone, &mut whole]);
+    let r = measure(&mut once, &c.file, EMPTY, &mut [&mut alone, &mut whole]);
     let counts = format!(
         "{} | {} | {} | {}",
         c.file.len(),
@@ -319,14 +304,10 @@ pub fn row(call: session::Call, c: &Case, port: &mut Port) -> String {
     )
 }
 
-/// A session call of version 1 on a file, with an output of that length.
-type VersionOne<'a> = dyn FnMut(SessionCall, &[u8], usize) -> SessionAnswer + 'a;
-
-/// All tables, or those of version 2 alone.
-pub fn run(only_v2: bool) {
+pub fn run() {
     let (mut work, mut words) = (vec![0; WORK_LENGTH], vec![0; WORDS_LENGTH]);
     let mut checkpoints = vec![Checkpoint::default(); CHECKPOINTS_LENGTH];
-    let mut output = vec![0; V1.output];
+    let mut output = vec![0; MAX_OUTPUT];
     let mut any_port = |call: SessionCall, file: &[u8], length: usize| {
         black_box(call(
             black_box(file),
@@ -336,17 +317,10 @@ pub fn run(only_v2: bool) {
             &mut output[..length],
         ))
     };
-    if !only_v2 {
-        tables(&mut any_port);
-    }
-    version_benchmark::run(&mut |call: SessionCall, file: &[u8]| any_port(call, file, V1.output));
-}
-
-fn tables(any_port: &mut VersionOne) {
     let mut port = |file: &[u8], length: usize| any_port(call::session, file, length);
     heading();
     for c in cases() {
-        println!("{}", row(SESSION, &c, &mut port));
+        println!("{}", row(&c, &mut port));
     }
     undo_benchmark::heading();
     for c in undo_benchmark::cases() {
@@ -368,7 +342,7 @@ fn tables(any_port: &mut VersionOne) {
     for c in cases() {
         println!("{}", count_benchmark::row(&c, &mut port));
     }
-    let mut any_port = |call: SessionCall, file: &[u8]| any_port(call, file, V1.output);
+    let mut any_port = |call: SessionCall, file: &[u8]| any_port(call, file, MAX_OUTPUT);
     measure_benchmark::heading();
     for c in cases().into_iter().chain(measure_benchmark::cases()) {
         println!("{}", measure_benchmark::row(&c, &mut any_port));
@@ -383,10 +357,6 @@ fn heading() {
         "*`Serializer`* is the Rust's steps on a store that is there; *with the file* has the file read into a fresh store too."
     );
     println!("Its SHA-1 and its arena are the rig's plain ones.\n");
-    columns();
-}
-
-pub fn columns() {
     println!(
         "| session | bytes | pairs | steps | output | the call | zeroing | session | `Serializer` | with the file | session : `Serializer` |"
     );

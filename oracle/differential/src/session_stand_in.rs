@@ -1,11 +1,9 @@
 //! The session calls made of `oracle::model` (01's text), right or with one
 //! fault, to try the comparison itself.
 
-use crate::session_compare::least;
-use nikvoldra::call::{CHECKPOINTS_LENGTH, Checkpoint, SessionAnswer, WORDS_LENGTH};
+use nikvoldra::call::{CHECKPOINTS_LENGTH, Checkpoint, SessionAnswer, WORDS_LENGTH, WORK_LENGTH};
 use oracle::model::{self, Count, Forget, Length, Quote, Ways};
-use oracle::session::{self, Call, SESSION, SESSION_DOCUMENTED, SESSION_V2, Step};
-use oracle::version::{V1, V2, Version};
+use oracle::session::{self, MAX_OUTPUT, Step};
 use oracle::writer::Measure;
 
 #[derive(Clone, Copy, PartialEq)]
@@ -38,7 +36,7 @@ pub enum Fault {
     TouchedBy8,
     /// slices that are too short are cleared
     TouchedBy1,
-    /// more bytes of the output are used than may be
+    /// more than 65,535 bytes of the output are used
     LongOutput,
     /// 8 for a `03`
     UnknownForget,
@@ -95,27 +93,6 @@ pub enum Fault {
     RestoreMeasures,
     /// after a `03` all steps have it
     ForgetMeasures,
-    /// 16 bits of the count of atoms, of an atom's length or of the count of pairs
-    NarrowAtoms,
-    NarrowLengths,
-    NarrowPairs,
-    /// 32 bits of the number of a `02` or `03`
-    WideNumbers,
-    /// version 1 is taken too
-    TakesVersion1,
-    /// version 2 is taken, by a call of version 1
-    TakesVersion2,
-    /// a file one byte longer is taken, or none of the most bytes
-    LongFile,
-    ShortFile,
-    /// one atom byte more is taken, or one fewer
-    ManyBytes,
-    FewBytes,
-    /// version 1's limit of the output, or one byte below version 2's
-    NarrowOutput,
-    ShortOutput,
-    /// version 1's least length of work is enough
-    WorkOf1,
 }
 
 struct Slices<'a> {
@@ -138,7 +115,7 @@ pub fn with_fault<const FAULT: u8>(
         checkpoints,
         output,
     };
-    answer(SESSION, FAULT, file, &mut slices)
+    answer(Measure::Counted, FAULT, file, &mut slices)
 }
 
 pub fn documented<const FAULT: u8>(
@@ -154,44 +131,7 @@ pub fn documented<const FAULT: u8>(
         checkpoints,
         output,
     };
-    answer(SESSION_DOCUMENTED, FAULT, file, &mut slices)
-}
-
-pub fn version_2<const FAULT: u8>(
-    file: &[u8],
-    work: &mut [u32],
-    words: &mut [u32],
-    checkpoints: &mut [Checkpoint],
-    output: &mut [u8],
-) -> SessionAnswer {
-    let mut slices = Slices {
-        work,
-        words,
-        checkpoints,
-        output,
-    };
-    answer(SESSION_V2, FAULT, file, &mut slices)
-}
-
-/// A version, or a wrong one in its place.
-fn version(v: Version, fault: &impl Fn(Fault) -> bool) -> Version {
-    let mut wrong = v;
-    match () {
-        () if fault(Fault::NarrowAtoms) => wrong.atom_count_width = 2,
-        () if fault(Fault::NarrowLengths) => wrong.atom_length_width = 2,
-        () if fault(Fault::NarrowPairs) => wrong.pair_count_width = 2,
-        () if fault(Fault::WideNumbers) => wrong.number_width = 4,
-        () if fault(Fault::TakesVersion1) => wrong.marks = &[2, 1],
-        () if fault(Fault::TakesVersion2) => wrong = V2,
-        () if fault(Fault::LongFile) => wrong.input += 1,
-        () if fault(Fault::ShortFile) => wrong.input -= 1,
-        () if fault(Fault::ManyBytes) => wrong.atom_bytes += 1,
-        () if fault(Fault::FewBytes) => wrong.atom_bytes -= 1,
-        () if fault(Fault::NarrowOutput) => wrong.output = V1.output,
-        () if fault(Fault::ShortOutput) => wrong.output -= 1,
-        () => (),
-    }
-    wrong
+    answer(Measure::Documented, FAULT, file, &mut slices)
 }
 
 /// A measure, or a wrong one in its place.
@@ -216,29 +156,27 @@ fn length(measure: Measure, fault: &impl Fn(Fault) -> bool) -> Length {
     found.map_or(Length::By(measure), |(_, length)| length)
 }
 
-fn answer(call: Call, fault: u8, file: &[u8], s: &mut Slices) -> SessionAnswer {
+fn answer(measure: Measure, fault: u8, file: &[u8], s: &mut Slices) -> SessionAnswer {
     let fault = |f: Fault| f as u8 == fault;
     let refusal = |number| SessionAnswer {
         number,
         ..SessionAnswer::default()
     };
-    let v = version(call.version, &fault);
-    let words = if fault(Fault::OneWordEach) {
+    let least = if fault(Fault::OneWordEach) {
         WORDS_LENGTH / 3
     } else {
         WORDS_LENGTH - usize::from(fault(Fault::OneWordShort))
     };
-    let work = match fault(Fault::WorkOf1) {
-        false => least(call.version)[0],
-        true => least(V1)[0],
-    };
-    if s.work.len() < work || s.words.len() < words || s.checkpoints.len() < CHECKPOINTS_LENGTH {
+    if s.work.len() < WORK_LENGTH
+        || s.words.len() < least
+        || s.checkpoints.len() < CHECKPOINTS_LENGTH
+    {
         if fault(Fault::TouchedBy1) {
             s.output.fill(0);
         }
         return refusal(1);
     }
-    let steps = match session::parse(v, file) {
+    let steps = match session::parse(file) {
         Ok(file) => file.steps,
         Err(number) => {
             if fault(Fault::TouchedBy8) {
@@ -277,21 +215,20 @@ fn answer(call: Call, fault: u8, file: &[u8], s: &mut Slices) -> SessionAnswer {
     ];
     let count = counts.iter().find(|(f, _)| fault(*f));
     let ways = Ways {
-        version: v,
         forget,
         quote,
         count: count.map_or(Count::Right, |(_, count)| *count),
-        length: length(call.measure, &fault),
+        length: length(measure, &fault),
     };
     let (mut r, _) = model::run_with(ways, file, s.output.len());
-    if fault(Fault::LongOutput) && r.number == 13 && s.output.len() > v.output {
+    if fault(Fault::LongOutput) && r.number == 13 && s.output.len() > MAX_OUTPUT {
         r.number = 0;
     }
     if fault(Fault::DropsItems) && matches!(r.number, 12 | 13) {
         let size = r.words.last().map_or(0, |w| w / 2);
         r.output.truncate(size as usize);
     }
-    clear(&fault, s, (work, 3 * r.words.len(), r.output.len()));
+    clear(&fault, s, 3 * r.words.len(), r.output.len());
     for (i, (word, counts)) in r.words.iter().zip(&r.counts).enumerate() {
         let last = i + 1 == r.words.len();
         let [at, next, after] = match fault(Fault::WordsApart) {
@@ -335,16 +272,11 @@ fn answer(call: Call, fault: u8, file: &[u8], s: &mut Slices) -> SessionAnswer {
     }
 }
 
-/// What a session leaves in the slices besides `words` words and `size` bytes; `work` is the
-/// least length of work.
-fn clear(
-    fault: &impl Fn(Fault) -> bool,
-    s: &mut Slices,
-    (work, words, size): (usize, usize, usize),
-) {
+/// What a session leaves in the slices besides `words` words and `size` bytes.
+fn clear(fault: &impl Fn(Fault) -> bool, s: &mut Slices, words: usize, size: usize) {
     let cleared = match s.work.len() {
         n if fault(Fault::WorkEnd) => n - 1,
-        _ if fault(Fault::WorkBeyond) => work,
+        _ if fault(Fault::WorkBeyond) => WORK_LENGTH,
         n => n,
     };
     s.work[..cleared].fill(0);

@@ -43,13 +43,20 @@ impl<T: Word, A: PartialEq + Debug> Trial<T, A> {
         }
     }
 
-    /// Rubbish in all words of the slices, or in some words of those that are large and keep
-    /// their lengths.
-    pub fn prepare(&mut self, lengths: [usize; 4], whole: bool) {
-        self.work.prepare(lengths[0], whole, &mut self.rng);
-        self.words.prepare(lengths[1], whole, &mut self.rng);
-        self.records.prepare(lengths[2], whole, &mut self.rng);
-        self.bytes.prepare(lengths[3], whole, &mut self.rng);
+    /// Rubbish in all words of the slices, which get these lengths.
+    pub fn fill(&mut self, lengths: [usize; 4]) {
+        self.work.fill(lengths[0], &mut self.rng);
+        self.words.fill(lengths[1], &mut self.rng);
+        self.records.fill(lengths[2], &mut self.rng);
+        self.bytes.fill(lengths[3], &mut self.rng);
+    }
+
+    /// Rubbish in some words of each slice.
+    pub fn sprinkle(&mut self) {
+        self.work.sprinkle(&mut self.rng);
+        self.words.sprinkle(&mut self.rng);
+        self.records.sprinkle(&mut self.rng);
+        self.bytes.sprinkle(&mut self.rng);
     }
 
     pub fn run(&mut self, input: &[u8]) -> A {
@@ -108,7 +115,7 @@ impl<T: Word, A: PartialEq + Debug> Trial<T, A> {
         for (i, write) in outside.into_iter().enumerate() {
             for after in [false, true] {
                 let lengths = lengths(&mut self.rng);
-                self.prepare(lengths, true);
+                self.fill(lengths);
                 let now = self.run(input);
                 assert_eq!(self.agrees(&now, expected), Ok(()));
                 write(self, after);
@@ -124,7 +131,7 @@ impl<T: Word, A: PartialEq + Debug> Trial<T, A> {
         lengths: [usize; 4],
         expected: &Expected<T, A>,
     ) {
-        self.prepare(lengths, true);
+        self.fill(lengths);
         let now = self.run(input);
         assert_eq!(self.agrees(&now, expected), Ok(()));
         let now = self.run_on(input.len() + 1);

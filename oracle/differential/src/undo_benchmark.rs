@@ -4,8 +4,7 @@
 use crate::session_benchmark::{EMPTY, Port, atom, begin, checked, steps, undo};
 use crate::times::measure_beside;
 use oracle::rng::Rng;
-use oracle::session::{self, Step};
-use oracle::version::V1;
+use oracle::session::{self, MAX_OUTPUT, Step};
 use std::hint::black_box;
 
 /// Two files that differ in the code of the steps back: `02` in the first, `03` in the second.
@@ -73,13 +72,13 @@ fn on_many(rng: &mut Rng) -> Vec<u8> {
 
 /// The file with each `02` a `03`.
 fn forgetting(file: &[u8]) -> Vec<u8> {
-    let mut s = session::parse(V1, file).expect("a good file");
+    let mut s = session::parse(file).expect("a good file");
     for step in &mut s.steps {
         if let Step::Restore(k) = *step {
             *step = Step::Forget(k);
         }
     }
-    s.to_bytes(V1)
+    s.to_bytes()
 }
 
 pub fn cases() -> Vec<Case> {
@@ -102,10 +101,10 @@ pub fn row(c: &Case, port: &mut Port) -> String {
     let [restores, forgets] = &c.files;
     let sizes = [restores, forgets].map(|file| checked(c.name, file, port).size);
     assert_eq!(sizes[0], sizes[1], "{}: what stays", c.name);
-    let parsed = session::parse(V1, restores).expect("a good file");
+    let parsed = session::parse(restores).expect("a good file");
     let store = parsed.allocator();
     let mut once = |file: &[u8]| {
-        port(file, V1.output);
+        port(file, MAX_OUTPUT);
     };
     let mut rust = || {
         black_box(steps(black_box(&parsed), &store));

@@ -5,8 +5,8 @@ use super::{Cases, File, S, small};
 use crate::node::ATOM;
 use crate::plain::{self, Interner};
 use crate::session::Step::{Add, Forget, Quote, Restore, Take};
-use crate::session::{self, SESSION, SESSION_DOCUMENTED, SessionAnswer, SessionFile, Step};
-use crate::version::V1;
+use crate::session::{self, MAX_OUTPUT, SessionAnswer, SessionFile, Step};
+use crate::writer::Measure;
 use crate::{hex, model, reading};
 use bumpalo::Bump;
 use clvm_rs::serde::write_atom::write_atom;
@@ -14,10 +14,10 @@ use documented::serde::{ChildPos, PathBuilder};
 
 /// By the Rust's ranges, and by the documentation's; 01's text gives the same.
 fn both(s: &SessionFile) -> [SessionAnswer; 2] {
-    let file = s.to_bytes(V1);
-    [SESSION, SESSION_DOCUMENTED].map(|call| {
-        let answer = session::run_by(call, &file, V1.output, true);
-        assert_eq!(model::run(call, &file, V1.output).0, answer);
+    let file = s.to_bytes();
+    [Measure::Counted, Measure::Documented].map(|measure| {
+        let answer = session::run_by(measure, &file, MAX_OUTPUT, true);
+        assert_eq!(model::run(measure, &file, MAX_OUTPUT).0, answer);
         answer
     })
 }
@@ -219,7 +219,7 @@ fn sizes(c: &mut Cases) {
         for r in both(&s) {
             let mut i = Interner::default();
             let tree = i.tree(&filling.forest, filling.root);
-            let back = reading::read(V1, &r.output);
+            let back = reading::read(&r.output);
             c.equal(
                 "measures: read back",
                 (back.number, i.reading(&back)),
@@ -240,8 +240,8 @@ fn steps(c: &mut Cases) {
     );
     let s = far_pair(small(128), 4_087, &[Add(PAIR)]);
     let output = |length| {
-        let by = |call| session::run_by(call, &s.to_bytes(V1), length, true).number;
-        [SESSION, SESSION_DOCUMENTED].map(by)
+        let by = |m| session::run_by(m, &s.to_bytes(), length, true).number;
+        [Measure::Counted, Measure::Documented].map(by)
     };
     c.equal("measures: 13 of the reference", output(8_718), [0, 13]);
     c.equal("measures: it fits", output(8_719), [0, 0]);

@@ -2,7 +2,6 @@
 
 use crate::node::{ATOM, NIL, PAIR, SMALL, handle};
 use crate::session::{SessionFile, Step};
-use crate::version::{V1, Version};
 
 /// The sentinel of these files.
 const SENTINEL: u32 = handle(SMALL, 7);
@@ -53,21 +52,21 @@ fn file() -> SessionFile {
 /// with up to three adds, by number.
 pub const SESSIONS: usize = 9 * 16 * 25 * (1 + 6 + 36 + 216);
 
-pub fn session(v: Version, i: usize) -> Vec<u8> {
+pub fn session(i: usize) -> Vec<u8> {
     let mut s = file();
     let steps = pairs(&mut s, 3, i);
     s.steps = up_to(3, 6, steps)
         .into_iter()
         .map(|c| Step::Add(choice(c)))
         .collect();
-    s.to_bytes(v)
+    s.to_bytes()
 }
 
 /// Every file of two such pairs with up to four steps, adds or restores 0 to 2,
 /// by number.
 pub const UNDO_SESSIONS: usize = 9 * 16 * (1 + 8 + 64 + 512 + 4096);
 
-pub fn undo_session(v: Version, i: usize) -> Vec<u8> {
+pub fn undo_session(i: usize) -> Vec<u8> {
     let mut s = file();
     let steps = pairs(&mut s, 2, i);
     s.steps = up_to(4, 8, steps)
@@ -77,7 +76,7 @@ pub fn undo_session(v: Version, i: usize) -> Vec<u8> {
             _ => Step::Restore(c as u16 - 5),
         })
         .collect();
-    s.to_bytes(v)
+    s.to_bytes()
 }
 
 /// Lists of steps that files of two such pairs have.
@@ -120,12 +119,12 @@ fn quote_lists() -> Lists {
 }
 
 impl Lists {
-    fn session(&self, v: Version, i: usize) -> Vec<u8> {
+    fn session(&self, i: usize) -> Vec<u8> {
         let mut s = file();
         let code = pairs(&mut s, 2, i);
         let steps = up_to(self.most as u32, self.steps.len(), code);
         s.steps = steps.into_iter().map(|i| self.steps[i]).collect();
-        s.to_bytes(v)
+        s.to_bytes()
     }
 
     /// The numbers of the files of which no step is refused, or none but the last.
@@ -224,8 +223,8 @@ impl Counted {
 }
 
 /// A file of two such pairs with up to five steps, `02` and `03` among them, by number.
-pub fn forget_session(v: Version, i: usize) -> Vec<u8> {
-    forget_lists().session(v, i)
+pub fn forget_session(i: usize) -> Vec<u8> {
+    forget_lists().session(i)
 }
 
 /// The numbers of the files of `forget_session` of which no step is refused: 850,244.
@@ -234,8 +233,8 @@ pub fn forget_sessions() -> Vec<usize> {
 }
 
 /// A file of two such pairs with up to four steps, `04` and `05` among them, by number.
-pub fn quote_session(v: Version, i: usize) -> Vec<u8> {
-    quote_lists().session(v, i)
+pub fn quote_session(i: usize) -> Vec<u8> {
+    quote_lists().session(i)
 }
 
 /// The numbers of the files of `quote_session` of which no step but the last is refused:
@@ -245,13 +244,13 @@ pub fn quote_sessions() -> Vec<usize> {
 }
 
 /// Every file of `session` that has an add, 928,800 files, of `forget_sessions` and of
-/// `quote_sessions`, of version 1.
+/// `quote_sessions`.
 pub fn sessions(mut each: impl FnMut(&[u8])) {
-    (9 * 16 * 25..SESSIONS).for_each(|i| each(&session(V1, i)));
+    (9 * 16 * 25..SESSIONS).for_each(|i| each(&session(i)));
     let more = forget_sessions();
-    more.into_iter().for_each(|i| each(&forget_session(V1, i)));
+    more.into_iter().for_each(|i| each(&forget_session(i)));
     let more = quote_sessions();
-    more.into_iter().for_each(|i| each(&quote_session(V1, i)));
+    more.into_iter().for_each(|i| each(&quote_session(i)));
 }
 
 pub const LETTERS: [u8; 12] = [

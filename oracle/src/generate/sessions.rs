@@ -4,15 +4,13 @@ mod counts;
 mod forgets;
 mod measures;
 mod quotes;
-mod wide;
-
-pub use wide::repeated as repeated_output;
 
 use super::{Kind, damage};
 use crate::node::{ATOM, NIL, NONE, PAIR, SMALL, handle};
 use crate::rng::Rng;
-use crate::session::{self, MAX_ATOMS, MAX_PAIRS, MAX_STEPS, SessionFile, Step};
-use crate::version::{V1, Version};
+use crate::session::{
+    self, MAX_ATOM_BYTES, MAX_ATOMS, MAX_FILE, MAX_OUTPUT, MAX_PAIRS, MAX_STEPS, SessionFile, Step,
+};
 use clvm_rs::allocator::fits_in_small_atom;
 
 /// The kinds made for the measures of a found path.
@@ -24,7 +22,6 @@ pub const MEASURES: [&str; 5] = [
     "measure-open",
 ];
 
-/// The kinds of both versions.
 pub const KINDS: &[Kind] = &[
     ("tiny", 300, tiny),
     ("shared", 300, shared),
@@ -41,28 +38,28 @@ pub const KINDS: &[Kind] = &[
     ("sentinel-twin", 40, sentinel_twin),
     ("sentinel-added", 40, sentinel_added),
     ("premise-broken", 80, premise_broken),
-    ("restores", 200, |rng, v| undo(rng, v, 0)),
-    ("forgets", 200, |rng, v| undo(rng, v, 100)),
-    ("undo-mixed", 200, |rng, v| undo(rng, v, 50)),
+    ("restores", 200, |rng| undo(rng, 0)),
+    ("forgets", 200, |rng| undo(rng, 100)),
+    ("undo-mixed", 200, |rng| undo(rng, 50)),
     ("fit-tests", 4, forgets::fit_tests),
     ("forgets-finished", 80, forgets::finished),
     ("forgets-twins", 60, forgets::twins),
     ("forgets-moved", 80, forgets::moved),
     ("forgets-front", 20, forgets::front),
     ("forgets-parents", 20, forgets::parents),
-    ("quotes", 200, |rng, v| quotes::quotes(rng, v, 0)),
-    ("quotes-undo", 200, |rng, v| quotes::quotes(rng, v, 30)),
+    ("quotes", 200, |rng| quotes::quotes(rng, 0)),
+    ("quotes-undo", 200, |rng| quotes::quotes(rng, 30)),
     ("quote-tests", 4, quotes::tests),
     ("quotes-finished", 80, quotes::finished),
     ("quotes-twins", 60, quotes::twins),
     ("quotes-moved", 80, quotes::moved),
     ("quotes-front", 20, quotes::front),
     ("quotes-parents", 20, quotes::parents),
-    ("deep-restores", 6, |rng, v| deep_undo(rng, v, 0)),
-    ("deep-forgets", 6, |rng, v| deep_undo(rng, v, 70)),
+    ("deep-restores", 6, |rng| deep_undo(rng, 0)),
+    ("deep-forgets", 6, |rng| deep_undo(rng, 70)),
     ("deep-quotes", 6, quotes::deep),
-    ("many-steps", 4, |rng, v| many_steps(rng, v, 0)),
-    ("many-forgets", 4, |rng, v| many_steps(rng, v, 70)),
+    ("many-steps", 4, |rng| many_steps(rng, 0)),
+    ("many-forgets", 4, |rng| many_steps(rng, 70)),
     ("many-quotes", 4, quotes::many_steps),
     ("many-entries", 1, many_entries),
     ("many-entries-undo", 1, forgets::many_entries),
@@ -76,15 +73,15 @@ pub const KINDS: &[Kind] = &[
     ("far-stack", 2, far_stack),
     ("far-deep", 2, far_deep),
     ("measure-least", 2, measures::least),
-    ("measure-atoms", 4, |rng, v| measures::again(rng, v, false)),
-    ("measure-pairs", 4, |rng, v| measures::again(rng, v, true)),
+    ("measure-atoms", 4, |rng| measures::again(rng, false)),
+    ("measure-pairs", 4, |rng| measures::again(rng, true)),
     ("measure-steps", 6, measures::steps),
     ("measure-open", 2, measures::open),
     ("atom-sizes", 8, atom_sizes),
     ("counts-widths", 20, counts::widths),
     ("counts-twice", 1, counts::twice),
-    ("open-pairs", 2, |rng, v| open_pairs(rng, v, 0)),
-    ("forgets-open", 2, |rng, v| open_pairs(rng, v, 100)),
+    ("open-pairs", 2, |rng| open_pairs(rng, 0)),
+    ("forgets-open", 2, |rng| open_pairs(rng, 100)),
     ("sixteen-adds", 30, sixteen_adds),
     ("sixteen-quotes", 30, quotes::sixteen),
     ("full-output", 1, full_output),
@@ -92,32 +89,20 @@ pub const KINDS: &[Kind] = &[
     ("keys", 20, keys),
     ("limits", 6, limits),
     ("random", 20, random_bytes),
-    ("mutated", 200, |rng, v| mutated(rng, v, Small::Any)),
-    ("damaged", 100, |rng, v| damaged(rng, v, Small::Any)),
-    ("truncated", 100, |rng, v| truncated(rng, v, Small::Any)),
-    ("faults", 60, |rng, v| faults(rng, v, Small::Any)),
-    ("forgets-mutated", 200, |rng, v| {
-        mutated(rng, v, Small::Forgets)
+    ("mutated", 200, |rng| mutated(rng, Small::Any)),
+    ("damaged", 100, |rng| damaged(rng, Small::Any)),
+    ("truncated", 100, |rng| truncated(rng, Small::Any)),
+    ("faults", 60, |rng| faults(rng, Small::Any)),
+    ("forgets-mutated", 200, |rng| mutated(rng, Small::Forgets)),
+    ("forgets-damaged", 60, |rng| damaged(rng, Small::Forgets)),
+    ("forgets-truncated", 60, |rng| {
+        truncated(rng, Small::Forgets)
     }),
-    ("forgets-damaged", 60, |rng, v| {
-        damaged(rng, v, Small::Forgets)
-    }),
-    ("forgets-truncated", 60, |rng, v| {
-        truncated(rng, v, Small::Forgets)
-    }),
-    ("forgets-faults", 40, |rng, v| {
-        faults(rng, v, Small::Forgets)
-    }),
-    ("quotes-mutated", 200, |rng, v| {
-        mutated(rng, v, Small::Quotes)
-    }),
-    ("quotes-damaged", 60, |rng, v| {
-        damaged(rng, v, Small::Quotes)
-    }),
-    ("quotes-truncated", 60, |rng, v| {
-        truncated(rng, v, Small::Quotes)
-    }),
-    ("quotes-faults", 40, |rng, v| faults(rng, v, Small::Quotes)),
+    ("forgets-faults", 40, |rng| faults(rng, Small::Forgets)),
+    ("quotes-mutated", 200, |rng| mutated(rng, Small::Quotes)),
+    ("quotes-damaged", 60, |rng| damaged(rng, Small::Quotes)),
+    ("quotes-truncated", 60, |rng| truncated(rng, Small::Quotes)),
+    ("quotes-faults", 40, |rng| faults(rng, Small::Quotes)),
     ("refused-2", 1, refused_2),
     ("refused-3", 10, refused_3),
     ("refused-4", 20, refused_4),
@@ -139,35 +124,16 @@ pub const KINDS: &[Kind] = &[
     ("quotes-17", 60, quotes::refused_17),
     ("refused-12", 1, refused_12),
     ("refused-13", 1, refused_13),
-    ("short-10", 10, |rng, v| short_10(rng, v, 0)),
-    ("forgets-10", 10, |rng, v| short_10(rng, v, 70)),
+    ("short-10", 10, |rng| short_10(rng, 0)),
+    ("forgets-10", 10, |rng| short_10(rng, 70)),
     ("short-12", 4, short_12),
 ];
 
-/// The kinds of version 2 alone.
-pub const WIDE: &[Kind] = &[
-    ("wide-atoms", 100, wide::atoms),
-    ("wide-lengths", 100, wide::lengths),
-    ("wide-total", 60, wide::total),
-    ("wide-file", 20, wide::file),
-    ("wide-output", 20, wide::output),
-    ("wide-13", 20, |rng, v| wide::refused_13(rng, v, 50)),
-    ("wide-counts", 150, wide::counts),
-    ("wide-narrow", 150, wide::narrow),
-    ("wide-numbers", 60, wide::numbers),
-    ("wide-cut", 150, wide::cut),
-    ("wide-marks", 60, wide::marks),
-];
-
-/// A session file of a version under construction.
-#[derive(Clone)]
-pub struct Builder(SessionFile, Version);
+/// A session file under construction.
+#[derive(Default, Clone)]
+pub struct Builder(SessionFile);
 
 impl Builder {
-    pub fn new(v: Version) -> Self {
-        Self(SessionFile::default(), v)
-    }
-
     pub fn small(&self, v: u32) -> u32 {
         handle(SMALL, v)
     }
@@ -243,7 +209,7 @@ impl Builder {
     }
 
     pub fn done(self) -> Vec<u8> {
-        self.0.to_bytes(self.1)
+        self.0.to_bytes()
     }
 
     /// A few distinct atoms of mixed sizes.
@@ -327,8 +293,8 @@ fn mark(b: &mut Builder) -> u32 {
 }
 
 /// Up to three pairs over nil, foobar and the sentinel, up to three adds.
-fn tiny(rng: &mut Rng, v: Version) -> Vec<u8> {
-    let mut b = Builder::new(v);
+fn tiny(rng: &mut Rng) -> Vec<u8> {
+    let mut b = Builder::default();
     let foobar = b.list_atom(b"foobar");
     let s = *rng.pick(&[NIL, foobar, b.small(7), handle(PAIR, 0), NONE]);
     let mut pool = vec![NIL, foobar, foobar];
@@ -354,8 +320,8 @@ fn tiny(rng: &mut Rng, v: Version) -> Vec<u8> {
     b.done()
 }
 
-fn shared(rng: &mut Rng, v: Version) -> Vec<u8> {
-    let mut b = Builder::new(v);
+fn shared(rng: &mut Rng) -> Vec<u8> {
+    let mut b = Builder::default();
     let s = mark(&mut b);
     b.sentinel(s);
     let atoms = rng.range(1, 12);
@@ -376,8 +342,8 @@ fn list_items(b: &mut Builder, rng: &mut Rng) -> Vec<u32> {
     (0..n).map(|_| *rng.pick(&pool)).collect()
 }
 
-fn long_list(rng: &mut Rng, v: Version, left: bool) -> Vec<u8> {
-    let mut b = Builder::new(v);
+fn long_list(rng: &mut Rng, left: bool) -> Vec<u8> {
+    let mut b = Builder::default();
     let s = mark(&mut b);
     b.sentinel(s);
     for last in [false, true] {
@@ -393,17 +359,17 @@ fn long_list(rng: &mut Rng, v: Version, left: bool) -> Vec<u8> {
     b.done()
 }
 
-fn right_list(rng: &mut Rng, v: Version) -> Vec<u8> {
-    long_list(rng, v, false)
+fn right_list(rng: &mut Rng) -> Vec<u8> {
+    long_list(rng, false)
 }
 
-fn left_list(rng: &mut Rng, v: Version) -> Vec<u8> {
-    long_list(rng, v, true)
+fn left_list(rng: &mut Rng) -> Vec<u8> {
+    long_list(rng, true)
 }
 
 /// Lists of lists, with shared tails.
-fn lists(rng: &mut Rng, v: Version) -> Vec<u8> {
-    let mut b = Builder::new(v);
+fn lists(rng: &mut Rng) -> Vec<u8> {
+    let mut b = Builder::default();
     let s = mark(&mut b);
     b.sentinel(s);
     let mut pool = b.atoms(rng, 8);
@@ -428,8 +394,8 @@ fn lists(rng: &mut Rng, v: Version) -> Vec<u8> {
 }
 
 /// (d . d) over and over: sums of lengths reach 2^64 - 1.
-fn doubling(rng: &mut Rng, v: Version) -> Vec<u8> {
-    let mut b = Builder::new(v);
+fn doubling(rng: &mut Rng) -> Vec<u8> {
+    let mut b = Builder::default();
     let s = mark(&mut b);
     b.sentinel(s);
     let mut d = b.atom(b"foobar");
@@ -452,12 +418,8 @@ fn doubling(rng: &mut Rng, v: Version) -> Vec<u8> {
     b.done()
 }
 
-fn with_sentinel(
-    rng: &mut Rng,
-    v: Version,
-    sentinel: impl Fn(&mut Builder, &mut Rng) -> u32,
-) -> Vec<u8> {
-    let mut b = Builder::new(v);
+fn with_sentinel(rng: &mut Rng, sentinel: impl Fn(&mut Builder, &mut Rng) -> u32) -> Vec<u8> {
+    let mut b = Builder::default();
     let s = sentinel(&mut b, rng);
     b.sentinel(s);
     let atoms = rng.range(1, 8);
@@ -474,8 +436,8 @@ fn with_sentinel(
     b.done()
 }
 
-fn sentinel_pair(rng: &mut Rng, v: Version) -> Vec<u8> {
-    with_sentinel(rng, v, |b, rng| {
+fn sentinel_pair(rng: &mut Rng) -> Vec<u8> {
+    with_sentinel(rng, |b, rng| {
         let foobar = b.atom(b"foobar");
         if rng.percent(50) {
             b.pair(foobar, NIL)
@@ -486,22 +448,20 @@ fn sentinel_pair(rng: &mut Rng, v: Version) -> Vec<u8> {
     })
 }
 
-fn sentinel_atom(rng: &mut Rng, v: Version) -> Vec<u8> {
-    with_sentinel(rng, v, |b, _| b.atom(b"foobar"))
+fn sentinel_atom(rng: &mut Rng) -> Vec<u8> {
+    with_sentinel(rng, |b, _| b.atom(b"foobar"))
 }
 
-fn sentinel_small(rng: &mut Rng, v: Version) -> Vec<u8> {
-    with_sentinel(rng, v, |b, rng| {
-        b.small(*rng.pick(&[1, 7, 128, 0x3ff_ffff]))
-    })
+fn sentinel_small(rng: &mut Rng) -> Vec<u8> {
+    with_sentinel(rng, |b, rng| b.small(*rng.pick(&[1, 7, 128, 0x3ff_ffff])))
 }
 
-fn sentinel_nil(rng: &mut Rng, v: Version) -> Vec<u8> {
-    with_sentinel(rng, v, |_, _| NIL)
+fn sentinel_nil(rng: &mut Rng) -> Vec<u8> {
+    with_sentinel(rng, |_, _| NIL)
 }
 
-fn sentinel_none(rng: &mut Rng, v: Version) -> Vec<u8> {
-    let mut b = Builder::new(v);
+fn sentinel_none(rng: &mut Rng) -> Vec<u8> {
+    let mut b = Builder::default();
     let n = rng.range(0, 30);
     let pool = b.pool(rng, 6, n);
     b.add(recent(rng, &pool));
@@ -516,8 +476,8 @@ fn sentinel_none(rng: &mut Rng, v: Version) -> Vec<u8> {
 }
 
 /// The sentinel at several places of a tree, also below a shared pair.
-fn sentinel_many(rng: &mut Rng, v: Version) -> Vec<u8> {
-    let mut b = Builder::new(v);
+fn sentinel_many(rng: &mut Rng) -> Vec<u8> {
+    let mut b = Builder::default();
     let s = match rng.below(3) {
         0 => mark(&mut b),
         1 => b.small(7),
@@ -550,8 +510,8 @@ fn sentinel_many(rng: &mut Rng, v: Version) -> Vec<u8> {
 }
 
 /// The sentinel's bytes under a second handle.
-fn sentinel_twin(rng: &mut Rng, v: Version) -> Vec<u8> {
-    let mut b = Builder::new(v);
+fn sentinel_twin(rng: &mut Rng) -> Vec<u8> {
+    let mut b = Builder::default();
     let (s, twin) = if rng.percent(50) {
         (b.list_atom(b"foobar"), b.list_atom(b"foobar"))
     } else {
@@ -571,8 +531,8 @@ fn sentinel_twin(rng: &mut Rng, v: Version) -> Vec<u8> {
 }
 
 /// Adds of the sentinel itself between others.
-fn sentinel_added(rng: &mut Rng, v: Version) -> Vec<u8> {
-    let mut b = Builder::new(v);
+fn sentinel_added(rng: &mut Rng) -> Vec<u8> {
+    let mut b = Builder::default();
     let s = *rng.pick(&[NIL, b.small(7)]);
     b.sentinel(s);
     let f = b.list_atom(b"foobar");
@@ -603,8 +563,8 @@ fn sentinel_added(rng: &mut Rng, v: Version) -> Vec<u8> {
 }
 
 /// Pairs above the sentinel occur again in later trees.
-fn premise_broken(rng: &mut Rng, v: Version) -> Vec<u8> {
-    let mut b = Builder::new(v);
+fn premise_broken(rng: &mut Rng) -> Vec<u8> {
+    let mut b = Builder::default();
     let s = b.small(7);
     b.sentinel(s);
     let n = rng.range(0, 6);
@@ -625,8 +585,8 @@ fn premise_broken(rng: &mut Rng, v: Version) -> Vec<u8> {
 }
 
 /// Adds, and steps back to any of them, of which so many of 100 are `03`.
-fn undo(rng: &mut Rng, v: Version, forgets: usize) -> Vec<u8> {
-    let mut b = Builder::new(v);
+fn undo(rng: &mut Rng, forgets: usize) -> Vec<u8> {
+    let mut b = Builder::default();
     let s = *rng.pick(&[b.small(7), NIL]);
     b.sentinel(s);
     let f = b.list_atom(b"foobar");
@@ -665,8 +625,8 @@ fn undo(rng: &mut Rng, v: Version, forgets: usize) -> Vec<u8> {
 }
 
 /// Steps back between states with many open pairs and values.
-fn deep_undo(rng: &mut Rng, v: Version, forgets: usize) -> Vec<u8> {
-    let mut b = Builder::new(v);
+fn deep_undo(rng: &mut Rng, forgets: usize) -> Vec<u8> {
+    let mut b = Builder::default();
     let s = b.small(7);
     b.sentinel(s);
     let n = rng.range(0, 8);
@@ -706,8 +666,8 @@ fn deep_undo(rng: &mut Rng, v: Version, forgets: usize) -> Vec<u8> {
 }
 
 /// Near 1,024 steps, most of them adds that are taken back.
-fn many_steps(rng: &mut Rng, v: Version, forgets: usize) -> Vec<u8> {
-    let mut b = Builder::new(v);
+fn many_steps(rng: &mut Rng, forgets: usize) -> Vec<u8> {
+    let mut b = Builder::default();
     let s = b.small(7);
     b.sentinel(s);
     let pool = b.pool(rng, 4, 6);
@@ -727,8 +687,8 @@ fn many_steps(rng: &mut Rng, v: Version, forgets: usize) -> Vec<u8> {
 }
 
 /// Hundreds of handles of (S . S), each added once: three entries each.
-fn many_entries(rng: &mut Rng, v: Version) -> Vec<u8> {
-    let mut b = Builder::new(v);
+fn many_entries(rng: &mut Rng) -> Vec<u8> {
+    let mut b = Builder::default();
     let s = *rng.pick(&[b.small(7), NIL]);
     b.sentinel(s);
     let foobar = b.list_atom(b"foobar");
@@ -752,8 +712,8 @@ fn many_entries(rng: &mut Rng, v: Version) -> Vec<u8> {
 }
 
 /// Second handles for the same pair, and atoms listed twice.
-fn twins(rng: &mut Rng, v: Version) -> Vec<u8> {
-    let mut b = Builder::new(v);
+fn twins(rng: &mut Rng) -> Vec<u8> {
+    let mut b = Builder::default();
     let s = mark(&mut b);
     b.sentinel(s);
     let f = b.list_atom(b"foobar");
@@ -772,8 +732,8 @@ fn twins(rng: &mut Rng, v: Version) -> Vec<u8> {
 }
 
 /// An atom or pair with about 100 and more parents.
-fn parents(rng: &mut Rng, v: Version) -> Vec<u8> {
-    let mut b = Builder::new(v);
+fn parents(rng: &mut Rng) -> Vec<u8> {
+    let mut b = Builder::default();
     let s = mark(&mut b);
     b.sentinel(s);
     let n = *rng.pick(&[6, 12, 40]);
@@ -828,8 +788,8 @@ fn parents(rng: &mut Rng, v: Version) -> Vec<u8> {
 }
 
 /// A root with a full parent list takes the sentinel's parents.
-fn parents_moved(rng: &mut Rng, v: Version) -> Vec<u8> {
-    let mut b = Builder::new(v);
+fn parents_moved(rng: &mut Rng) -> Vec<u8> {
+    let mut b = Builder::default();
     let s = mark(&mut b);
     b.sentinel(s);
     let f = b.list_atom(b"foobar");
@@ -860,8 +820,8 @@ fn parents_moved(rng: &mut Rng, v: Version) -> Vec<u8> {
 
 /// A right list that begins and ends with x: the search for the last x comes to
 /// visit 1,024 or 1,025.
-fn visits(rng: &mut Rng, v: Version) -> Vec<u8> {
-    let mut b = Builder::new(v);
+fn visits(rng: &mut Rng) -> Vec<u8> {
+    let mut b = Builder::default();
     let size = rng.range(126, 140);
     let x = b.list_atom(&[vec![0x81], rng.bytes(size - 1)].concat());
     let n = *rng.pick(&[MAX_PAIRS - 3, MAX_PAIRS - 2, MAX_PAIRS - 1]);
@@ -873,8 +833,8 @@ fn visits(rng: &mut Rng, v: Version) -> Vec<u8> {
 }
 
 /// Many parents at each of a few levels.
-fn visits_wide(rng: &mut Rng, v: Version) -> Vec<u8> {
-    let mut b = Builder::new(v);
+fn visits_wide(rng: &mut Rng) -> Vec<u8> {
+    let mut b = Builder::default();
     let s = mark(&mut b);
     b.sentinel(s);
     let size = rng.range(20, 160);
@@ -903,8 +863,8 @@ fn visits_wide(rng: &mut Rng, v: Version) -> Vec<u8> {
 }
 
 /// References whose path is about as long as what it stands for.
-fn long_paths(rng: &mut Rng, v: Version) -> Vec<u8> {
-    let mut b = Builder::new(v);
+fn long_paths(rng: &mut Rng) -> Vec<u8> {
+    let mut b = Builder::default();
     let s = mark(&mut b);
     b.sentinel(s);
     let sizes = [3, 4, 5, 8, 9, 31, 33, 63, 64, 65, 66, 67, 70];
@@ -929,8 +889,8 @@ fn long_paths(rng: &mut Rng, v: Version) -> Vec<u8> {
 
 /// x at the bottom of a stack of about 4,090 values: paths of about 512 bytes,
 /// where `serialized_length` counts one more than is written.
-fn far_stack(rng: &mut Rng, v: Version) -> Vec<u8> {
-    let mut b = Builder::new(v);
+fn far_stack(rng: &mut Rng) -> Vec<u8> {
+    let mut b = Builder::default();
     let s = b.small(7);
     let size = rng.range(509, 517);
     let x = b.list_atom(&[vec![0x81], rng.bytes(size - 1)].concat());
@@ -943,8 +903,8 @@ fn far_stack(rng: &mut Rng, v: Version) -> Vec<u8> {
 }
 
 /// x deep in a tree at the bottom of the stack: paths of up to 5,000 bits.
-fn far_deep(rng: &mut Rng, v: Version) -> Vec<u8> {
-    let mut b = Builder::new(v);
+fn far_deep(rng: &mut Rng) -> Vec<u8> {
+    let mut b = Builder::default();
     let s = b.small(7);
     let size = rng.range(560, 660);
     let x = b.list_atom(&[vec![0x81], rng.bytes(size - 1)].concat());
@@ -966,8 +926,8 @@ fn far_deep(rng: &mut Rng, v: Version) -> Vec<u8> {
     b.done()
 }
 
-fn atom_sizes(rng: &mut Rng, v: Version) -> Vec<u8> {
-    let mut b = Builder::new(v);
+fn atom_sizes(rng: &mut Rng) -> Vec<u8> {
+    let mut b = Builder::default();
     let s = mark(&mut b);
     b.sentinel(s);
     let mut items = vec![];
@@ -1011,8 +971,8 @@ fn open_chain(b: &mut Builder, rng: &mut Rng, n: usize, left: bool) {
 }
 
 /// About 4,096 open pairs, then an atom or one more pair.
-fn open_pairs(rng: &mut Rng, v: Version, forgets: usize) -> Vec<u8> {
-    let mut b = Builder::new(v);
+fn open_pairs(rng: &mut Rng, forgets: usize) -> Vec<u8> {
+    let mut b = Builder::default();
     let n = *rng.pick(&[4095, 4096, 4097]);
     let left = rng.percent(50);
     open_chain(&mut b, rng, n, left);
@@ -1030,8 +990,8 @@ fn open_pairs(rng: &mut Rng, v: Version, forgets: usize) -> Vec<u8> {
     b.done()
 }
 
-fn sixteen_adds(rng: &mut Rng, v: Version) -> Vec<u8> {
-    let mut b = Builder::new(v);
+fn sixteen_adds(rng: &mut Rng) -> Vec<u8> {
+    let mut b = Builder::default();
     let s = mark(&mut b);
     b.sentinel(s);
     let n = rng.range(0, 12);
@@ -1043,12 +1003,9 @@ fn sixteen_adds(rng: &mut Rng, v: Version) -> Vec<u8> {
 
 /// A right list of atoms that come again too far away for a reference. The
 /// output has exactly `size` bytes, 60,000 or more.
-fn sized_output(rng: &mut Rng, v: Version, size: usize) -> Vec<u8> {
-    if size > V1.output + 1 {
-        return wide::sized_output(rng, v, size);
-    }
+fn sized_output(rng: &mut Rng, size: usize) -> Vec<u8> {
     const PERIOD: usize = 512;
-    let mut b = Builder::new(v);
+    let mut b = Builder::default();
     let atoms: Vec<u32> = (0..PERIOD)
         .map(|i| {
             let mut bytes = rng.bytes(62);
@@ -1069,17 +1026,17 @@ fn sized_output(rng: &mut Rng, v: Version, size: usize) -> Vec<u8> {
     b.done()
 }
 
-fn full_output(rng: &mut Rng, v: Version) -> Vec<u8> {
-    sized_output(rng, v, v.output)
+fn full_output(rng: &mut Rng) -> Vec<u8> {
+    sized_output(rng, MAX_OUTPUT)
 }
 
-fn over_output(rng: &mut Rng, v: Version) -> Vec<u8> {
-    sized_output(rng, v, v.output + 1)
+fn over_output(rng: &mut Rng) -> Vec<u8> {
+    sized_output(rng, MAX_OUTPUT + 1)
 }
 
 /// Keys that a sum or a plain remainder would put into one slot.
-fn keys(rng: &mut Rng, v: Version) -> Vec<u8> {
-    let mut b = Builder::new(v);
+fn keys(rng: &mut Rng) -> Vec<u8> {
+    let mut b = Builder::default();
     let s = mark(&mut b);
     b.sentinel(s);
     let mut pool = vec![];
@@ -1154,8 +1111,8 @@ fn keys(rng: &mut Rng, v: Version) -> Vec<u8> {
 }
 
 /// Each count at its limit.
-fn limits(rng: &mut Rng, v: Version) -> Vec<u8> {
-    let mut b = Builder::new(v);
+fn limits(rng: &mut Rng) -> Vec<u8> {
+    let mut b = Builder::default();
     match rng.below(5) {
         0 => {
             for i in 0..MAX_ATOMS {
@@ -1166,15 +1123,15 @@ fn limits(rng: &mut Rng, v: Version) -> Vec<u8> {
             b.add(t);
         }
         1 => {
-            // one atom of all atom bytes
-            let f = b.list_atom(&vec![0x80; v.atom_bytes]);
+            // one atom of 32,768 bytes
+            let f = b.list_atom(&vec![0x80; MAX_ATOM_BYTES]);
             let t = b.pair(f, f);
             b.add(t);
         }
         2 => {
-            // many that have all of them together
+            // many small ones, 32,768 bytes together
             for i in 0..512 {
-                let mut bytes = vec![0x80; v.atom_bytes / 512];
+                let mut bytes = vec![0x80; 64];
                 bytes[1] = i as u8;
                 bytes[2] = (i >> 8) as u8;
                 b.list_atom(&bytes);
@@ -1202,8 +1159,8 @@ fn limits(rng: &mut Rng, v: Version) -> Vec<u8> {
     b.done()
 }
 
-fn random_bytes(rng: &mut Rng, v: Version) -> Vec<u8> {
-    let mut out = v.mark();
+fn random_bytes(rng: &mut Rng) -> Vec<u8> {
+    let mut out = session::MARK.to_vec();
     for _ in 0..rng.range(0, 30) {
         match rng.below(4) {
             0 => out.push(rng.byte()),
@@ -1236,20 +1193,20 @@ impl Small {
     }
 }
 
-fn small_session(rng: &mut Rng, v: Version, small: Small) -> Vec<u8> {
+fn small_session(rng: &mut Rng, small: Small) -> Vec<u8> {
     if small == Small::Quotes {
-        return quotes::small(rng, v);
+        return quotes::small(rng);
     }
     if small == Small::Forgets && rng.percent(80) {
-        return undo(rng, v, small.forgets());
+        return undo(rng, small.forgets());
     }
     match rng.below(5) {
-        0 => tiny(rng, v),
-        1 => sentinel_many(rng, v),
-        2 => undo(rng, v, small.forgets()),
-        3 => twins(rng, v),
+        0 => tiny(rng),
+        1 => sentinel_many(rng),
+        2 => undo(rng, small.forgets()),
+        3 => twins(rng),
         _ => {
-            let mut b = Builder::new(v);
+            let mut b = Builder::default();
             let s = mark(&mut b);
             b.sentinel(s);
             let pool = b.pool(rng, 4, 5);
@@ -1260,9 +1217,9 @@ fn small_session(rng: &mut Rng, v: Version, small: Small) -> Vec<u8> {
 }
 
 /// Handles and steps changed for others that are named too.
-fn mutated(rng: &mut Rng, v: Version, small: Small) -> Vec<u8> {
+fn mutated(rng: &mut Rng, small: Small) -> Vec<u8> {
     let forgets = small.forgets();
-    let mut s = session::parse(v, &small_session(rng, v, small)).expect("a good file");
+    let mut s = session::parse(&small_session(rng, small)).expect("a good file");
     let any_handle = |rng: &mut Rng, s: &SessionFile, pairs: usize| match rng.below(4) {
         0 if !s.atoms.is_empty() => handle(ATOM, rng.below(s.atoms.len()) as u32),
         1 => *rng.pick(&[
@@ -1318,25 +1275,25 @@ fn mutated(rng: &mut Rng, v: Version, small: Small) -> Vec<u8> {
             }
         }
     }
-    s.to_bytes(v)
+    s.to_bytes()
 }
 
-fn damaged(rng: &mut Rng, v: Version, small: Small) -> Vec<u8> {
-    let mut file = small_session(rng, v, small);
+fn damaged(rng: &mut Rng, small: Small) -> Vec<u8> {
+    let mut file = small_session(rng, small);
     damage(rng, &mut file);
     file
 }
 
-fn truncated(rng: &mut Rng, v: Version, small: Small) -> Vec<u8> {
-    let mut file = small_session(rng, v, small);
+fn truncated(rng: &mut Rng, small: Small) -> Vec<u8> {
+    let mut file = small_session(rng, small);
     let keep = rng.below(file.len());
     file.truncate(keep);
     file
 }
 
 /// One to three faults in different fields: the first from the left counts.
-fn faults(rng: &mut Rng, v: Version, small: Small) -> Vec<u8> {
-    let mut s = session::parse(v, &small_session(rng, v, small)).expect("a good file");
+fn faults(rng: &mut Rng, small: Small) -> Vec<u8> {
+    let mut s = session::parse(&small_session(rng, small)).expect("a good file");
     let bad =
         |rng: &mut Rng| *rng.pick(&[handle(PAIR, 900), handle(ATOM, 900), handle(5, 1), NONE]);
     let mut code = None;
@@ -1365,33 +1322,32 @@ fn faults(rng: &mut Rng, v: Version, small: Small) -> Vec<u8> {
             _ => cut = rng.range(1, 5),
         }
     }
-    let mut file = s.to_bytes(v);
+    let mut file = s.to_bytes();
     file.extend(code);
     file.truncate(file.len() - cut);
     file
 }
 
-fn refused_2(rng: &mut Rng, v: Version) -> Vec<u8> {
-    let mut file = small_session(rng, v, Small::Any);
+fn refused_2(rng: &mut Rng) -> Vec<u8> {
+    let mut file = small_session(rng, Small::Any);
     let longer = *rng.pick(&[1, 1, 2, 200]);
-    file.resize(v.input + longer, rng.byte());
+    file.resize(MAX_FILE + longer, rng.byte());
     file
 }
 
-fn refused_3(rng: &mut Rng, v: Version) -> Vec<u8> {
-    let mut file = small_session(rng, v, Small::Any);
+fn refused_3(rng: &mut Rng) -> Vec<u8> {
+    let mut file = small_session(rng, Small::Any);
     match rng.below(3) {
         0 => file.truncate(rng.below(5)),
         1 => file[rng.below(5)] ^= 1 << rng.below(8),
-        // the other version
-        _ => file[4] = 3 - file[4],
+        _ => file[4] = 2,
     }
     file
 }
 
 /// Cut inside the last field: what is left of a step after its code.
-fn refused_4(rng: &mut Rng, v: Version) -> Vec<u8> {
-    let mut file = small_session(rng, v, Small::Any);
+fn refused_4(rng: &mut Rng) -> Vec<u8> {
+    let mut file = small_session(rng, Small::Any);
     if rng.percent(50) {
         file.extend([1, 0x08, 0, 0]);
     } else {
@@ -1402,15 +1358,15 @@ fn refused_4(rng: &mut Rng, v: Version) -> Vec<u8> {
     file
 }
 
-fn refused_5(rng: &mut Rng, v: Version) -> Vec<u8> {
-    let mut b = Builder::new(v);
+fn refused_5(rng: &mut Rng) -> Vec<u8> {
+    let mut b = Builder::default();
     match rng.below(4) {
         0 => b.0.atoms = vec![vec![0x80]; MAX_ATOMS + 1],
         1 => b.0.pairs = vec![(NIL, NIL); MAX_PAIRS + 1],
         2 => {
-            b.0.atoms = vec![vec![0x80; v.atom_bytes], vec![0x80]];
+            b.0.atoms = vec![vec![0x80; MAX_ATOM_BYTES], vec![0x80]];
             if rng.percent(50) {
-                b.0.atoms = vec![vec![0x80; v.atom_bytes + 1]];
+                b.0.atoms = vec![vec![0x80; MAX_ATOM_BYTES + 1]];
             }
         }
         _ => {
@@ -1423,8 +1379,8 @@ fn refused_5(rng: &mut Rng, v: Version) -> Vec<u8> {
     b.done()
 }
 
-fn refused_6(rng: &mut Rng, v: Version) -> Vec<u8> {
-    let mut b = Builder::new(v);
+fn refused_6(rng: &mut Rng) -> Vec<u8> {
+    let mut b = Builder::default();
     b.list_atom(b"foobar");
     let small = *rng.pick(&[&[][..], &[1], &[0x7f], &[0, 0x80], &[3, 0xff, 0xff, 0xff]]);
     let at = rng.below(2);
@@ -1432,8 +1388,8 @@ fn refused_6(rng: &mut Rng, v: Version) -> Vec<u8> {
     b.done()
 }
 
-fn refused_7(rng: &mut Rng, v: Version) -> Vec<u8> {
-    let mut b = Builder::new(v);
+fn refused_7(rng: &mut Rng) -> Vec<u8> {
+    let mut b = Builder::default();
     let f = b.list_atom(b"foobar");
     let p = b.pair(f, NIL);
     let q = b.pair(p, f);
@@ -1459,8 +1415,8 @@ fn refused_7(rng: &mut Rng, v: Version) -> Vec<u8> {
     b.done()
 }
 
-fn refused_8(rng: &mut Rng, v: Version) -> Vec<u8> {
-    let mut file = small_session(rng, v, Small::Any);
+fn refused_8(rng: &mut Rng) -> Vec<u8> {
+    let mut file = small_session(rng, Small::Any);
     file.push(*rng.pick(&[0, 7, 8, 0x81, 0xff]));
     if rng.percent(50) {
         file.extend(rng.bytes(4));
@@ -1468,8 +1424,8 @@ fn refused_8(rng: &mut Rng, v: Version) -> Vec<u8> {
     file
 }
 
-fn refused_9(rng: &mut Rng, v: Version) -> Vec<u8> {
-    let mut b = Builder::new(v);
+fn refused_9(rng: &mut Rng) -> Vec<u8> {
+    let mut b = Builder::default();
     let s = mark(&mut b);
     b.sentinel(s);
     let pool = b.pool(rng, 4, 4);
@@ -1480,8 +1436,8 @@ fn refused_9(rng: &mut Rng, v: Version) -> Vec<u8> {
     b.done()
 }
 
-fn refused_10(rng: &mut Rng, v: Version) -> Vec<u8> {
-    let mut b = Builder::new(v);
+fn refused_10(rng: &mut Rng) -> Vec<u8> {
+    let mut b = Builder::default();
     let s = b.small(7);
     b.sentinel(s);
     let pool = b.pool(rng, 4, 4);
@@ -1500,8 +1456,8 @@ fn refused_10(rng: &mut Rng, v: Version) -> Vec<u8> {
     b.done()
 }
 
-fn refused_11(rng: &mut Rng, v: Version) -> Vec<u8> {
-    let mut b = Builder::new(v);
+fn refused_11(rng: &mut Rng) -> Vec<u8> {
+    let mut b = Builder::default();
     let s = mark(&mut b);
     b.sentinel(s);
     let pool = b.pool(rng, 4, 4);
@@ -1518,8 +1474,8 @@ fn refused_11(rng: &mut Rng, v: Version) -> Vec<u8> {
     b.done()
 }
 
-fn refused_12(rng: &mut Rng, v: Version) -> Vec<u8> {
-    let mut b = Builder::new(v);
+fn refused_12(rng: &mut Rng) -> Vec<u8> {
+    let mut b = Builder::default();
     let left = rng.percent(50);
     open_chain(&mut b, rng, 4096, left);
     let t = b.pair(b.small(3), b.small(4));
@@ -1529,14 +1485,11 @@ fn refused_12(rng: &mut Rng, v: Version) -> Vec<u8> {
 
 /// A list of small atoms is written again and again, and then an atom of 32,768
 /// bytes doesn't fit.
-fn refused_13(rng: &mut Rng, v: Version) -> Vec<u8> {
-    if v.output > V1.output {
-        return wide::refused_13(rng, v, 0);
-    }
-    let mut b = Builder::new(v);
+fn refused_13(rng: &mut Rng) -> Vec<u8> {
+    let mut b = Builder::default();
     let s = b.small(7);
     b.sentinel(s);
-    let big = b.list_atom(&vec![0x80 | rng.byte(); v.atom_bytes]);
+    let big = b.list_atom(&vec![0x80 | rng.byte(); MAX_ATOM_BYTES]);
     // the list holds the sentinel, so no reference is made to it
     let items: Vec<u32> = (0..MAX_PAIRS as u32 - 2)
         .map(|i| handle(SMALL, 0x100_0000 + i))
@@ -1552,8 +1505,8 @@ fn refused_13(rng: &mut Rng, v: Version) -> Vec<u8> {
 }
 
 /// More than 16 adds in a file of few pairs, some taken back on the way.
-fn short_10(rng: &mut Rng, v: Version, forgets: usize) -> Vec<u8> {
-    let mut b = Builder::new(v);
+fn short_10(rng: &mut Rng, forgets: usize) -> Vec<u8> {
+    let mut b = Builder::default();
     let s = *rng.pick(&[b.small(7), NIL]);
     b.sentinel(s);
     let foobar = b.list_atom(b"foobar");
@@ -1574,8 +1527,8 @@ fn short_10(rng: &mut Rng, v: Version, forgets: usize) -> Vec<u8> {
 
 /// A chain of few pairs that ends in the sentinel, added 16 times: pair 4,097 is
 /// to be opened in one of the last adds, or 4,096 are open.
-fn short_12(rng: &mut Rng, v: Version) -> Vec<u8> {
-    let mut b = Builder::new(v);
+fn short_12(rng: &mut Rng) -> Vec<u8> {
+    let mut b = Builder::default();
     let s = b.small(7);
     b.sentinel(s);
     let other = *rng.pick(&[b.small(1), NIL, s]);

@@ -1,52 +1,35 @@
 //! Encoded trees.
 
-mod wide;
-
 use super::exhaustive::LETTERS;
 use super::{Kind, damage};
+use crate::reading::MAX_INPUT;
 use crate::rng::Rng;
-use crate::session::{self, Call};
-use crate::version::Version;
-use crate::writer::Measure;
+use crate::session;
 use clvm_rs::serde::write_atom::write_atom;
 
-/// The kinds of both versions.
 pub const KINDS: &[Kind] = &[
-    ("plain", 100, |rng, _| plain(rng)),
-    ("walks", 200, |rng, _| walks(rng)),
-    ("walks-into-atoms", 60, |rng, _| walks_into_atoms(rng)),
-    ("stack-paths", 100, |rng, _| stack_paths(rng)),
-    ("zero-paths", 60, |rng, _| zero_paths(rng)),
-    ("leading-zeros", 60, |rng, _| leading_zeros(rng)),
-    ("random-paths", 100, |rng, _| random_paths(rng)),
+    ("plain", 100, plain),
+    ("walks", 200, walks),
+    ("walks-into-atoms", 60, walks_into_atoms),
+    ("stack-paths", 100, stack_paths),
+    ("zero-paths", 60, zero_paths),
+    ("leading-zeros", 60, leading_zeros),
+    ("random-paths", 100, random_paths),
     ("written", 100, written),
-    ("prefixes", 60, |rng, _| prefixes(rng)),
-    ("path-prefixes", 60, |rng, _| path_prefixes(rng)),
-    ("nested-left", 8, |rng, _| nested_left(rng)),
-    ("nested-right", 8, |rng, _| nested_right(rng)),
-    ("big-atoms", 4, |rng, _| big_atoms(rng)),
-    ("short", 100, |rng, _| short(rng)),
-    ("alphabet", 100, |rng, _| alphabet(rng)),
-    ("random", 60, |rng, _| random_bytes(rng)),
+    ("prefixes", 60, prefixes),
+    ("path-prefixes", 60, path_prefixes),
+    ("nested-left", 8, nested_left),
+    ("nested-right", 8, nested_right),
+    ("big-atoms", 4, big_atoms),
+    ("short", 100, short),
+    ("alphabet", 100, alphabet),
+    ("random", 60, random_bytes),
     ("damaged", 150, damaged),
     ("truncated", 100, truncated),
     ("left-over", 30, left_over),
     ("long", 1, long),
     ("too-long", 1, too_long),
 ];
-
-/// The kinds of version 2 alone.
-pub const WIDE: &[Kind] = &[
-    ("wide-atom", 60, wide::atom),
-    ("wide-atoms", 40, wide::atoms),
-    ("wide-lists", 20, wide::lists),
-    ("wide-references", 20, wide::references),
-    ("wide-walks", 20, wide::walks),
-    ("wide-opening", 10, wide::opening),
-];
-
-/// The most references to the whole stack of a tree.
-const MOST_LISTS: usize = 22_000;
 
 pub fn encode_atom(out: &mut Vec<u8>, atom: &[u8]) {
     write_atom(out, atom).expect("write_atom");
@@ -324,7 +307,7 @@ fn random_paths(rng: &mut Rng) -> Vec<u8> {
 }
 
 /// The output of a session: finished, or what a refused one left.
-fn written(rng: &mut Rng, v: Version) -> Vec<u8> {
+fn written(rng: &mut Rng) -> Vec<u8> {
     let kind = *rng.pick(&[
         "tiny",
         "shared",
@@ -334,12 +317,8 @@ fn written(rng: &mut Rng, v: Version) -> Vec<u8> {
         "restores",
         "premise-broken",
     ]);
-    let file = super::session(v, rng.next(), kind).expect("a session kind");
-    let call = Call {
-        version: v,
-        measure: Measure::Counted,
-    };
-    session::run_by(call, &file, v.output, false).output
+    let file = super::session(rng.next(), kind).expect("a session kind");
+    session::run(&file, session::MAX_OUTPUT, false).output
 }
 
 /// A prefix of some width with some size and some bytes after it, or fewer.
@@ -515,39 +494,39 @@ fn random_bytes(rng: &mut Rng) -> Vec<u8> {
         .collect()
 }
 
-fn some_tree(rng: &mut Rng, v: Version) -> Vec<u8> {
+fn some_tree(rng: &mut Rng) -> Vec<u8> {
     match rng.below(5) {
         0 => plain(rng),
         1 => stack_paths(rng),
         2 => leading_zeros(rng),
-        3 => written(rng, v),
+        3 => written(rng),
         _ => walks(rng),
     }
 }
 
-fn damaged(rng: &mut Rng, v: Version) -> Vec<u8> {
-    let mut tree = some_tree(rng, v);
+fn damaged(rng: &mut Rng) -> Vec<u8> {
+    let mut tree = some_tree(rng);
     damage(rng, &mut tree);
     tree
 }
 
-fn truncated(rng: &mut Rng, v: Version) -> Vec<u8> {
-    let mut tree = some_tree(rng, v);
+fn truncated(rng: &mut Rng) -> Vec<u8> {
+    let mut tree = some_tree(rng);
     let keep = rng.below(tree.len().max(1));
     tree.truncate(keep);
     tree
 }
 
-fn left_over(rng: &mut Rng, v: Version) -> Vec<u8> {
-    let mut tree = some_tree(rng, v);
+fn left_over(rng: &mut Rng) -> Vec<u8> {
+    let mut tree = some_tree(rng);
     let n = rng.range(1, 3);
     tree.extend(rng.bytes(n));
     tree
 }
 
-/// As many bytes as question 2 lets through, or one fewer.
-fn long(rng: &mut Rng, v: Version) -> Vec<u8> {
-    let n = v.input;
+/// 65,535 bytes, the most that question 2 lets through.
+fn long(rng: &mut Rng) -> Vec<u8> {
+    let n = MAX_INPUT;
     match rng.below(6) {
         // pairs of one-byte atoms, left or right
         0 => {
@@ -584,25 +563,22 @@ fn long(rng: &mut Rng, v: Version) -> Vec<u8> {
             encode_atom(&mut out, &vec![0x85; rest]);
             out
         }
-        // references to the whole stack, which the Rust goes through each time
+        // references to the whole stack
         _ => {
-            let pairs = ((n - 2) / 3).min(MOST_LISTS);
+            let pairs = (n - 2) / 3;
             let mut out = vec![];
             for _ in 0..pairs {
                 out.extend([0xff, 0xfe, 0x01]);
             }
-            let rest = match n - out.len() {
-                room @ ..65 => room - 1,
-                room => room - 3,
-            };
+            let rest = n - out.len() - 1;
             encode_atom(&mut out, &vec![0x85; rest]);
             out
         }
     }
 }
 
-fn too_long(rng: &mut Rng, v: Version) -> Vec<u8> {
-    let mut out = long(rng, v);
+fn too_long(rng: &mut Rng) -> Vec<u8> {
+    let mut out = long(rng);
     let n = *rng.pick(&[1, 1, 2]);
     out.extend(rng.bytes(n));
     out

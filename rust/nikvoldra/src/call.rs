@@ -20,23 +20,7 @@ pub const INPUT_MOST: usize = 65_535;
 /// The most bytes of an output that are used (question 13).
 pub const OUTPUT_MOST: usize = 65_535;
 
-/// What is larger for [`session_v2`] and [`read_v2`]. The step words and the checkpoint records have the lengths of version 1.
-pub mod v2 {
-    /// The least length of work, in words (question 1).
-    pub const WORK_LENGTH: usize = 8_388_608;
-    /// The least length of the pairs, in words.
-    pub const PAIRS_LENGTH: usize = 4_194_304;
-    /// The least length of the atoms, in words.
-    pub const ATOMS_LENGTH: usize = 2_097_152;
-    /// The least length of the atom bytes.
-    pub const BYTES_LENGTH: usize = 1_048_576;
-    /// The most bytes of an input (question 2).
-    pub const INPUT_MOST: usize = 1_048_576;
-    /// The most bytes of an output that are used (question 13).
-    pub const OUTPUT_MOST: usize = 1_048_576;
-}
-
-/// A checkpoint record: room that the session calls are lent. After a run all its words are zero.
+/// A checkpoint record: room that [`session()`] and [`session_documented`] are lent. After a run all its words are zero.
 #[repr(C)]
 #[derive(Clone, Copy, Debug, Default, PartialEq, Eq)]
 pub struct Checkpoint {
@@ -54,7 +38,7 @@ pub struct Checkpoint {
     pub sentinel: u32,
 }
 
-/// What the session calls answer.
+/// What [`session()`] and [`session_documented`] answer.
 #[repr(C)]
 #[derive(Clone, Copy, Debug, Default, PartialEq, Eq)]
 pub struct SessionAnswer {
@@ -66,7 +50,7 @@ pub struct SessionAnswer {
     pub size: u32,
 }
 
-/// What the reading calls answer.
+/// What [`read`] answers.
 #[repr(C)]
 #[derive(Clone, Copy, Debug, Default, PartialEq, Eq)]
 pub struct ReadAnswer {
@@ -111,33 +95,7 @@ extern "C" {
         output_length: usize,
     ) -> SessionAnswer;
 
-    fn nikvoldra_session_v2(
-        file: *const u8,
-        file_length: usize,
-        work: *mut u32,
-        work_length: usize,
-        words: *mut u32,
-        words_length: usize,
-        checkpoints: *mut Checkpoint,
-        checkpoints_length: usize,
-        output: *mut u8,
-        output_length: usize,
-    ) -> SessionAnswer;
-
     fn nikvoldra_read(
-        input: *const u8,
-        input_length: usize,
-        work: *mut u32,
-        work_length: usize,
-        pairs: *mut u32,
-        pairs_length: usize,
-        atoms: *mut u32,
-        atoms_length: usize,
-        bytes: *mut u8,
-        bytes_length: usize,
-    ) -> ReadAnswer;
-
-    fn nikvoldra_read_v2(
         input: *const u8,
         input_length: usize,
         work: *mut u32,
@@ -213,38 +171,6 @@ pub fn session_documented(
     )
 }
 
-/// [`session()`] for a file of version 2, whose counts and atom lengths have 32 bits: work has the length of [`v2`], and file and output go
-/// to 1,048,576 bytes, of which atoms have at most 524,288.
-///
-/// A file of version 1 gets 3, as one of version 2 does from the other calls.
-///
-/// ```
-/// use nikvoldra::call::{self, Checkpoint};
-///
-/// let mut work = vec![0; call::v2::WORK_LENGTH];
-/// let mut words = vec![0; call::WORDS_LENGTH];
-/// let mut checkpoints = vec![Checkpoint::default(); call::CHECKPOINTS_LENGTH];
-/// let mut output = vec![0; call::v2::OUTPUT_MOST];
-/// // one atom of 65,536 bytes, no pairs, no sentinel; one step, which adds the atom: a prefix of three bytes
-/// let atom = vec![b'x'; 65_536];
-/// let file = [b"BRS\0\x02\0\0\0\x01\0\x01\0\0", &atom[..], b"\0\0\0\0\xff\xff\xff\xff\x01\x04\0\0\0"].concat();
-/// let answer = call::session_v2(&file, &mut work, &mut words, &mut checkpoints, &mut output);
-/// assert_eq!((answer.number, answer.steps, answer.size), (0, 1, 65_539));
-/// assert!(output.starts_with(b"\xe1\0\0xxx"));
-/// // the other calls refuse a file of this length before they look at its version
-/// let answer = call::session(&file, &mut work, &mut words, &mut checkpoints, &mut output);
-/// assert_eq!(answer.number, 2);
-/// ```
-pub fn session_v2(
-    file: &[u8],
-    work: &mut [u32],
-    words: &mut [u32],
-    checkpoints: &mut [Checkpoint],
-    output: &mut [u8],
-) -> SessionAnswer {
-    lend(nikvoldra_session_v2, file, work, words, checkpoints, output)
-}
-
 /// A session call as it is declared above.
 type DeclaredSession = unsafe extern "C" fn(
     *const u8,
@@ -259,7 +185,7 @@ type DeclaredSession = unsafe extern "C" fn(
     usize,
 ) -> SessionAnswer;
 
-/// Lends the slices to one of the session calls.
+/// Lends the slices to one of the two session calls.
 fn lend(
     call: DeclaredSession,
     file: &[u8],
@@ -269,7 +195,7 @@ fn lend(
     output: &mut [u8],
 ) -> SessionAnswer {
     // SAFETY: each pointer and length are those of a Rust slice, so they are aligned and valid for the whole call, and no
-    // `&mut` overlaps another slice. The calls have no `requires`, keep no pointer, and touch nothing outside their slices; they
+    // `&mut` overlaps another slice. Both calls have no `requires`, keep no pointer, and touch nothing outside their slices; they
     // are declared as the Rattle source has them (tests/declaration.rs compares them).
     unsafe {
         call(
@@ -295,60 +221,10 @@ pub fn read(
     atoms: &mut [u32],
     bytes: &mut [u8],
 ) -> ReadAnswer {
-    lend_store(nikvoldra_read, input, work, pairs, atoms, bytes)
-}
-
-/// [`read`] for an input of up to 1,048,576 bytes, with slices of the lengths of [`v2`].
-///
-/// ```
-/// use nikvoldra::call::{self, v2};
-///
-/// let mut work = vec![0; v2::WORK_LENGTH];
-/// let mut pairs = vec![0; v2::PAIRS_LENGTH];
-/// let mut atoms = vec![0; v2::ATOMS_LENGTH];
-/// let mut bytes = vec![0; v2::BYTES_LENGTH];
-/// let input = [&b"\xe1\0\0"[..], &[b'x'; 65_536]].concat();
-/// let answer = call::read_v2(&input, &mut work, &mut pairs, &mut atoms, &mut bytes);
-/// assert_eq!((answer.number, answer.root, answer.bytes), (0, 1 << 26, 65_536));
-/// assert_eq!(atoms[..2], [0, 65_536]);
-/// ```
-pub fn read_v2(
-    input: &[u8],
-    work: &mut [u32],
-    pairs: &mut [u32],
-    atoms: &mut [u32],
-    bytes: &mut [u8],
-) -> ReadAnswer {
-    lend_store(nikvoldra_read_v2, input, work, pairs, atoms, bytes)
-}
-
-/// A reading call as it is declared above.
-type DeclaredRead = unsafe extern "C" fn(
-    *const u8,
-    usize,
-    *mut u32,
-    usize,
-    *mut u32,
-    usize,
-    *mut u32,
-    usize,
-    *mut u8,
-    usize,
-) -> ReadAnswer;
-
-/// Lends the slices to one of the reading calls.
-fn lend_store(
-    call: DeclaredRead,
-    input: &[u8],
-    work: &mut [u32],
-    pairs: &mut [u32],
-    atoms: &mut [u32],
-    bytes: &mut [u8],
-) -> ReadAnswer {
-    // SAFETY: as in `lend`: pointers and lengths of Rust slices, of which no `&mut` overlaps another, and calls without
-    // a `requires`, declared as the Rattle source has them.
+    // SAFETY: as in `lend`: pointers and lengths of Rust slices, of which no `&mut` overlaps another, and a call without
+    // a `requires`, declared as the Rattle source has it.
     unsafe {
-        call(
+        nikvoldra_read(
             input.as_ptr(),
             input.len(),
             work.as_mut_ptr(),

@@ -1,8 +1,8 @@
 //! Nikvoldra for Rust: trees are added one after the other at the open place of a block's tree, written with repeated
 //! subtrees replaced by short references, and read back.
 //!
-//! The work is done by calls whose contracts are proved, `nikvoldra_session` and `nikvoldra_read`,
-//! `nikvoldra_session_documented` beside the first, and `nikvoldra_session_v2` and `nikvoldra_read_v2` for larger trees. This crate owns the slices that they are lent, makes the session file, and
+//! The work is done by calls whose contracts are proved, `nikvoldra_session` and `nikvoldra_read`, and
+//! `nikvoldra_session_documented` beside the first. This crate owns the slices that they are lent, makes the session file, and
 //! turns their numbers into errors. It is itself tested and not proved.
 //!
 //! ```
@@ -33,12 +33,6 @@
 //! [`Session::run`] and [`read`] make fresh slices each time. A [`Writer`] and a [`Reader`] keep theirs, of about 2 MiB and
 //! 3.6 MiB, from call to call. Who has slices of their own uses the functions of [`call`].
 //!
-//! # Atoms past sixteen bits
-//!
-//! The listed atoms of a session have at most 32,768 bytes together, and its output and what is read at most 65,535.
-//! [`Session::version_2`] makes a session with up to 524,288 and 1,048,576 bytes; [`read_v2`] reads what it writes. All else is the same.
-//! [`Writer::version_2`] and [`Reader::version_2`] keep slices of about 33 MiB and 57 MiB.
-//!
 //! # Two measures of a reference
 //!
 //! Before a reference is written, its path is measured. [`Session::run`] does that as the Rust does, whose prefix lengths count a byte
@@ -61,7 +55,6 @@ mod node;
 mod refusal;
 mod session;
 mod store;
-mod version;
 mod writer;
 
 /// The README's lines of Rust.
@@ -72,5 +65,5 @@ struct Readme;
 pub use node::{Kind, NodePtr};
 pub use refusal::Refusal;
 pub use session::{BuildError, Session};
-pub use store::{read, read_v2, Atom, Node, Reader, SmallAtom, Store, Tree};
+pub use store::{read, Atom, Node, Reader, SmallAtom, Store, Tree};
 pub use writer::{Run, SessionError, Step, Writer};

@@ -19,9 +19,9 @@ use std::fmt;
 pub enum Refusal {
     /// 1: A lent slice is too short. Only [`call`](crate::call) gives it.
     ShortSlice = 1,
-    /// 2: The input has more than 65,535 bytes (version 2: 1,048,576).
+    /// 2: The input has more than 65,535 bytes.
     LongInput = 2,
-    /// 3: The file doesn't begin with the mark and version 1 (version 2: 2).
+    /// 3: The file doesn't begin with the mark and version 1.
     NoMark = 3,
     /// 4: A field goes on past the end of the file.
     CutField = 4,
@@ -92,13 +92,10 @@ impl Refusal {
     pub fn question(self) -> &'static str {
         match self {
             ShortSlice => "Are the slices long enough?",
-            LongInput => "Is the input at most 65,535 bytes (version 2: 1,048,576)?",
-            NoMark => "Does the file begin with the mark and version 1 (version 2: 2)?",
+            LongInput => "Is the input at most 65,535 bytes?",
+            NoMark => "Does the file begin with the mark and version 1?",
             CutField => "Does the field end inside the file?",
-            TooMany => {
-                "At most 1,024 atoms, 1,024 pairs, 32,768 atom bytes so far (version 2: 524,288), \
-                 1,024 steps?"
-            }
+            TooMany => "At most 1,024 atoms, 1,024 pairs, 32,768 atom bytes so far, 1,024 steps?",
             ListedSmallAtom => "Is this atom one that fits_in_small_atom turns down?",
             UnknownHandle => {
                 "Does the handle name a listed atom, a small atom, or a pair listed earlier \
@@ -112,8 +109,7 @@ impl Refusal {
             }
             TooDeep => "Before a pair's ff, are fewer than 4,096 pairs open?",
             OutputFull => {
-                "Does the next item fit the output, of which at most 65,535 bytes (version 2: \
-                 1,048,576) are used?"
+                "Does the next item fit the output, of which at most 65,535 bytes are used?"
             }
             BrokenBytes => {
                 "Are bytes whole, prefixes at most six bytes, sizes below 2^34, nothing left over?"

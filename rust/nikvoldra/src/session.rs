@@ -1,7 +1,6 @@
 //! A session's file, made in memory.
 
 use crate::node::{small_value, Kind, NodePtr};
-use crate::version::Version;
 use crate::writer::{Run, SessionError, Writer};
 use std::collections::HashMap;
 use std::error::Error;
@@ -13,7 +12,7 @@ use std::fmt;
 pub enum BuildError {
     /// There are 1,024 listed atoms already.
     TooManyAtoms,
-    /// The listed atoms would have more than 32,768 bytes together, in a session of version 2 more than 524,288.
+    /// The listed atoms would have more than 32,768 bytes together.
     TooManyAtomBytes,
     /// There are 1,024 pairs already.
     TooManyPairs,
@@ -29,7 +28,7 @@ impl fmt::Display for BuildError {
             BuildError::TooManyAtoms => write!(f, "a session has at most 1,024 listed atoms"),
             BuildError::TooManyAtomBytes => write!(
                 f,
-                "the listed atoms of a session have at most 32,768 bytes together (version 2: 524,288)"
+                "the listed atoms of a session have at most 32,768 bytes together"
             ),
             BuildError::TooManyPairs => write!(f, "a session has at most 1,024 pairs"),
             BuildError::TooManySteps => write!(f, "a session has at most 1,024 steps"),
@@ -73,7 +72,6 @@ enum Operation {
 /// ```
 #[derive(Clone, Debug, Default)]
 pub struct Session {
-    version: Version,
     atoms: Vec<Vec<u8>>,
     atom_bytes: usize,
     listed: HashMap<Vec<u8>, NodePtr>,
@@ -87,8 +85,6 @@ impl Session {
     pub const MOST_ATOMS: usize = 1_024;
     /// The most bytes of its listed atoms together.
     pub const MOST_ATOM_BYTES: usize = 32_768;
-    /// The same for a session of version 2.
-    pub const MOST_ATOM_BYTES_V2: usize = 524_288;
     /// The most pairs of a session.
     pub const MOST_PAIRS: usize = 1_024;
     /// The most steps of a session.
@@ -99,34 +95,11 @@ impl Session {
         Session::default()
     }
 
-    /// The same, with a file of version 2: its listed atoms have up to 524,288 bytes together, and the output goes to 1,048,576 bytes.
-    ///
-    /// ```
-    /// use nikvoldra::{read_v2, Session};
-    ///
-    /// let mut session = Session::version_2();
-    /// let puzzle = session.atom(&[b'x'; 100_000])?; // 3 bytes of prefix
-    /// let tree = session.pair(puzzle, puzzle)?;
-    /// session.add(tree)?;
-    /// let run = session.run()?;
-    /// assert_eq!(run.bytes().len(), 1 + 100_003 + 2); // the second one is a reference
-    /// let store = read_v2(run.bytes())?;
-    /// let (left, right) = store.tree().pair().unwrap();
-    /// assert!(left == right && left.atom().unwrap().len() == 100_000);
-    /// # Ok::<(), Box<dyn std::error::Error>>(())
-    /// ```
-    pub fn version_2() -> Session {
-        Session {
-            version: Version::Two,
-            ..Session::default()
-        }
-    }
-
     fn list_atom(&mut self, bytes: &[u8]) -> Result<NodePtr, BuildError> {
         if self.atoms.len() == Session::MOST_ATOMS {
             return Err(BuildError::TooManyAtoms);
         }
-        if bytes.len() > self.version.limits().atom_bytes - self.atom_bytes {
+        if bytes.len() > Session::MOST_ATOM_BYTES - self.atom_bytes {
             return Err(BuildError::TooManyAtomBytes);
         }
         self.atom_bytes += bytes.len();
@@ -336,17 +309,11 @@ impl Session {
     /// ```
     /// let file = nikvoldra::Session::new().to_file();
     /// assert_eq!(file, b"BRS\x00\x01\x00\x00\x00\x00\xff\xff\xff\xff");
-    /// let file = nikvoldra::Session::version_2().to_file();
-    /// assert_eq!(file, b"BRS\x00\x02\x00\x00\x00\x00\x00\x00\x00\x00\xff\xff\xff\xff");
     /// ```
     pub fn to_file(&self) -> Vec<u8> {
-        // The limits keep each of these within its field, and the file within what question 2 allows.
-        let limits = self.version.limits();
-        let mut file = b"BRS".to_vec();
-        file.extend(limits.number.to_be_bytes());
-        let number = |file: &mut Vec<u8>, n: usize| {
-            file.extend(&(n as u32).to_be_bytes()[4 - limits.width..]);
-        };
+        // The limits keep each of these within its field, and the file within 65,535 bytes.
+        let mut file = b"BRS\x00\x01".to_vec();
+        let number = |file: &mut Vec<u8>, n: usize| file.extend((n as u16).to_be_bytes());
         let handle = |file: &mut Vec<u8>, node: NodePtr| file.extend(node.handle().to_be_bytes());
         number(&mut file, self.atoms.len());
         for atom in &self.atoms {
@@ -387,10 +354,9 @@ impl Session {
         file
     }
 
-    /// Runs it with slices of its own and an output of 65,535 bytes, in version 2 of 1,048,576. A [`Writer`] keeps the slices for the
-    /// next run.
+    /// Runs it with slices of its own and an output of 65,535 bytes. A [`Writer`] keeps the slices for the next run.
     pub fn run(&self) -> Result<Run, SessionError> {
-        Writer::of_version(self.version).run(self)
+        Writer::new().run(self)
     }
 
     /// Runs it like [`run`](Session::run), with references measured as the CLVM serialization documentation has it.
@@ -423,16 +389,6 @@ impl Session {
     /// assert_eq!(rust.bytes().len(), documented.bytes().len());
     /// assert!(read(rust.bytes())?.tree() == read(documented.bytes())?.tree());
     /// # Ok::<(), Box<dyn std::error::Error>>(())
-    /// ```
-    ///
-    /// That call takes files of version 1: a session of version 2 is refused with [`Refusal::NoMark`](crate::Refusal::NoMark), and with
-    /// [`Refusal::LongInput`](crate::Refusal::LongInput) where its file has more than 65,535 bytes, which is asked first.
-    ///
-    /// ```
-    /// use nikvoldra::{Refusal, Session};
-    ///
-    /// let error = Session::version_2().run_documented().unwrap_err();
-    /// assert_eq!(error.refusal(), Refusal::NoMark);
     /// ```
     pub fn run_documented(&self) -> Result<Run, SessionError> {
         Writer::new().run_documented(self)

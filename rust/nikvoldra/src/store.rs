@@ -1,8 +1,8 @@
 //! The reading call with slices of its own, and the tree that it reads.
 
+use crate::call;
 use crate::node::{small_bytes, Kind, NodePtr};
 use crate::refusal::Refusal;
-use crate::version::Version;
 use std::collections::HashMap;
 use std::fmt;
 use std::ops::Deref;
@@ -68,7 +68,7 @@ impl fmt::Debug for Store {
 /// ```
 /// use nikvoldra::{read, Node, Tree};
 ///
-/// /// The leaves of a tree. (Recursion: a tree can be as deep as its bytes are many, and have far more leaves.)
+/// /// The leaves of a tree. (Recursion: a tree can be 65,000 pairs deep and have very many leaves.)
 /// fn leaves(tree: Tree) -> usize {
 ///     match tree.node() {
 ///         Node::Pair(left, right) => leaves(left) + leaves(right),
@@ -316,7 +316,6 @@ impl fmt::Debug for Atom<'_> {
 /// # Ok::<(), Refusal>(())
 /// ```
 pub struct Reader {
-    version: Version,
     work: Vec<u32>,
     pairs: Vec<u32>,
     atoms: Vec<u32>,
@@ -324,40 +323,19 @@ pub struct Reader {
 }
 
 impl Reader {
-    /// A reader with slices of the least lengths that are taken. An input has at most 65,535 bytes.
+    /// A reader with slices of the least lengths that are taken.
     pub fn new() -> Reader {
-        Reader::of_version(Version::One)
-    }
-
-    /// A reader for what sessions of version 2 write: an input has at most 1,048,576 bytes. Its slices have 57 MiB.
-    ///
-    /// ```
-    /// use nikvoldra::{Reader, Refusal};
-    ///
-    /// let input = [&b"\xe2\0\0"[..], &[b'x'; 131_072]].concat();
-    /// let store = Reader::version_2().read(&input)?;
-    /// assert_eq!(store.byte_count(), 131_072);
-    /// assert_eq!(Reader::new().read(&input).unwrap_err(), Refusal::LongInput);
-    /// # Ok::<(), Refusal>(())
-    /// ```
-    pub fn version_2() -> Reader {
-        Reader::of_version(Version::Two)
-    }
-
-    fn of_version(version: Version) -> Reader {
-        let limits = version.limits();
         Reader {
-            version,
-            work: vec![0; limits.work],
-            pairs: vec![0; limits.pairs],
-            atoms: vec![0; limits.atoms],
-            bytes: vec![0; limits.bytes],
+            work: vec![0; call::WORK_LENGTH],
+            pairs: vec![0; call::PAIRS_LENGTH],
+            atoms: vec![0; call::ATOMS_LENGTH],
+            bytes: vec![0; call::BYTES_LENGTH],
         }
     }
 
     /// Reads a tree. It can be refused by the questions 2 and 14 to 16.
     pub fn read(&mut self, input: &[u8]) -> Result<Store, Refusal> {
-        let answer = (self.version.limits().read)(
+        let answer = call::read(
             input,
             &mut self.work,
             &mut self.pairs,
@@ -398,17 +376,4 @@ impl fmt::Debug for Reader {
 /// ```
 pub fn read(input: &[u8]) -> Result<Store, Refusal> {
     Reader::new().read(input)
-}
-
-/// Reads a tree of up to 1,048,576 bytes, as a session of version 2 writes it, with slices of its own.
-///
-/// ```
-/// let store = nikvoldra::read_v2(&[&b"\xef\xff\xff"[..], &[b'x'; 0xf_ffff]].concat());
-/// assert_eq!(store.unwrap_err(), nikvoldra::Refusal::LongInput); // 1,048,578 bytes
-/// let store = nikvoldra::read_v2(&[&b"\xef\xff\xfd"[..], &[b'x'; 0xf_fffd]].concat())?;
-/// assert_eq!(store.tree().atom().unwrap().len(), 1_048_573);
-/// # Ok::<(), nikvoldra::Refusal>(())
-/// ```
-pub fn read_v2(input: &[u8]) -> Result<Store, Refusal> {
-    Reader::version_2().read(input)
 }

@@ -1,9 +1,8 @@
 //! The session calls with slices of their own.
 
-use crate::call::{self, Checkpoint};
+use crate::call::{self, Checkpoint, SessionAnswer};
 use crate::refusal::Refusal;
 use crate::session::Session;
-use crate::version::{SessionCall, Version};
 use std::error::Error;
 use std::fmt;
 
@@ -130,8 +129,7 @@ impl fmt::Display for SessionError {
 
 impl Error for SessionError {}
 
-/// Runs sessions on slices that it keeps from run to run. Those of version 2 need a writer of version 2, and it takes no others: a session
-/// of the other version is refused with [`Refusal::NoMark`].
+/// Runs sessions on slices that it keeps from run to run.
 ///
 /// ```
 /// use nikvoldra::{NodePtr, Session, Writer};
@@ -145,17 +143,19 @@ impl Error for SessionError {}
 /// # Ok::<(), Box<dyn std::error::Error>>(())
 /// ```
 pub struct Writer {
-    version: Version,
     work: Vec<u32>,
     words: Vec<u32>,
     checkpoints: Vec<Checkpoint>,
     output: Vec<u8>,
 }
 
+/// One of the session calls.
+type SessionCall = fn(&[u8], &mut [u32], &mut [u32], &mut [Checkpoint], &mut [u8]) -> SessionAnswer;
+
 impl Writer {
     /// A writer whose output has 65,535 bytes, of which no more are ever used.
     pub fn new() -> Writer {
-        Writer::of_version(Version::One)
+        Writer::with_output_length(call::OUTPUT_MOST)
     }
 
     /// A writer whose output has so many bytes: an item that doesn't fit is refused with [`Refusal::OutputFull`].
@@ -174,50 +174,8 @@ impl Writer {
     /// # Ok::<(), Box<dyn std::error::Error>>(())
     /// ```
     pub fn with_output_length(length: usize) -> Writer {
-        Writer::made(Version::One, length)
-    }
-
-    /// A writer for sessions of version 2, whose output has 1,048,576 bytes. Its slices have 33 MiB.
-    ///
-    /// ```
-    /// use nikvoldra::{Refusal, Session, Writer};
-    ///
-    /// let mut session = Session::version_2();
-    /// let atom = session.atom(&[0x80; 200_000])?;
-    /// session.add(atom)?;
-    /// let mut writer = Writer::version_2();
-    /// assert_eq!(writer.run(&session)?.bytes().len(), 200_003);
-    /// assert_eq!(writer.run(&Session::new()).unwrap_err().refusal(), Refusal::NoMark);
-    /// # Ok::<(), Box<dyn std::error::Error>>(())
-    /// ```
-    pub fn version_2() -> Writer {
-        Writer::of_version(Version::Two)
-    }
-
-    /// A writer for sessions of version 2, whose output has so many bytes.
-    ///
-    /// ```
-    /// use nikvoldra::{Refusal, Session, Writer};
-    ///
-    /// let mut session = Session::version_2();
-    /// let atom = session.atom(&[0x80; 200_000])?;
-    /// session.add(atom)?;
-    /// let error = Writer::version_2_with_output_length(200_002).run(&session).unwrap_err();
-    /// assert_eq!(error.refusal(), Refusal::OutputFull);
-    /// # Ok::<(), nikvoldra::BuildError>(())
-    /// ```
-    pub fn version_2_with_output_length(length: usize) -> Writer {
-        Writer::made(Version::Two, length)
-    }
-
-    pub(crate) fn of_version(version: Version) -> Writer {
-        Writer::made(version, version.limits().output)
-    }
-
-    fn made(version: Version, length: usize) -> Writer {
         Writer {
-            version,
-            work: vec![0; version.limits().work],
+            work: vec![0; call::WORK_LENGTH],
             words: vec![0; call::WORDS_LENGTH],
             checkpoints: vec![Checkpoint::default(); call::CHECKPOINTS_LENGTH],
             output: vec![0; length],
@@ -231,11 +189,10 @@ impl Writer {
 
     /// Runs a session file that was made elsewhere. It can be refused by the questions 2 to 13 and 17.
     pub fn run_file(&mut self, file: &[u8]) -> Result<Run, SessionError> {
-        self.run_by(self.version.limits().session, file)
+        self.run_by(call::session, file)
     }
 
-    /// Runs a session, with references measured as the documentation has it: [`Session::run_documented`]. It is of version 1, whatever the
-    /// writer's is.
+    /// Runs a session, with references measured as the documentation has it: [`Session::run_documented`].
     pub fn run_documented(&mut self, session: &Session) -> Result<Run, SessionError> {
         self.run_file_documented(&session.to_file())
     }

@@ -256,18 +256,8 @@ fn calls() {
             ["file", "work", "words", "checkpoints", "output"],
         ),
         (
-            SESSION,
-            "nikvoldra_session_v2",
-            ["file", "work", "words", "checkpoints", "output"],
-        ),
-        (
             READ,
             "nikvoldra_read",
-            ["input", "work", "pairs", "atoms", "bytes"],
-        ),
-        (
-            READ,
-            "nikvoldra_read_v2",
             ["input", "work", "pairs", "atoms", "bytes"],
         ),
     ] {
@@ -341,7 +331,7 @@ fn sizes_and_places() {
     assert_eq!(offset_of!(ReadAnswer, ghosts), 20);
 }
 
-/// The header's lengths are this crate's, which tests/refusals.rs and tests/version_2.rs try.
+/// The header's lengths are this crate's, which tests/refusals.rs tries.
 #[test]
 fn lengths() {
     let header = std::fs::read_to_string(place("include/nikvoldra.h")).unwrap();
@@ -354,12 +344,6 @@ fn lengths() {
         ("BYTES_LENGTH", call::BYTES_LENGTH),
         ("INPUT_MOST", call::INPUT_MOST),
         ("OUTPUT_MOST", call::OUTPUT_MOST),
-        ("V2_WORK_LENGTH", call::v2::WORK_LENGTH),
-        ("V2_PAIRS_LENGTH", call::v2::PAIRS_LENGTH),
-        ("V2_ATOMS_LENGTH", call::v2::ATOMS_LENGTH),
-        ("V2_BYTES_LENGTH", call::v2::BYTES_LENGTH),
-        ("V2_INPUT_MOST", call::v2::INPUT_MOST),
-        ("V2_OUTPUT_MOST", call::v2::OUTPUT_MOST),
     ] {
         let line = format!("#define NIKVOLDRA_{name} {value}");
         assert!(header.lines().any(|found| found == line), "{line}");

@@ -1,6 +1,6 @@
 //! The sessions and readings that were recorded from the Rust, which the programs `session` and `read` also run on.
 
-use nikvoldra::{call, Reader, Refusal, Run, SessionError, Writer};
+use nikvoldra::{call, Run, SessionError, Writer};
 use std::fmt::Write;
 use std::path::{Path, PathBuf};
 
@@ -144,62 +144,4 @@ fn readings() {
         writeln!(text, "{}", hex(&bytes[..a.bytes as usize])).unwrap();
     }
     assert!(text == expected);
-}
-
-/// Copies a number from 16 bits to 32.
-fn widen(rest: &mut &[u8], made: &mut Vec<u8>) -> Option<usize> {
-    let (number, after) = rest.split_first_chunk()?;
-    *rest = after;
-    let number = u16::from_be_bytes(*number);
-    made.extend(u32::from(number).to_be_bytes());
-    Some(number.into())
-}
-
-/// The file in version 2, if mark, counts and atoms are whole.
-fn in_version_2(file: &[u8]) -> Option<Vec<u8>> {
-    let mut rest = file.strip_prefix(b"BRS\x00\x01")?;
-    let mut made = b"BRS\x00\x02".to_vec();
-    for _ in 0..widen(&mut rest, &mut made)? {
-        let length = widen(&mut rest, &mut made)?;
-        let (atom, after) = rest.split_at_checked(length)?;
-        made.extend(atom);
-        rest = after;
-    }
-    widen(&mut rest, &mut made)?;
-    made.extend(rest);
-    Some(made)
-}
-
-/// Where no limit that version 2 raises is met, a session is the same in both.
-#[test]
-fn sessions_in_version_2() {
-    let (files, _) = recorded("session", None);
-    let (mut first, mut second) = (Writer::new(), Writer::version_2());
-    let mut compared = 0;
-    for name in files {
-        let file = std::fs::read(&name).unwrap();
-        let expected = first.run_file(&file);
-        let refusal = expected.as_ref().err().map(|error| error.refusal());
-        if let Some(Refusal::LongInput | Refusal::TooMany | Refusal::OutputFull) = refusal {
-            continue;
-        }
-        if let Some(file) = in_version_2(&file) {
-            assert!(second.run_file(&file) == expected, "{}", name.display());
-            compared += 1;
-        }
-    }
-    assert!(compared > 100, "{compared} sessions");
-}
-
-#[test]
-fn readings_in_version_2() {
-    let (files, _) = recorded("read", None);
-    let (mut first, mut second) = (Reader::new(), Reader::version_2());
-    for name in files {
-        let input = std::fs::read(&name).unwrap();
-        let expected = first.read(&input);
-        if expected != Err(Refusal::LongInput) {
-            assert!(second.read(&input) == expected, "{}", name.display());
-        }
-    }
 }

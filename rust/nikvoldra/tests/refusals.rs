@@ -323,18 +323,20 @@ type SessionCall = fn(&[u8], &mut [u32], &mut [u32], &mut [Checkpoint], &mut [u8
 
 #[test]
 fn of_short_slices_in_a_session() {
-    short_slices(call::session, Session::new(), call::WORK_LENGTH);
-    short_slices(call::session_documented, Session::new(), call::WORK_LENGTH);
-    let session = Session::version_2();
-    short_slices(call::session_v2, session, call::v2::WORK_LENGTH);
+    short_slices(call::session);
+    short_slices(call::session_documented);
 }
 
-fn short_slices(session: SessionCall, mut made: Session, work: usize) {
-    made.add(NodePtr::NIL).unwrap();
-    let file = made.to_file();
-    let least = [work, call::WORDS_LENGTH, call::CHECKPOINTS_LENGTH, 1];
-    // the last two: a word for each step is too few, and a sixteenth of work
-    for (slice, short) in [(0, 1), (1, 1), (2, 1), (1, 2_048), (0, work / 16 * 15)] {
+fn short_slices(session: SessionCall) {
+    let file = file_with(&[1, 8, 0, 0, 0]);
+    let least = [
+        call::WORK_LENGTH,
+        call::WORDS_LENGTH,
+        call::CHECKPOINTS_LENGTH,
+        1,
+    ];
+    // the last: a word for each step is too few
+    for (slice, short) in [(0, 1), (1, 1), (2, 1), (1, 2_048)] {
         let mut lengths = least;
         lengths[slice] -= short;
         let before = session_slices(lengths);
@@ -361,8 +363,6 @@ fn short_slices(session: SessionCall, mut made: Session, work: usize) {
     assert_eq!(s.3, [0x80]);
 }
 
-type ReadCall = fn(&[u8], &mut [u32], &mut [u32], &mut [u32], &mut [u8]) -> ReadAnswer;
-
 #[test]
 fn of_short_slices_in_a_reading() {
     let least = [
@@ -371,17 +371,6 @@ fn of_short_slices_in_a_reading() {
         call::ATOMS_LENGTH,
         call::BYTES_LENGTH,
     ];
-    short_slices_of_a_store(call::read, least);
-    let least = [
-        call::v2::WORK_LENGTH,
-        call::v2::PAIRS_LENGTH,
-        call::v2::ATOMS_LENGTH,
-        call::v2::BYTES_LENGTH,
-    ];
-    short_slices_of_a_store(call::read_v2, least);
-}
-
-fn short_slices_of_a_store(read: ReadCall, least: [usize; 4]) {
     let slices = |n: [usize; 4]| {
         (
             vec![RUBBISH; n[0]],
@@ -396,7 +385,7 @@ fn short_slices_of_a_store(read: ReadCall, least: [usize; 4]) {
         lengths[short] -= 1;
         let before = slices(lengths);
         let mut s = before.clone();
-        let answer = read(input, &mut s.0, &mut s.1, &mut s.2, &mut s.3);
+        let answer = call::read(input, &mut s.0, &mut s.1, &mut s.2, &mut s.3);
         let refused = ReadAnswer {
             number: Refusal::ShortSlice.number(),
             ..ReadAnswer::default()
@@ -405,14 +394,14 @@ fn short_slices_of_a_store(read: ReadCall, least: [usize; 4]) {
         assert!(s == before, "1 touches no slice");
     }
     let mut s = slices(least);
-    let answer = read(input, &mut s.0, &mut s.1, &mut s.2, &mut s.3);
+    let answer = call::read(input, &mut s.0, &mut s.1, &mut s.2, &mut s.3);
     assert_eq!((answer.number, answer.root), (0, 0));
     assert_eq!((answer.pairs, answer.atoms, answer.bytes), (1, 1, 6));
     assert!(s.0.iter().all(|word| *word == 0));
     assert_eq!(s.1[..3], [1 << 26, 1 << 26, 0]);
     assert_eq!(s.2[..4], [0, 6, 0, 0]);
     assert_eq!(&s.3[..7], b"foobar\x00");
-    let answer = read(b"\xff", &mut s.0, &mut s.1, &mut s.2, &mut s.3);
+    let answer = call::read(b"\xff", &mut s.0, &mut s.1, &mut s.2, &mut s.3);
     assert_eq!((answer.number, answer.root, answer.pairs), (14, 0, 0));
     assert!(s.1.iter().chain(&s.2).all(|word| *word == 0));
     assert!(s.3.iter().all(|byte| *byte == 0));

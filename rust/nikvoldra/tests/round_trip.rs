@@ -199,9 +199,9 @@ impl Made {
 }
 
 /// A session of some adds, the last of which finishes it, with what is taken back between them; and the whole tree.
-fn make(seed: u64, session: Session) -> (Made, Rc<Plain>) {
+fn make(seed: u64) -> (Made, Rc<Plain>) {
     let mut made = Made {
-        session,
+        session: Session::new(),
         chance: Chance(seed.wrapping_mul(0x9e37_79b9_7f4a_7c15) | 1),
         pool: vec![],
         adds: vec![],
@@ -226,7 +226,7 @@ fn reads_back_as_the_tree_handed_in() {
     let (mut writer, mut reader) = (Writer::new(), Reader::new());
     let mut shorter = 0;
     for seed in 1..=500 {
-        let (made, whole) = make(seed, Session::new());
+        let (made, whole) = make(seed);
         let full = whole.full();
         if full.len() > 60_000 {
             continue;
@@ -265,26 +265,6 @@ fn reads_back_as_the_tree_handed_in() {
     assert!(shorter > 100, "only {shorter} sessions have references");
 }
 
-/// The same sessions in version 2 have the same bytes, which its reader reads as the other does.
-#[test]
-fn the_same_in_version_2() {
-    let (mut writer, mut reader) = (Writer::version_2(), Reader::version_2());
-    for seed in 1..=60 {
-        let (made, _) = make(seed, Session::new());
-        let (second, whole) = make(seed, Session::version_2());
-        let run = writer.run(&second.session).unwrap();
-        let Ok(first) = made.session.run() else {
-            // 65,535 bytes are too few
-            assert!(run.bytes().len() > 65_535, "seed {seed}");
-            continue;
-        };
-        assert_eq!(run, first, "seed {seed}");
-        let store = reader.read(run.bytes()).unwrap();
-        assert!(whole.is(store.tree()), "seed {seed}");
-        assert_eq!(nikvoldra::read(run.bytes()).unwrap(), store);
-    }
-}
-
 /// 1,024 pairs deep, and each of them shared: 2^1024 leaves. Neither the calls nor the comparison unfold it.
 #[test]
 fn a_tree_too_large_to_unfold() {
@@ -305,24 +285,20 @@ fn a_tree_too_large_to_unfold() {
     assert!(left == right && left != other.tree());
 }
 
-/// The session calls go down a tree by recursion, and no session has more than 1,024 pairs.
+/// The session call goes down a tree by recursion, and no session has more than 1,024 pairs.
 #[test]
 fn the_deepest_tree_on_a_small_stack() {
-    for (mut session, mut reader) in [
-        (Session::new(), Reader::new()),
-        (Session::version_2(), Reader::version_2()),
-    ] {
-        let mut node = session.sentinel().unwrap();
-        for _ in 0..1_024 {
-            node = session.pair(node, NodePtr::NIL).unwrap();
-        }
-        session.add(node).unwrap();
-        session.add(NodePtr::NIL).unwrap();
-        let run = move || {
-            let run = session.run().unwrap();
-            reader.read(run.bytes()).unwrap().pair_count()
-        };
-        let thread = std::thread::Builder::new().stack_size(256 * 1_024);
-        assert_eq!(thread.spawn(run).unwrap().join().unwrap(), 1_024);
+    let mut session = Session::new();
+    let mut node = session.sentinel().unwrap();
+    for _ in 0..1_024 {
+        node = session.pair(node, NodePtr::NIL).unwrap();
     }
+    session.add(node).unwrap();
+    session.add(NodePtr::NIL).unwrap();
+    let run = move || {
+        let run = session.run().unwrap();
+        nikvoldra::read(run.bytes()).unwrap().pair_count()
+    };
+    let thread = std::thread::Builder::new().stack_size(256 * 1_024);
+    assert_eq!(thread.spawn(run).unwrap().join().unwrap(), 1_024);
 }

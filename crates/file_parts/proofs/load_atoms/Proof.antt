@@ -9,16 +9,13 @@ use Rattle.file_parts.proofs.load_atoms.Statement.{statement}
 use Rattle.file_parts.proofs.load_atoms.Tie as tie
 
 abbrev invariant-loop : tie.invariant-loop
-invariant-loop file table₀ width count n place₀ i₀ table place i = (i ≤ count) × (length table ≡ length table₀) × LoadingAtoms width file count table₀ table place i
+invariant-loop file table₀ count n place₀ i₀ table place i = (i ≤ count) × (length table ≡ length table₀) × LoadingAtoms file count table₀ table place i
 
 abbrev decreases-loop : tie.decreases-loop
-decreases-loop file table₀ width count n place₀ i₀ table place i = count - i
-
-add-place : tie.Need-overflow-add-place invariant-loop decreases-loop
-add-place c = omega (arith, c.before.before.requires.0.narrow)
+decreases-loop file table₀ count n place₀ i₀ table place i = count - i
 
 loop-holds : tie.Need-loop-init invariant-loop decreases-loop
-loop-holds c = let s = c.before.before in (omega arith, refl, loading_atoms s.args.width s.args.file.now s.args.count s.args.table.now s.requires.0)
+loop-holds c = let s = c.before.before in (omega arith, refl, loading_atoms s.args.file.now s.args.count s.args.table.now s.requires.0)
 
 add_start : tie.Need-overflow-add-start invariant-loop decreases-loop
 add_start c = omega (arith, atom_room c.before.loop.invariant.2 (omega arith))
@@ -84,7 +81,6 @@ load-atoms-spec =
     (tie.spec
     invariant-loop
     decreases-loop
-    add-place
     loop-holds
     add_start
     number-at-requires

@@ -13,8 +13,7 @@ use Rattle.words.specs.Lists.{same, same_eq}
 use Rattle.words.specs.BigEndian.{length_big_endian}
 use Rattle.file_parts.specs.declared.session_file.Part.{Part}
 use Rattle.file_parts.specs.declared.session_file.Checked.{Checked}
-use Rattle.limits.specs.Limits.{Limits, Small}
-use Rattle.spec_session.specs.File.{Got, got, refused, and_then, asked, count, atoms, Pair, pairs, sentinel, Step, steps, File, mark, after_mark, file}
+use Rattle.spec_session.specs.File.{Got, got, refused, and_then, asked, count, version_1, atoms, Pair, pairs, sentinel, Step, steps, File, mark, after_mark, file}
 use Rattle.file_parts.specs.Answers.{Answers, itself, counted}
 use Rattle.spec_session.specs.Sentinel.{sentinel_word}
 use Rattle.spec_session.specs.Places.{PairsAt, StepsAt}
@@ -24,96 +23,96 @@ use Rattle.file_parts.specs.PlaceLaws.{pairs_read, steps_read, contents_of}
 use Rattle.file_parts.proofs.session_file.FieldLaws.{taken, turned, yes_asked, no_asked}
 
 -- A part that was refused ends the check with its number.
-refused_then : {A : Type 0} (l : Limits) (input : List ℕ) (word : A → ℕ) (p : Part) (g : Got A) (f : A → List ℕ → Got File) {whole : Got File} {c : Checked}
-    → whole ≡ and_then g f → Answers input word p g → (p.number ≡ 0 → ⊥) → c ≡ turned_down p.number → Checks l input c whole
-refused_then {A} l input word p g f {whole} {c} e h z d =
+refused_then : {A : Type 0} (input : List ℕ) (word : A → ℕ) (p : Part) (g : Got A) (f : A → List ℕ → Got File) {whole : Got File} {c : Checked}
+    → whole ≡ and_then g f → Answers input word p g → (p.number ≡ 0 → ⊥) → c ≡ turned_down p.number → Checks input c whole
+refused_then {A} input word p g f {whole} {c} e h z d =
     let t = turned input word p g h z in
-    subst (Checks l input c) (sym (e ∙ ap (λ (x : Got A). and_then x f) t.is)) (record { is = d; low = t.low; high = t.high })
+    subst (Checks input c) (sym (e ∙ ap (λ (x : Got A). and_then x f) t.is)) (record { is = d; low = t.low; high = t.high })
 
 -- ---- where the check stands after each part, of a file whose check gives g
 
-pub record AfterCount (l : Limits) (input : List ℕ) (g : Got File) (p₁ : Part) : Type 0 where
+pub record AfterCount (input : List ℕ) (g : Got File) (p₁ : Part) : Type 0 where
   pub inside : p₁.next ≤ length input
-  pub count_is : count l.count_bytes l.atoms (drop 5 input) ≡ got p₁.value (drop p₁.next input)
-  pub is : g ≡ after_atom_count l p₁.value (drop p₁.next input)
+  pub count_is : count 2 1024 (drop 5 input) ≡ got p₁.value (drop p₁.next input)
+  pub is : g ≡ after_atom_count p₁.value (drop p₁.next input)
 
-pub record AfterAtoms (l : Limits) (input : List ℕ) (g : Got File) (p₁ p₂ : Part) : Type 0 where
-  pub before : AfterCount l input g p₁
+pub record AfterAtoms (input : List ℕ) (g : Got File) (p₁ p₂ : Part) : Type 0 where
+  pub before : AfterCount input g p₁
   pub inside : p₂.next ≤ length input
   pub xs : List (List ℕ)
   pub size : p₂.value ≡ length xs
-  pub atoms_are : atoms l.count_bytes l.atom_bytes p₁.value 0 [] (drop p₁.next input) ≡ got xs (drop p₂.next input)
-  pub is : g ≡ after_atoms l xs (drop p₂.next input)
+  pub atoms_are : atoms version_1 p₁.value 0 [] (drop p₁.next input) ≡ got xs (drop p₂.next input)
+  pub is : g ≡ after_atoms xs (drop p₂.next input)
 
-pub record AfterPairCount (l : Limits) (input : List ℕ) (g : Got File) (p₁ p₂ p₃ : Part) : Type 0 where
-  pub before : AfterAtoms l input g p₁ p₂
+pub record AfterPairCount (input : List ℕ) (g : Got File) (p₁ p₂ p₃ : Part) : Type 0 where
+  pub before : AfterAtoms input g p₁ p₂
   pub inside : p₃.next ≤ length input
-  pub count_is : count l.count_bytes l.pairs (drop p₂.next input) ≡ got p₃.value (drop p₃.next input)
-  pub is : g ≡ after_pair_count l before.xs p₃.value (drop p₃.next input)
+  pub count_is : count 2 1024 (drop p₂.next input) ≡ got p₃.value (drop p₃.next input)
+  pub is : g ≡ after_pair_count before.xs p₃.value (drop p₃.next input)
 
-pub record AfterPairs (l : Limits) (input : List ℕ) (g : Got File) (p₁ p₂ p₃ p₄ : Part) : Type 0 where
-  pub before : AfterPairCount l input g p₁ p₂ p₃
+pub record AfterPairs (input : List ℕ) (g : Got File) (p₁ p₂ p₃ p₄ : Part) : Type 0 where
+  pub before : AfterPairCount input g p₁ p₂ p₃
   pub inside : p₄.next ≤ length input
   pub ps : List Pair
   pub size : p₄.value ≡ length ps
   pub pairs_are : pairs (length before.before.xs) p₃.value [] (drop p₃.next input) ≡ got ps (drop p₄.next input)
-  pub is : g ≡ after_pairs l before.before.xs ps (drop p₄.next input)
+  pub is : g ≡ after_pairs before.before.xs ps (drop p₄.next input)
 
-pub record AfterSentinel (l : Limits) (input : List ℕ) (g : Got File) (p₁ p₂ p₃ p₄ p₅ : Part) : Type 0 where
-  pub before : AfterPairs l input g p₁ p₂ p₃ p₄
+pub record AfterSentinel (input : List ℕ) (g : Got File) (p₁ p₂ p₃ p₄ p₅ : Part) : Type 0 where
+  pub before : AfterPairs input g p₁ p₂ p₃ p₄
   pub inside : p₅.next ≤ length input
   pub z : Option ℕ
   pub word : p₅.value ≡ sentinel_word z
   pub sentinel_is : sentinel (length before.before.before.xs) (length before.ps) (drop p₄.next input) ≡ got z (drop p₅.next input)
-  pub is : g ≡ after_sentinel l before.before.before.xs before.ps z (drop p₅.next input)
+  pub is : g ≡ after_sentinel before.before.before.xs before.ps z (drop p₅.next input)
 
-module _ (l : Limits) (input : List ℕ) (p₁ : Part) (h : Answers input itself p₁ (count l.count_bytes l.atoms (drop 5 input))) where
-  pub count_turned : {c : Checked} → (p₁.number ≡ 0 → ⊥) → c ≡ turned_down p₁.number → Checks l input c (after_mark l (drop 5 input))
-  count_turned = refused_then l input itself p₁ (count l.count_bytes l.atoms (drop 5 input)) (after_atom_count l) refl h
+module _ (input : List ℕ) (p₁ : Part) (h : Answers input itself p₁ (count 2 1024 (drop 5 input))) where
+  pub count_turned : {c : Checked} → (p₁.number ≡ 0 → ⊥) → c ≡ turned_down p₁.number → Checks input c (after_mark version_1 (drop 5 input))
+  count_turned = refused_then input itself p₁ (count 2 1024 (drop 5 input)) after_atom_count refl h
 
-  pub count_taken : p₁.number ≡ 0 → AfterCount l input (after_mark l (drop 5 input)) p₁
+  pub count_taken : p₁.number ≡ 0 → AfterCount input (after_mark version_1 (drop 5 input)) p₁
   count_taken z =
-      let t = taken input itself p₁ (count l.count_bytes l.atoms (drop 5 input)) h z in
-      let e : count l.count_bytes l.atoms (drop 5 input) ≡ got p₁.value (drop p₁.next input) = t.is ∙ ap (λ (n : ℕ). got n (drop p₁.next input)) (sym t.word_is) in
-      record { inside = t.inside; count_is = e; is = ap (λ (x : Got ℕ). and_then x (after_atom_count l)) e }
+      let t = taken input itself p₁ (count 2 1024 (drop 5 input)) h z in
+      let e : count 2 1024 (drop 5 input) ≡ got p₁.value (drop p₁.next input) = t.is ∙ ap (λ (n : ℕ). got n (drop p₁.next input)) (sym t.word_is) in
+      record { inside = t.inside; count_is = e; is = ap (λ (x : Got ℕ). and_then x after_atom_count) e }
 
-module _ {l : Limits} {input : List ℕ} {g : Got File} {p₁ : Part} (s : AfterCount l input g p₁) (p₂ : Part)
-    (h : Answers input counted p₂ (atoms l.count_bytes l.atom_bytes p₁.value 0 [] (drop p₁.next input))) where
-  pub atoms_turned : {c : Checked} → (p₂.number ≡ 0 → ⊥) → c ≡ turned_down p₂.number → Checks l input c g
-  atoms_turned = refused_then l input counted p₂ (atoms l.count_bytes l.atom_bytes p₁.value 0 [] (drop p₁.next input)) (after_atoms l) s.is h
+module _ {input : List ℕ} {g : Got File} {p₁ : Part} (s : AfterCount input g p₁) (p₂ : Part)
+    (h : Answers input counted p₂ (atoms version_1 p₁.value 0 [] (drop p₁.next input))) where
+  pub atoms_turned : {c : Checked} → (p₂.number ≡ 0 → ⊥) → c ≡ turned_down p₂.number → Checks input c g
+  atoms_turned = refused_then input counted p₂ (atoms version_1 p₁.value 0 [] (drop p₁.next input)) after_atoms s.is h
 
-  pub atoms_taken : p₂.number ≡ 0 → AfterAtoms l input g p₁ p₂
+  pub atoms_taken : p₂.number ≡ 0 → AfterAtoms input g p₁ p₂
   atoms_taken z =
-      let t = taken input counted p₂ (atoms l.count_bytes l.atom_bytes p₁.value 0 [] (drop p₁.next input)) h z in
+      let t = taken input counted p₂ (atoms version_1 p₁.value 0 [] (drop p₁.next input)) h z in
       record {
         before = s;
         inside = t.inside;
         xs = t.value;
         size = t.word_is;
         atoms_are = t.is;
-        is = s.is ∙ ap (λ (x : Got (List (List ℕ))). and_then x (after_atoms l)) t.is;
+        is = s.is ∙ ap (λ (x : Got (List (List ℕ))). and_then x after_atoms) t.is;
       }
 
-module _ {l : Limits} {input : List ℕ} {g : Got File} {p₁ p₂ : Part} (s : AfterAtoms l input g p₁ p₂) (p₃ : Part)
-    (h : Answers input itself p₃ (count l.count_bytes l.pairs (drop p₂.next input))) where
-  pub pair_count_turned : {c : Checked} → (p₃.number ≡ 0 → ⊥) → c ≡ turned_down p₃.number → Checks l input c g
-  pair_count_turned = refused_then l input itself p₃ (count l.count_bytes l.pairs (drop p₂.next input)) (after_pair_count l s.xs) s.is h
+module _ {input : List ℕ} {g : Got File} {p₁ p₂ : Part} (s : AfterAtoms input g p₁ p₂) (p₃ : Part)
+    (h : Answers input itself p₃ (count 2 1024 (drop p₂.next input))) where
+  pub pair_count_turned : {c : Checked} → (p₃.number ≡ 0 → ⊥) → c ≡ turned_down p₃.number → Checks input c g
+  pair_count_turned = refused_then input itself p₃ (count 2 1024 (drop p₂.next input)) (after_pair_count s.xs) s.is h
 
-  pub pair_count_taken : p₃.number ≡ 0 → AfterPairCount l input g p₁ p₂ p₃
+  pub pair_count_taken : p₃.number ≡ 0 → AfterPairCount input g p₁ p₂ p₃
   pair_count_taken z =
-      let t = taken input itself p₃ (count l.count_bytes l.pairs (drop p₂.next input)) h z in
-      let e : count l.count_bytes l.pairs (drop p₂.next input) ≡ got p₃.value (drop p₃.next input) = t.is ∙ ap (λ (n : ℕ). got n (drop p₃.next input)) (sym t.word_is) in
-      record { before = s; inside = t.inside; count_is = e; is = s.is ∙ ap (λ (x : Got ℕ). and_then x (after_pair_count l s.xs)) e }
+      let t = taken input itself p₃ (count 2 1024 (drop p₂.next input)) h z in
+      let e : count 2 1024 (drop p₂.next input) ≡ got p₃.value (drop p₃.next input) = t.is ∙ ap (λ (n : ℕ). got n (drop p₃.next input)) (sym t.word_is) in
+      record { before = s; inside = t.inside; count_is = e; is = s.is ∙ ap (λ (x : Got ℕ). and_then x (after_pair_count s.xs)) e }
 
-module _ {l : Limits} {input : List ℕ} {g : Got File} {p₁ p₂ p₃ : Part} (s : AfterPairCount l input g p₁ p₂ p₃) (p₄ : Part)
+module _ {input : List ℕ} {g : Got File} {p₁ p₂ p₃ : Part} (s : AfterPairCount input g p₁ p₂ p₃) (p₄ : Part)
     (h : Answers input counted p₄ (pairs p₂.value p₃.value [] (drop p₃.next input))) where
   these : Answers input counted p₄ (pairs (length s.before.xs) p₃.value [] (drop p₃.next input))
   these = subst (λ (n : ℕ). Answers input counted p₄ (pairs n p₃.value [] (drop p₃.next input))) s.before.size h
 
-  pub pairs_turned : {c : Checked} → (p₄.number ≡ 0 → ⊥) → c ≡ turned_down p₄.number → Checks l input c g
-  pairs_turned = refused_then l input counted p₄ (pairs (length s.before.xs) p₃.value [] (drop p₃.next input)) (after_pairs l s.before.xs) s.is these
+  pub pairs_turned : {c : Checked} → (p₄.number ≡ 0 → ⊥) → c ≡ turned_down p₄.number → Checks input c g
+  pairs_turned = refused_then input counted p₄ (pairs (length s.before.xs) p₃.value [] (drop p₃.next input)) (after_pairs s.before.xs) s.is these
 
-  pub pairs_taken : p₄.number ≡ 0 → AfterPairs l input g p₁ p₂ p₃ p₄
+  pub pairs_taken : p₄.number ≡ 0 → AfterPairs input g p₁ p₂ p₃ p₄
   pairs_taken z =
       let t = taken input counted p₄ (pairs (length s.before.xs) p₃.value [] (drop p₃.next input)) these z in
       record {
@@ -122,21 +121,21 @@ module _ {l : Limits} {input : List ℕ} {g : Got File} {p₁ p₂ p₃ : Part} 
         ps = t.value;
         size = t.word_is;
         pairs_are = t.is;
-        is = s.is ∙ ap (λ (x : Got (List Pair)). and_then x (after_pairs l s.before.xs)) t.is;
+        is = s.is ∙ ap (λ (x : Got (List Pair)). and_then x (after_pairs s.before.xs)) t.is;
       }
 
-module _ {l : Limits} {input : List ℕ} {g : Got File} {p₁ p₂ p₃ p₄ : Part} (s : AfterPairs l input g p₁ p₂ p₃ p₄) (p₅ : Part)
+module _ {input : List ℕ} {g : Got File} {p₁ p₂ p₃ p₄ : Part} (s : AfterPairs input g p₁ p₂ p₃ p₄) (p₅ : Part)
     (h : Answers input sentinel_word p₅ (sentinel p₂.value p₄.value (drop p₄.next input))) where
   this : Answers input sentinel_word p₅ (sentinel (length s.before.before.xs) (length s.ps) (drop p₄.next input))
   this =
       subst (λ (n : ℕ). Answers input sentinel_word p₅ (sentinel (length s.before.before.xs) n (drop p₄.next input))) s.size
       (subst (λ (n : ℕ). Answers input sentinel_word p₅ (sentinel n p₄.value (drop p₄.next input))) s.before.before.size h)
 
-  pub sentinel_turned : {c : Checked} → (p₅.number ≡ 0 → ⊥) → c ≡ turned_down p₅.number → Checks l input c g
+  pub sentinel_turned : {c : Checked} → (p₅.number ≡ 0 → ⊥) → c ≡ turned_down p₅.number → Checks input c g
   sentinel_turned =
-      refused_then l input sentinel_word p₅ (sentinel (length s.before.before.xs) (length s.ps) (drop p₄.next input)) (after_sentinel l s.before.before.xs s.ps) s.is this
+      refused_then input sentinel_word p₅ (sentinel (length s.before.before.xs) (length s.ps) (drop p₄.next input)) (after_sentinel s.before.before.xs s.ps) s.is this
 
-  pub sentinel_taken : p₅.number ≡ 0 → AfterSentinel l input g p₁ p₂ p₃ p₄ p₅
+  pub sentinel_taken : p₅.number ≡ 0 → AfterSentinel input g p₁ p₂ p₃ p₄ p₅
   sentinel_taken z =
       let t = taken input sentinel_word p₅ (sentinel (length s.before.before.xs) (length s.ps) (drop p₄.next input)) this z in
       record {
@@ -145,11 +144,11 @@ module _ {l : Limits} {input : List ℕ} {g : Got File} {p₁ p₂ p₃ p₄ : P
         z = t.value;
         word = t.word_is;
         sentinel_is = t.is;
-        is = s.is ∙ ap (λ (x : Got (Option ℕ)). and_then x (after_sentinel l s.before.before.xs s.ps)) t.is;
+        is = s.is ∙ ap (λ (x : Got (Option ℕ)). and_then x (after_sentinel s.before.before.xs s.ps)) t.is;
       }
 
 -- The atoms and pairs that were read, and what the check says where the steps are read too: its places are where the parts began.
-module _ {l : Limits} {input : List ℕ} {g : Got File} {p₁ p₂ p₃ p₄ p₅ : Part} (s : AfterSentinel l input g p₁ p₂ p₃ p₄ p₅) where
+module _ {input : List ℕ} {g : Got File} {p₁ p₂ p₃ p₄ p₅ : Part} (s : AfterSentinel input g p₁ p₂ p₃ p₄ p₅) where
   abbrev xs : List (List ℕ)
   xs = s.before.before.before.xs
 
@@ -161,38 +160,38 @@ module _ {l : Limits} {input : List ℕ} {g : Got File} {p₁ p₂ p₃ p₄ p�
 
   -- The steps, after so many atoms and pairs.
   abbrev steps_of : ℕ → ℕ → Got (List Step)
-  steps_of n m = steps (length (drop p₅.next input)) n m l.steps [] (drop p₅.next input)
+  steps_of n m = steps (length (drop p₅.next input)) n m 1024 [] (drop p₅.next input)
 
-module _ {l : Limits} {input : List ℕ} {g : Got File} {p₁ p₂ p₃ p₄ p₅ : Part} (s : AfterSentinel l input g p₁ p₂ p₃ p₄ p₅) (p₆ : Part)
+module _ {input : List ℕ} {g : Got File} {p₁ p₂ p₃ p₄ p₅ : Part} (s : AfterSentinel input g p₁ p₂ p₃ p₄ p₅) (p₆ : Part)
     (h : Answers input counted p₆ (steps_of s p₂.value p₄.value)) where
   those : Answers input counted p₆ (steps_of s (length (xs s)) (length (ps s)))
   those =
       subst (λ (n : ℕ). Answers input counted p₆ (steps_of s (length (xs s)) n)) s.before.size
       (subst (λ (n : ℕ). Answers input counted p₆ (steps_of s n p₄.value)) s.before.before.before.size h)
 
-  pub steps_turned : {c : Checked} → (p₆.number ≡ 0 → ⊥) → c ≡ turned_down p₆.number → Checks l input c g
-  steps_turned = refused_then l input counted p₆ (steps_of s (length (xs s)) (length (ps s))) (after_steps (xs s) (ps s) s.z) s.is those
+  pub steps_turned : {c : Checked} → (p₆.number ≡ 0 → ⊥) → c ≡ turned_down p₆.number → Checks input c g
+  steps_turned = refused_then input counted p₆ (steps_of s (length (xs s)) (length (ps s))) (after_steps (xs s) (ps s) s.z) s.is those
 
-  pub passed : Small l → p₆.number ≡ 0 → length input ≤ l.file_bytes → Checks l input (said s) g
-  passed small z short =
+  pub passed : p₆.number ≡ 0 → length input ≤ 65535 → Checks input (said s) g
+  passed z short =
       let t = taken input counted p₆ (steps_of s (length (xs s)) (length (ps s))) those z in
-      subst (Checks l input (said s)) (sym (s.is ∙ ap (λ (x : Got (List Step)). and_then x (after_steps (xs s) (ps s) s.z)) t.is)) (whole t.value t.is)
+      subst (Checks input (said s)) (sym (s.is ∙ ap (λ (x : Got (List Step)). and_then x (after_steps (xs s) (ps s) s.z)) t.is)) (whole t.value t.is)
     where
       whole : (ss : List Step) → steps_of s (length (xs s)) (length (ps s)) ≡ got ss (drop p₆.next input)
-          → Passed l input (record { atoms = xs s; pairs = ps s; sentinel = s.z; steps = ss }) (said s)
+          → Passed input (record { atoms = xs s; pairs = ps s; sentinel = s.z; steps = ss }) (said s)
       whole ss e =
-          let all = contents_of l small input p₁.value (xs s) p₃.value (ps s) s.z ss
+          let all = contents_of input p₁.value (xs s) p₃.value (ps s) s.z ss
           (drop p₁.next input) (drop p₂.next input) (drop p₃.next input) (drop p₄.next input) (drop p₅.next input) (drop p₆.next input)
           s.before.before.before.before.count_is s.before.before.before.atoms_are s.before.before.count_is s.before.pairs_are s.sentinel_is e in
           let qs = pairs_read input (length (xs s)) p₃.value p₃.next [] (ps s) (drop p₄.next input) s.before.pairs_are in
-          let us = steps_read input (length (drop p₅.next input)) (length (xs s)) (length (ps s)) l.steps p₅.next [] ss (drop p₆.next input)
+          let us = steps_read input (length (drop p₅.next input)) (length (xs s)) (length (ps s)) 1024 p₅.next [] ss (drop p₆.next input)
           (omega (arith, length_drop p₅.next input)) e in
           record {
             number_is = refl;
             atoms_are = s.before.before.before.size;
             pairs_are = s.before.size;
             sentinel_is = s.word;
-            short = omega (arith, short, small.short);
+            short = short;
             atoms_there = all.atoms_there;
             pairs_there = subst (PairsAt input p₃.next) (sym qs.is) qs.there;
             steps_there = subst (StepsAt input p₅.next) (sym us.is) us.there;
@@ -201,35 +200,35 @@ module _ {l : Limits} {input : List ℕ} {g : Got File} {p₁ p₂ p₃ p₄ p�
 
 -- ---- the mark, and the whole file
 
-mark_size : (l : Limits) → length (mark l) ≡ 5
-mark_size l = ap (λ (n : ℕ). suc (suc (suc n))) (length_big_endian 2 l.version)
+mark_size : length (mark version_1) ≡ 5
+mark_size = ap (λ (n : ℕ). suc (suc (suc n))) (length_big_endian 2 1)
 
 -- A file that has the mark is long enough for it.
-pub mark_there : (l : Limits) (input : List ℕ) → same (take 5 input) (mark l) ≡ true → 5 ≤ length input
-mark_there l input e = omega (arith, ap length (same_eq (take 5 input) (mark l) e), mark_size l, length-take 5 input)
+pub mark_there : (input : List ℕ) → same (take 5 input) (mark version_1) ≡ true → 5 ≤ length input
+mark_there input e = omega (arith, ap length (same_eq (take 5 input) (mark version_1) e), mark_size, length-take 5 input)
 
-pub no_mark : (l : Limits) (input : List ℕ) → length input < 5 → false ≡ same (take 5 input) (mark l)
-no_mark l input h = go (same (take 5 input) (mark l)) refl
+pub no_mark : (input : List ℕ) → length input < 5 → false ≡ same (take 5 input) (mark version_1)
+no_mark input h = go (same (take 5 input) (mark version_1)) refl
   where
-    go : (b : Bool) → same (take 5 input) (mark l) ≡ b → false ≡ b
-    go true e = absurd (omega (arith, mark_there l input e))
+    go : (b : Bool) → same (take 5 input) (mark version_1) ≡ b → false ≡ b
+    go true e = absurd (omega (arith, mark_there input e))
     go false e = refl
 
-module _ (l : Limits) (input : List ℕ) (c : Checked) where
-  turns : (g : Got File) (n : ℕ) → g ≡ refused n → c ≡ turned_down n → 2 ≤ n → n ≤ 8 → Checks l input c g
-  turns g n e q low high = subst (Checks l input c) (sym e) (record { is = q; low = low; high = high })
+module _ (input : List ℕ) (c : Checked) where
+  turns : (g : Got File) (n : ℕ) → g ≡ refused n → c ≡ turned_down n → 2 ≤ n → n ≤ 8 → Checks input c g
+  turns g n e q l h = subst (Checks input c) (sym e) (record { is = q; low = l; high = h })
 
-  pub file_long : l.file_bytes < length input → c ≡ turned_down 2 → Checks l input c (file l input)
+  pub file_long : 65535 < length input → c ≡ turned_down 2 → Checks input c (file version_1 input)
   unfolding file
-  file_long long e = turns (file l input) 2 (no_asked 2 (leb (length input) l.file_bytes) _ (lt-leb (length input) l.file_bytes long)) e (omega arith) (omega arith)
+  file_long l e = turns (file version_1 input) 2 (no_asked 2 (leb (length input) 65535) _ (lt-leb (length input) 65535 l)) e (omega arith) (omega arith)
 
-  module _ (short : length input ≤ l.file_bytes) where
-    short_file : file l input ≡ asked 3 (same (take 5 input) (mark l)) (after_mark l (drop 5 input))
+  module _ (l : length input ≤ 65535) where
+    short_file : file version_1 input ≡ asked 3 (same (take 5 input) (mark version_1)) (after_mark version_1 (drop 5 input))
     unfolding file
-    short_file = yes_asked 2 (leb (length input) l.file_bytes) _ (le-leb (length input) l.file_bytes short)
+    short_file = yes_asked 2 (leb (length input) 65535) _ (le-leb (length input) 65535 l)
 
-    pub file_unmarked : same (take 5 input) (mark l) ≡ false → c ≡ turned_down 3 → Checks l input c (file l input)
-    file_unmarked m e = turns (file l input) 3 (short_file ∙ no_asked 3 (same (take 5 input) (mark l)) _ m) e (omega arith) (omega arith)
+    pub file_unmarked : same (take 5 input) (mark version_1) ≡ false → c ≡ turned_down 3 → Checks input c (file version_1 input)
+    file_unmarked m e = turns (file version_1 input) 3 (short_file ∙ no_asked 3 (same (take 5 input) (mark version_1)) _ m) e (omega arith) (omega arith)
 
-    pub file_marked : same (take 5 input) (mark l) ≡ true → Checks l input c (after_mark l (drop 5 input)) → Checks l input c (file l input)
-    file_marked m h = subst (Checks l input c) (sym (short_file ∙ yes_asked 3 (same (take 5 input) (mark l)) _ m)) h
+    pub file_marked : same (take 5 input) (mark version_1) ≡ true → Checks input c (after_mark version_1 (drop 5 input)) → Checks input c (file version_1 input)
+    file_marked m h = subst (Checks input c) (sym (short_file ∙ yes_asked 3 (same (take 5 input) (mark version_1)) _ m)) h

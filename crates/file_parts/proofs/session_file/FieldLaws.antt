@@ -23,7 +23,7 @@ use Rattle.allocator.specs.declared.FitsInSmallAtom.{FitsInSmallAtom}
 use Rattle.allocator.specs.declared.FitsInSmallAtom.TheVariants.{Small, Listed}
 use Rattle.file_parts.specs.declared.session_file.Part.{Part}
 use Rattle.spec_session.specs.File as format
-use Rattle.spec_session.specs.File.{Got, got, refused, and_then, asked, bytes_of, field, count, listed, named, handle, one_pair, operand, one_step, add, restore, forget, quote, take_quote}
+use Rattle.spec_session.specs.File.{Got, got, refused, and_then, asked, bytes_of, field, count, version_1, listed, named, handle, one_pair, operand, one_step, add, restore, forget, quote, take_quote}
 use Rattle.file_parts.specs.Answers.{Answers, itself, sized, pair-word, operand-word, atom-of}
 use Rattle.spec_session.specs.Sentinel.{sentinel_word}
 
@@ -107,39 +107,39 @@ module _ (input : List ℕ) (p : Part) (at n : ℕ) (h : at ≤ length input) wh
 
 -- ---- a count
 
-module _ (input : List ℕ) (p : Part) (at width most : ℕ) (h : Answers input itself p (field width (drop at input))) where
-  pub count_refused : (p.number ≡ 0 → ⊥) → Answers input itself p (count width most (drop at input))
-  count_refused z = then_refused input itself itself p (field width (drop at input)) (λ n r. asked 5 (leb n most) (got n r)) h z
+module _ (input : List ℕ) (p : Part) (at most : ℕ) (h : Answers input itself p (field 2 (drop at input))) where
+  pub count_refused : (p.number ≡ 0 → ⊥) → Answers input itself p (count 2 most (drop at input))
+  count_refused z = then_refused input itself itself p (field 2 (drop at input)) (λ n r. asked 5 (leb n most) (got n r)) h z
 
   module _ (z : p.number ≡ 0) where
-    read_count : Taken input itself p (field width (drop at input))
-    read_count = taken input itself p (field width (drop at input)) h z
+    read_count : Taken input itself p (field 2 (drop at input))
+    read_count = taken input itself p (field 2 (drop at input)) h z
 
-    pub count_large : (q : Part) → most < p.value → q.number ≡ 5 → Answers input itself q (count width most (drop at input))
+    pub count_large : (q : Part) → most < p.value → q.number ≡ 5 → Answers input itself q (count 2 most (drop at input))
     count_large q l e =
-        then_taken input itself itself p q (field width (drop at input)) _ read_count
+        then_taken input itself itself p q (field 2 (drop at input)) _ read_count
         (refuses input itself q _ 5 (no_asked 5 (leb read_count.value most) _ (lt-leb read_count.value most (omega (arith, read_count.word_is)))) e (omega arith) (omega arith))
 
-    pub count_there : p.value ≤ most → Answers input itself p (count width most (drop at input))
+    pub count_there : p.value ≤ most → Answers input itself p (count 2 most (drop at input))
     count_there l =
-        then_taken input itself itself p p (field width (drop at input)) _ read_count
+        then_taken input itself itself p p (field 2 (drop at input)) _ read_count
         (gives input itself p _ read_count.value (yes_asked 5 (leb read_count.value most) _ (le-leb read_count.value most (omega (arith, read_count.word_is))))
         z read_count.word_is read_count.inside)
 
 -- ---- an atom
 
-module _ (input : List ℕ) (p : Part) (at width most used : ℕ) (h : Answers input itself p (field width (drop at input))) where
-  pub atom_refused : (p.number ≡ 0 → ⊥) → Answers input sized p (format.atom width most used (drop at input))
-  atom_refused z = then_refused input itself sized p (field width (drop at input)) (atom-of most used) h z
+module _ (input : List ℕ) (p : Part) (at used : ℕ) (h : Answers input itself p (field 2 (drop at input))) where
+  pub atom_refused : (p.number ≡ 0 → ⊥) → Answers input sized p (format.atom version_1 used (drop at input))
+  atom_refused z = then_refused input itself sized p (field 2 (drop at input)) (λ n r. atom-of used n r) h z
 
   pub atom_inside : p.number ≡ 0 → p.next ≤ length input
-  atom_inside z = (taken input itself p (field width (drop at input)) h z).inside
+  atom_inside z = (taken input itself p (field 2 (drop at input)) h z).inside
 
-  pub atom_then : p.number ≡ 0 → (q : Part) → Answers input sized q (atom-of most used p.value (drop p.next input)) → Answers input sized q (format.atom width most used (drop at input))
+  pub atom_then : p.number ≡ 0 → (q : Part) → Answers input sized q (atom-of used p.value (drop p.next input)) → Answers input sized q (format.atom version_1 used (drop at input))
   atom_then z q a =
-      let t = taken input itself p (field width (drop at input)) h z in
-      then_taken input itself sized p q (field width (drop at input)) (atom-of most used) t
-      (subst (λ (n : ℕ). Answers input sized q (atom-of most used n (drop p.next input))) t.word_is a)
+      let t = taken input itself p (field 2 (drop at input)) h z in
+      then_taken input itself sized p q (field 2 (drop at input)) (λ n r. atom-of used n r) t
+      (subst (λ (n : ℕ). Answers input sized q (atom-of used n (drop p.next input))) t.word_is a)
 
 -- The answer of `fits_in_small_atom` is question 6's.
 small_no : (o : Option ℕ) (v : ℕ) → Small v ≡ fits_answer o → listed o ≡ false
@@ -150,45 +150,45 @@ listed_yes : (o : Option ℕ) → Listed ≡ fits_answer o → listed o ≡ true
 listed_yes none e = refl
 listed_yes (some w) e = clash cc
 
-module _ (input : List ℕ) (q : Part) (start n most used : ℕ) (h : start ≤ length input) where
-  pub atom_short : length input - start < n → q.number ≡ 4 → Answers input sized q (atom-of most used n (drop start input))
+module _ (input : List ℕ) (q : Part) (start n used : ℕ) (h : start ≤ length input) where
+  pub atom_short : length input - start < n → q.number ≡ 4 → Answers input sized q (atom-of used n (drop start input))
   atom_short l e =
-      refuses input sized q (atom-of most used n (drop start input)) 4
-      (ap (λ (g : Got (List ℕ)). and_then g (λ b s. asked 5 (leb (used + n) most) (asked 6 (listed (fits_in_small_atom b)) (got b s))))
+      refuses input sized q (atom-of used n (drop start input)) 4
+      (ap (λ (g : Got (List ℕ)). and_then g (λ b s. asked 5 (leb (used + n) 32768) (asked 6 (listed (fits_in_small_atom b)) (got b s))))
       (no_asked 4 (leb n (length (drop start input))) _ (lt-leb n (length (drop start input)) (simp length_drop (omega arith)))))
       e (omega arith) (omega arith)
 
   module _ (l : n ≤ length input - start) where
     -- The bytes are there.
-    there : atom-of most used n (drop start input) ≡ asked 5 (leb (used + n) most) (asked 6 (listed (fits_in_small_atom (part input start n))) (got (part input start n) (drop (start + n) input)))
-    there = ap (λ (g : Got (List ℕ)). and_then g (λ b s. asked 5 (leb (used + n) most) (asked 6 (listed (fits_in_small_atom b)) (got b s)))) (bytes_there input q start n h l)
+    there : atom-of used n (drop start input) ≡ asked 5 (leb (used + n) 32768) (asked 6 (listed (fits_in_small_atom (part input start n))) (got (part input start n) (drop (start + n) input)))
+    there = ap (λ (g : Got (List ℕ)). and_then g (λ b s. asked 5 (leb (used + n) 32768) (asked 6 (listed (fits_in_small_atom b)) (got b s)))) (bytes_there input q start n h l)
 
-    pub atom_large : used ≤ most → most - used < n → q.number ≡ 5 → Answers input sized q (atom-of most used n (drop start input))
+    pub atom_large : used ≤ 32768 → 32768 - used < n → q.number ≡ 5 → Answers input sized q (atom-of used n (drop start input))
     atom_large u m e =
-        refuses input sized q (atom-of most used n (drop start input)) 5
-        (there ∙ no_asked 5 (leb (used + n) most) _ (lt-leb (used + n) most (omega arith)))
+        refuses input sized q (atom-of used n (drop start input)) 5
+        (there ∙ no_asked 5 (leb (used + n) 32768) _ (lt-leb (used + n) 32768 (omega arith)))
         e (omega arith) (omega arith)
 
-    module _ (u : used ≤ most) (m : n ≤ most - used) (r : FitsInSmallAtom) (f : r ≡ fits_answer (fits_in_small_atom (take (start + n - start) (drop start input)))) where
+    module _ (u : used ≤ 32768) (m : n ≤ 32768 - used) (r : FitsInSmallAtom) (f : r ≡ fits_answer (fits_in_small_atom (take (start + n - start) (drop start input)))) where
       here : take (start + n - start) (drop start input) ≡ part input start n
       unfolding part
       here = let e : start + n - start ≡ n = omega arith in ap (λ (k : ℕ). take k (drop start input)) e
 
-      few : atom-of most used n (drop start input) ≡ asked 6 (listed (fits_in_small_atom (part input start n))) (got (part input start n) (drop (start + n) input))
-      few = there ∙ yes_asked 5 (leb (used + n) most) _ (le-leb (used + n) most (omega arith))
+      few : atom-of used n (drop start input) ≡ asked 6 (listed (fits_in_small_atom (part input start n))) (got (part input start n) (drop (start + n) input))
+      few = there ∙ yes_asked 5 (leb (used + n) 32768) _ (le-leb (used + n) 32768 (omega arith))
 
       answer : r ≡ fits_answer (fits_in_small_atom (part input start n))
       answer = f ∙ ap (λ (b : List ℕ). fits_answer (fits_in_small_atom b)) here
 
-      pub atom_small : (v : ℕ) → r ≡ Small v → q.number ≡ 6 → Answers input sized q (atom-of most used n (drop start input))
+      pub atom_small : (v : ℕ) → r ≡ Small v → q.number ≡ 6 → Answers input sized q (atom-of used n (drop start input))
       atom_small v k e =
-          refuses input sized q (atom-of most used n (drop start input)) 6
+          refuses input sized q (atom-of used n (drop start input)) 6
           (few ∙ no_asked 6 (listed (fits_in_small_atom (part input start n))) _ (small_no (fits_in_small_atom (part input start n)) v (sym k ∙ answer)))
           e (omega arith) (omega arith)
 
-      pub atom_there : r ≡ Listed → q.number ≡ 0 → q.value ≡ n → q.next ≡ start + n → Answers input sized q (atom-of most used n (drop start input))
+      pub atom_there : r ≡ Listed → q.number ≡ 0 → q.value ≡ n → q.next ≡ start + n → Answers input sized q (atom-of used n (drop start input))
       atom_there k z v e =
-          gives input sized q (atom-of most used n (drop start input)) (part input start n)
+          gives input sized q (atom-of used n (drop start input)) (part input start n)
           (few ∙ yes_asked 6 (listed (fits_in_small_atom (part input start n))) _ (listed_yes (fits_in_small_atom (part input start n)) (sym k ∙ answer))
           ∙ ap (λ (j : ℕ). got (part input start n) (drop j input)) (sym e))
           z (v ∙ sym (part_length input start n (omega arith))) (omega arith)

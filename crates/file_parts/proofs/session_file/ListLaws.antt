@@ -8,7 +8,7 @@ use lib.ListN.{length, drop, length_drop, length_append, drop_of_length-le}
 use lib.Seq.{drop_cons}
 use Rattle.file_parts.specs.PlaceLaws.{size_low}
 use Rattle.file_parts.specs.declared.session_file.Part.{Part}
-use Rattle.spec_session.specs.File.{Got, got, and_then, atom, atoms, Pair, one_pair, pairs, Step, one_step, steps}
+use Rattle.spec_session.specs.File.{Got, got, and_then, version_1, atom, atoms, Pair, one_pair, pairs, Step, one_step, steps}
 use Rattle.file_parts.specs.Answers.{Answers, sized, pair-word, operand-word, counted}
 use Rattle.spec_session.specs.FileLaws.{atom_at, step_at}
 use Rattle.file_parts.proofs.session_file.FieldLaws.{Taken, taken, gives, then_refused}
@@ -29,52 +29,52 @@ one_longer xs x n e = length_append xs (x ∷ []) ∙ ap (λ (k : ℕ). k + 1) e
 -- ---- atoms
 
 -- The atoms read so far, and that what is left gives what all would give.
-pub record AtomsSoFar (width most : ℕ) (input : List ℕ) (at count next used done : ℕ) : Type 0 where
+pub record AtomsSoFar (input : List ℕ) (at count next used done : ℕ) : Type 0 where
   pub read : List (List ℕ)
   pub long : length read ≡ done
-  pub same : atoms width most count 0 [] (drop at input) ≡ atoms width most (count - done) used read (drop next input)
+  pub same : atoms version_1 count 0 [] (drop at input) ≡ atoms version_1 (count - done) used read (drop next input)
 
-pub atoms_start : (width most : ℕ) (input : List ℕ) (at count : ℕ) → AtomsSoFar width most input at count at 0 0
-atoms_start width most input at count = record { read = []; long = refl; same = ap (λ (n : ℕ). atoms width most n 0 [] (drop at input)) (all_left count) }
+pub atoms_start : (input : List ℕ) (at count : ℕ) → AtomsSoFar input at count at 0 0
+atoms_start input at count = record { read = []; long = refl; same = ap (λ (n : ℕ). atoms version_1 n 0 [] (drop at input)) (all_left count) }
 
-module _ {width most : ℕ} {input : List ℕ} {at count next used done : ℕ} (s : AtomsSoFar width most input at count next used done) where
+module _ {input : List ℕ} {at count next used done : ℕ} (s : AtomsSoFar input at count next used done) where
   pub atoms_end : (p : Part) → count ≤ done → done ≤ count → next ≤ length input → p.number ≡ 0 → p.value ≡ count → p.next ≡ next
-      → Answers input counted p (atoms width most count 0 [] (drop at input))
+      → Answers input counted p (atoms version_1 count 0 [] (drop at input))
   unfolding atoms
-  atoms_end p n m i z v e =
-      gives input counted p (atoms width most count 0 [] (drop at input)) s.read
-      (s.same ∙ ap (λ (x : ℕ). atoms width most x used s.read (drop next input)) (none_left count done n) ∙ ap (λ (k : ℕ). got s.read (drop k input)) (sym e))
+  atoms_end p l m i z v e =
+      gives input counted p (atoms version_1 count 0 [] (drop at input)) s.read
+      (s.same ∙ ap (λ (n : ℕ). atoms version_1 n used s.read (drop next input)) (none_left count done l) ∙ ap (λ (k : ℕ). got s.read (drop k input)) (sym e))
       z (omega (arith, s.long)) (omega arith)
 
-  module _ (h : done < count) (p : Part) (a : Answers input sized p (atom width most used (drop next input))) where
+  module _ (h : done < count) (p : Part) (a : Answers input sized p (atom version_1 used (drop next input))) where
     -- The next atom first.
-    next_atom : atoms width most count 0 [] (drop at input)
-        ≡ and_then (atom width most used (drop next input)) (λ b r. atoms width most (count - (done + 1)) (used + length b) (s.read ++ b ∷ []) r)
+    next_atom : atoms version_1 count 0 [] (drop at input)
+        ≡ and_then (atom version_1 used (drop next input)) (λ b r. atoms version_1 (count - (done + 1)) (used + length b) (s.read ++ b ∷ []) r)
     unfolding atoms
-    next_atom = s.same ∙ ap (λ (n : ℕ). atoms width most n used s.read (drop next input)) (one_left count done h)
+    next_atom = s.same ∙ ap (λ (n : ℕ). atoms version_1 n used s.read (drop next input)) (one_left count done h)
 
-    pub atoms_refused : (p.number ≡ 0 → ⊥) → Answers input counted p (atoms width most count 0 [] (drop at input))
-    atoms_refused z = subst (Answers input counted p) (sym next_atom) (then_refused input sized counted p (atom width most used (drop next input)) _ a z)
+    pub atoms_refused : (p.number ≡ 0 → ⊥) → Answers input counted p (atoms version_1 count 0 [] (drop at input))
+    atoms_refused z = subst (Answers input counted p) (sym next_atom) (then_refused input sized counted p (atom version_1 used (drop next input)) _ a z)
 
     module _ (z : p.number ≡ 0) where
-      t : Taken input sized p (atom width most used (drop next input))
-      t = taken input sized p (atom width most used (drop next input)) a z
+      t : Taken input sized p (atom version_1 used (drop next input))
+      t = taken input sized p (atom version_1 used (drop next input)) a z
 
       pub atoms_inside : p.next ≤ length input
       atoms_inside = t.inside
 
-      pub atoms_few : 1 ≤ width → used + p.value ≤ most
-      atoms_few wide = omega (arith, (atom_at input width most wide next used t.value (drop p.next input) t.is).few, t.word_is)
+      pub atoms_few : used + p.value ≤ 32768
+      atoms_few = omega (arith, (atom_at input next used t.value (drop p.next input) t.is).few, t.word_is)
 
-      pub atoms_turn : AtomsSoFar width most input at count p.next (used + p.value) (done + 1)
+      pub atoms_turn : AtomsSoFar input at count p.next (used + p.value) (done + 1)
       atoms_turn =
           record {
             read = s.read ++ t.value ∷ [];
             long = one_longer s.read t.value done s.long;
             same =
                 next_atom
-                ∙ ap (λ (g : Got (List ℕ)). and_then g (λ b r. atoms width most (count - (done + 1)) (used + length b) (s.read ++ b ∷ []) r)) t.is
-                ∙ ap (λ (k : ℕ). atoms width most (count - (done + 1)) (used + k) (s.read ++ t.value ∷ []) (drop p.next input)) (sym t.word_is);
+                ∙ ap (λ (g : Got (List ℕ)). and_then g (λ b r. atoms version_1 (count - (done + 1)) (used + length b) (s.read ++ b ∷ []) r)) t.is
+                ∙ ap (λ (k : ℕ). atoms version_1 (count - (done + 1)) (used + k) (s.read ++ t.value ∷ []) (drop p.next input)) (sym t.word_is);
           }
 
 -- ---- pairs

@@ -24,9 +24,9 @@ length_by a (some v) q = omega (arith, length_some a v q, (prefixed a v q).five)
 pub length_most : (a : List ℕ) → serialized_length a ≤ length a + 5
 length_most a = length_by a (prefix_width a) refl
 
-pub part_length_fits : (file : List ℕ) (s e : ℕ) → e ≤ length file → length file ≤ 1048576 → serialized_length (take (e - s) (drop s file)) < 2 ^ 32
+pub part_length_fits : (file : List ℕ) (s e : ℕ) → e ≤ length file → length file ≤ 65535 → serialized_length (take (e - s) (drop s file)) < 2 ^ 32
 part_length_fits file s e h k =
-    let l : length (take (e - s) (drop s file)) ≤ 1048576 = simp length-take (omega arith) in
+    let l : length (take (e - s) (drop s file)) ≤ 65535 = simp length-take (omega arith) in
     omega (arith, length_most (take (e - s) (drop s file)))
 
 -- ---- slots

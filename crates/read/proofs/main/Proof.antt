@@ -6,10 +6,10 @@ use Rattle.read.proofs.main.Statement.{statement}
 use Rattle.read.proofs.main.Tie as tie
 
 abbrev invariant-loop : tie.invariant-loop
-invariant-loop count version₀ i₀ version i = Unit {0}
+invariant-loop count i₀ i = Unit {0}
 
 abbrev decreases-loop : tie.decreases-loop
-decreases-loop count version₀ i₀ version i = count - i
+decreases-loop count i₀ i = count - i
 
 arg-count-requires : tie.Need-arg-count-requires invariant-loop decreases-loop
 arg-count-requires c κs = search rules
@@ -25,9 +25,6 @@ returns c = search rules
 
 loop-holds : tie.Need-loop-init invariant-loop decreases-loop
 loop-holds c = search rules
-
-sub-read-named : tie.Need-overflow-sub-read-named invariant-loop decreases-loop
-sub-read-named c = search rules
 
 read-named-requires : tie.Need-read-named-requires invariant-loop decreases-loop
 read-named-requires c κs = search rules
@@ -55,7 +52,6 @@ main_spec =
     read-from-requires
     returns
     loop-holds
-    sub-read-named
     read-named-requires
     add-i
     loop-less

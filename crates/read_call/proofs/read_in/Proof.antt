@@ -17,7 +17,7 @@ read-all-requires : tie.Need-read-all-requires
 read-all-requires c κs =
     let s = (cleared c).before.before.before.before.before.before.before.before.before in
     let z = (cleared c).clear-store.ensures in
-    lent-start _ _ s.args.pairs.now s.args.atoms.now s.args.bytes.now _ _ _ s.pre z.0 z.1 z.2
+    lent-start _ _ s.args.pairs.now s.args.atoms.now s.args.bytes.now _ _ _ s.pre.0 s.pre.1 z.0 z.1 z.2
 
 ended-requires : tie.Need-ended-requires
 ended-requires c κs =

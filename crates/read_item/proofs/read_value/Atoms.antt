@@ -113,7 +113,8 @@ module _ (input w p a b : List ℕ) (r : Reader) (h : Stands input w p a b r) (s
   pub atom_room : AtomRoom w a b r atom_bytes
   atom_room =
       record {
-        values_room = omega (arith, limits.values, h.lent.inside, h.lent.work, inside_end, f.end_is, f.within.some_byte);
+        work = h.lent.work;
+        values = omega (arith, limits.values, h.lent.inside, h.lent.short);
         atoms_room = omega (arith, limits.atoms, h.lent.inside, h.lent.short, h.lent.atoms_room, inside_end, f.end_is, f.within.some_byte);
         bytes_room = omega (arith, limits.bytes, short_blob, inside_end, f.end_is, h.lent.short, h.lent.bytes_room);
         few_atoms = omega (arith, limits.atoms, h.lent.inside, h.lent.short);
@@ -123,7 +124,7 @@ module _ (input w p a b : List ℕ) (r : Reader) (h : Stands input w p a b r) (s
 
   module _ (w' a' b' : List ℕ) (r' : Reader) (k : AtomPushed w a b r atom_bytes end w' a' b' r') (lw : length w' ≡ length w) (la : length a' ≡ length a) (lb : length b' ≡ length b) where
     ops_are : ops_of w' r'.ops ≡ ops_of w r.ops
-    ops_are = ap (ops_of w') k.ops ∙ k.pushed.ops r.ops (omega (arith, limits.ops, h.lent.work, inside_end, f.end_is, f.within.some_byte))
+    ops_are = ap (ops_of w') k.ops ∙ k.pushed.ops r.ops (omega (arith, limits.ops, h.lent.inside, h.lent.short, inside_end, f.end_is, f.within.some_byte))
 
     pub lent_pushed : Lent input w' p a' b' r'
     lent_pushed =
@@ -145,8 +146,8 @@ module _ (input w p a b : List ℕ) (r : Reader) (h : Stands input w p a b r) (s
       record {
         atoms = take (2 * r'.atoms) a';
         bytes = take r'.bytes b';
-        work = omega (arith, lent_pushed.work, lent_pushed.inside);
-        room = omega (arith, lent_pushed.pairs_room, lent_pushed.inside);
+        work = lent_pushed.work;
+        room = lent_pushed.pairs_room;
         limit = omega (arith, lent_pushed.inside, h.lent.short);
         pairs_in = lent_pushed.pairs_in;
         sound = sound_pushed;

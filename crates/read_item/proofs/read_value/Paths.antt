@@ -1,6 +1,6 @@
 -- Laws of a reference: the walk in the slices is the definition's, and what was pushed is what the definition pushes.
 -- Assumes nothing.
-use Prim.Native.Nat.{ℕ, zero, suc, ◌+◌, ◌*◌, ◌^◌, ◌/◌, ◌≤◌, ◌<◌}
+use Prim.Native.Nat.{ℕ, zero, suc, ◌+◌, ◌*◌, ◌/◌, ◌≤◌, ◌<◌}
 use mathlib.Core.Path.{◌≡◌, refl, sym, ap, subst, ◌∙◌}
 use mathlib.Core.Bool.{Bool, true, false}
 use mathlib.Core.List.{List, [], ◌∷◌}
@@ -19,7 +19,7 @@ use Rattle.spec_reading.specs.Store.{Store, Value, Stored, Listed, Led, add_to_l
 use Rattle.spec_reading.specs.Sound.{Sound, Known, KnownHandle, KnownValue, sound_path_some}
 use Rattle.spec_reading.specs.Sound as sound_law
 use Rattle.spec_reading.specs.Blobs.{Within, length_blob}
-use Rattle.read_store.specs.Layout.{node_at, list_at, ops_of, values_of, PushedValue}
+use Rattle.read_store.specs.Layout.{VALUES, ops_of, values_of, PushedValue}
 use Rattle.read_store.proofs.reader_stacks.Stacks.{ops_same}
 use Rattle.read_store.proofs.Stored.{half}
 use Rattle.read_path.specs.Answers as walk_law
@@ -70,13 +70,13 @@ known_within p a (listed-atom i) k = tt
 known_within p a (small-atom v) k = tt
 known_within p a (unknown j i) k = tt
 
-values_known : (p a : ℕ) (w : List ℕ) (n : ℕ) → All (KnownValue p a) (values_of w n) → (k : ℕ) → k < n → KnownHandle p a (at w (node_at (length w) k))
+values_known : (p a : ℕ) (w : List ℕ) (n : ℕ) → All (KnownValue p a) (values_of w n) → (k : ℕ) → k < n → KnownHandle p a (at w (VALUES + 2 * k))
 unfolding values_of
 values_known p a w zero h k l = absurd (omega arith)
 values_known p a w (suc n) h k l = by_eq (ℕ_discrete k n) (λ m. values_known p a w n h.1 k m)
   where
-    by_eq : Dec (k ≡ n) → (k < n → KnownHandle p a (at w (node_at (length w) k))) → KnownHandle p a (at w (node_at (length w) k))
-    by_eq (yes e) f = subst (λ (m : ℕ). KnownHandle p a (at w (node_at (length w) m))) (sym e) h.0.node_known
+    by_eq : Dec (k ≡ n) → (k < n → KnownHandle p a (at w (VALUES + 2 * k))) → KnownHandle p a (at w (VALUES + 2 * k))
+    by_eq (yes e) f = subst (λ (m : ℕ). KnownHandle p a (at w (VALUES + 2 * m))) (sym e) h.0.node_known
     by_eq (no d) f = f (omega arith)
 
 module _ (input w p : List ℕ) (r : Reader) (h : BeforePath input w p r) where
@@ -84,23 +84,24 @@ module _ (input w p : List ℕ) (r : Reader) (h : BeforePath input w p r) where
   count = half p (take (2 * r.pairs) p) r.pairs h.pairs_in refl
 
   has : Room w p r (sound_law.conses (SExp ∷ ops_of w r.ops))
-  has = room w p h.atoms h.bytes r (SExp ∷ ops_of w r.ops) h.pairs_in (omega (arith, length_ops w r.ops)) h.sound
+  has = room w p h.atoms h.bytes r (SExp ∷ ops_of w r.ops) (omega (arith, h.inside, h.short)) h.pairs_in (omega (arith, length_ops w r.ops)) h.sound
 
   pub walkable : leads.Walkable w p r.values r.listed r.pairs r.ghosts
   walkable =
       record {
         room =
             record {
-              work = omega (arith, h.work, h.inside, has.values);
-              pairs = omega (arith, h.room, h.inside, has.pairs);
+              work = h.work;
+              pairs = h.room;
+              few = omega (arith, has.values);
               ghost = h.sound.holds.ghosts_enough;
-              room = omega (arith, has.pairs, h.inside, h.short);
+              room = omega (arith, has.pairs);
               lists = h.lists.all;
             };
         listed_few = h.lists.few;
         nodes = λ k l.
-            known_within r.pairs (length h.atoms / 2) (node_of (at w (node_at (length w) k)))
-            (subst (λ (n : ℕ). KnownHandle n (length h.atoms / 2) (at w (node_at (length w) k))) count
+            known_within r.pairs (length h.atoms / 2) (node_of (at w (VALUES + 2 * k)))
+            (subst (λ (n : ℕ). KnownHandle n (length h.atoms / 2) (at w (VALUES + 2 * k))) count
             (values_known (length (take (2 * r.pairs) p) / 2) (length h.atoms / 2) w r.values h.sound.holds.values_known k l));
         there = λ k l.
             known_within r.pairs (length h.atoms / 2) (node_of (at p k))
@@ -110,14 +111,11 @@ module _ (input w p : List ℕ) (r : Reader) (h : BeforePath input w p r) where
             (omega (arith, length_take_le (2 * r.pairs) p h.pairs_in)))));
       }
 
-  few_ops : r.ops ≤ length w / 2
-  few_ops = omega (arith, has.ops, h.inside, h.work)
+  pub few_values : r.values < 131072
+  few_values = omega (arith, has.values)
 
-  pub few_values : list_at (length w) r.values < length w
-  few_values = omega (arith, has.values, h.inside, h.work)
-
-  pub few_ghosts : (t : Traversed) (b : Built) → t ≡ traversed.Node b → leads.SameTotal r.pairs r.ghosts t → b.ghosts ≤ 2 ^ 26
-  few_ghosts t b e n = omega (arith, has.pairs, h.inside, h.short, (subst (leads.SameTotal r.pairs r.ghosts) e n).1)
+  pub few_ghosts : (t : Traversed) (b : Built) → t ≡ traversed.Node b → leads.SameTotal r.pairs r.ghosts t → b.ghosts ≤ 131072
+  few_ghosts t b e n = omega (arith, has.pairs, (subst (leads.SameTotal r.pairs r.ghosts) e n).1)
 
   -- ---- the path that was found
 
@@ -134,7 +132,7 @@ module _ (input w p : List ℕ) (r : Reader) (h : BeforePath input w p r) where
     end_inside : end ≤ length input
     end_inside = omega (arith, at_path.end_is, at_path.within.inside, length_drop (r.position + 1) input, h.inside)
 
-    pub path_short : length path_bytes ≤ 2 ^ 25
+    pub path_short : length path_bytes ≤ 65535
     path_short =
         let e : length path_bytes ≡ length (blob_of (drop (r.position + 1) input) (blob at_path.from at_path.size)) = ap length bytes_there in
         omega (arith, length_blob (drop (r.position + 1) input) at_path.from at_path.size at_path.within, end_inside, at_path.end_is, h.short)
@@ -167,8 +165,8 @@ module _ (input w p : List ℕ) (r : Reader) (h : BeforePath input w p r) where
         (w₂ : List ℕ) (lw₂ : length w₂ ≡ length w₁) (push : PushedValue w₁ w₂ r.values b₁.node.0) where
       ops_are : ops_of w₂ r.ops ≡ ops_of w r.ops
       ops_are =
-          push.ops r.ops (omega (arith, few_ops))
-          ∙ ops_same w w₁ r.ops (λ k q. (l (stored_with w p [] [] r).store refl refl).low k (omega (arith, few_ops)))
+          push.ops r.ops (omega (arith, has.ops))
+          ∙ ops_same w w₁ r.ops (λ k q. (l (stored_with w p [] [] r).store refl refl).low k (omega (arith, has.ops)))
 
       pushed_is : (a b : List ℕ) → store_values.push_path bits (stored_with w p a b r) ≡ some (stored_with w₂ p₁ a b (node_pushed r b₁ end))
       pushed_is a b =
@@ -195,7 +193,7 @@ module _ (input w p : List ℕ) (r : Reader) (h : BeforePath input w p r) where
             long_work = lw₂ ∙ lw;
             long_pairs = lp;
             inside = end_inside;
-            pairs_in = omega (arith, has.pairs, h.room, h.inside);
+            pairs_in = omega (arith, has.pairs, h.room);
             more = more;
             pairs_rest = (l (stored_with w p [] [] r).store refl refl).pairs_rest;
             atoms_same = refl;
@@ -213,10 +211,10 @@ module _ (input w p : List ℕ) (r : Reader) (h : BeforePath input w p r) where
           record {
             atoms = h.atoms;
             bytes = h.bytes;
-            work = omega (arith, h.work, end_inside);
-            room = omega (arith, h.room, end_inside);
+            work = omega (arith, h.work);
+            room = omega (arith, h.room);
             limit = omega (arith, end_inside, h.short);
-            pairs_in = omega (arith, has.pairs, h.room, h.inside);
+            pairs_in = omega (arith, has.pairs, h.room);
             sound = path_pushed.kept h.atoms h.bytes h.sound;
             lists = record { all = ap sound_law.unlisted (push.below b₁.listed lists_led.few) ∙ lists_led.all; few = omega (arith, lists_led.few) };
           }

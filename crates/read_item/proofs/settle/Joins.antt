@@ -1,6 +1,6 @@
 -- Laws of the joins: what a sound reader has room for, and that a join in the slices is the definition's.
 -- Assumes nothing.
-use Prim.Native.Nat.{ℕ, zero, suc, ◌+◌, ◌-◌, ◌*◌, ◌/◌, ◌^◌, ◌≤◌, ◌<◌}
+use Prim.Native.Nat.{ℕ, zero, suc, ◌+◌, ◌-◌, ◌*◌, ◌/◌, ◌≤◌, ◌<◌}
 use mathlib.Core.Path.{◌≡◌, refl, sym, ap, subst, ◌∙◌}
 use mathlib.Core.List.{List, [], ◌∷◌}
 use native.Mathlib.Omega.{arith}
@@ -10,7 +10,7 @@ use Rattle.words.specs.Words.{at}
 use Rattle.spec_reading.specs.Format.{ParseOp, SExp, Cons, settle}
 use Rattle.spec_reading.specs.Store.{Store, Value, Stored, join_values, store_values}
 use Rattle.spec_reading.specs.Sound.{Sound, unlisted, conses, sound_join, sound_two}
-use Rattle.read_store.specs.Layout.{op_at, op_of, ops_of, value_at, values_of}
+use Rattle.read_store.specs.Layout.{OPS, op_of, ops_of, value_at, values_of}
 use Rattle.read_store.proofs.reader_stacks.Stacks.{ops_more, values_two, length_values, drop_values}
 use Rattle.read_store.specs.Joined.{Joined}
 use Rattle.read_store.proofs.Stored.{half}
@@ -25,7 +25,7 @@ length_ops w zero = refl
 length_ops w (suc n) = ap suc (length_ops w n)
 
 -- The topmost operation.
-pub ops_top : (w : List ℕ) (n : ℕ) → 0 < n → ops_of w n ≡ op_of (at w (op_at (n - 1))) ∷ ops_of w (n - 1)
+pub ops_top : (w : List ℕ) (n : ℕ) → 0 < n → ops_of w n ≡ op_of (at w (OPS + (n - 1))) ∷ ops_of w (n - 1)
 ops_top w n h = let e : n ≡ n - 1 + 1 = omega arith in ap (ops_of w) e ∙ ops_more w (n - 1)
 
 -- A stored reader by its parts.
@@ -35,13 +35,13 @@ stored_is s vs p a b g ev ep ea eb eg = λ i. record { values = ev i; store = re
 
 -- What a sound reader has room for.
 pub record Room (w p : List ℕ) (r : Reader) (conses-left : ℕ) : Type 0 where
-  pub values : r.values ≤ r.position
-  pub ops : r.ops ≤ 2 * r.position + 1
-  pub pairs : r.pairs + r.ghosts + 2 * conses-left ≤ 2 * r.position
+  pub values : r.values ≤ 65535
+  pub ops : r.ops ≤ 131071
+  pub pairs : r.pairs + r.ghosts + 2 * conses-left ≤ 131070
 
-pub room : (w p a b : List ℕ) (r : Reader) (ops : List ParseOp) → 2 * r.pairs ≤ length p → r.ops ≤ length ops → Sound r.position ops (stored_with w p a b r)
+pub room : (w p a b : List ℕ) (r : Reader) (ops : List ParseOp) → r.position ≤ 65535 → 2 * r.pairs ≤ length p → r.ops ≤ length ops → Sound r.position ops (stored_with w p a b r)
     → Room w p r (conses ops)
-room w p a b r ops pairs_in few s =
+room w p a b r ops limit pairs_in few s =
     let n : length (take (2 * r.pairs) p) / 2 ≡ r.pairs = half p (take (2 * r.pairs) p) r.pairs pairs_in refl in
     record { values = omega (arith, s.values_bound, length_values w r.values); ops = omega (arith, s.ops_bound); pairs = omega (arith, s.pairs_bound) }
 
@@ -53,7 +53,7 @@ module _ (w p : List ℕ) (r : Reader) (h : Ready w p r) (ops : List ParseOp) (t
   join_two = omega (arith, length_values w r.values, sound_two r.position ops (stored_with w p h.atoms h.bytes r) sound)
 
   pub join_room : Room w p r (suc (conses ops))
-  join_room = room w p h.atoms h.bytes r (Cons ∷ ops) h.pairs_in (omega (arith, length_ops w r.ops, ap length top)) sound
+  join_room = room w p h.atoms h.bytes r (Cons ∷ ops) h.limit h.pairs_in (omega (arith, length_ops w r.ops, ap length top)) sound
 
 -- A join in the slices is the definition's.
 module _ (w p : List ℕ) (r : Reader) (w' p' : List ℕ) (h : Ready w p r) (ops-left : 0 < r.ops) (top : ops_of w r.ops ≡ Cons ∷ ops_of w (r.ops - 1))
@@ -68,7 +68,7 @@ module _ (w p : List ℕ) (r : Reader) (w' p' : List ℕ) (h : Ready w p r) (ops
   rm = join_room w p r h (ops_of w (r.ops - 1)) top
 
   ops_are : ops_of w' (r.ops - 1) ≡ ops_of w (r.ops - 1)
-  ops_are = j.ops (r.ops - 1) (omega (arith, rm.ops, h.work))
+  ops_are = j.ops (r.ops - 1) (omega (arith, rm.ops))
 
   join_is : (a b : List ℕ) → join_values (values_of w r.values) (stored_with w p a b r).store ≡ stored_with w' p' a b joined_reader
   join_is a b =
@@ -112,8 +112,7 @@ module _ (w p : List ℕ) (r : Reader) (w' p' : List ℕ) (h : Ready w p r) (ops
               bytes = refl;
             };
         kept = λ a b s. rw ops_are
-            (subst (Sound r.position (ops_of w (r.ops - 1))) (join_is a b)
-            (sound_join r.position (ops_of w (r.ops - 1)) (stored_with w p a b r) h.limit (rw top at s)));
+            (subst (Sound r.position (ops_of w (r.ops - 1))) (join_is a b) (sound_join r.position (ops_of w (r.ops - 1)) (stored_with w p a b r) h.limit (rw top at s)));
         same = λ rest a b. rw (top, ops_are) (ap (λ (s : Stored). settle store_values rest (ops_of w (r.ops - 1)) s) (join_is a b));
         lists = record { all = ap unlisted values_below ∙ fewer_listed w listed r.listed known h.lists.all; few = omega (arith, two) };
       }
@@ -162,8 +161,8 @@ ready_on w₀ p₀ r₀ w p r h lw lp k =
     record {
       atoms = h.atoms;
       bytes = h.bytes;
-      work = omega (arith, h.work, k.follows.position);
-      room = omega (arith, h.room, k.follows.position);
+      work = omega (arith, h.work);
+      room = omega (arith, h.room);
       limit = omega (arith, h.limit, k.follows.position);
       pairs_in = omega (arith, k.follows.pairs_in);
       sound = subst (λ (n : ℕ). Sound n (ops_of w r.ops) (stored_with w p h.atoms h.bytes r)) (sym k.follows.position) (k.kept h.atoms h.bytes h.sound);
@@ -171,17 +170,17 @@ ready_on w₀ p₀ r₀ w p r h lw lp k =
     }
 
 -- The word of the topmost operation says whether it is a join.
-pub top_join : (w : List ℕ) (n : ℕ) → 0 < n → (at w (op_at (n - 1)) ≡ 0 → ⊥) → ops_of w n ≡ Cons ∷ ops_of w (n - 1)
-top_join w n h d = ops_top w n h ∙ ap (λ (o : ParseOp). o ∷ ops_of w (n - 1)) (is_cons (at w (op_at (n - 1))) d)
+pub top_join : (w : List ℕ) (n : ℕ) → 0 < n → (at w (OPS + (n - 1)) ≡ 0 → ⊥) → ops_of w n ≡ Cons ∷ ops_of w (n - 1)
+top_join w n h d = ops_top w n h ∙ ap (λ (o : ParseOp). o ∷ ops_of w (n - 1)) (is_cons (at w (OPS + (n - 1))) d)
   where
     is_cons : (k : ℕ) → (k ≡ 0 → ⊥) → op_of k ≡ Cons
     is_cons zero q = absurd (q refl)
     is_cons (suc k) q = refl
 
-pub top_tree : (w : List ℕ) (n : ℕ) → 0 < n → at w (op_at (n - 1)) ≡ 0 → ops_of w n ≡ SExp ∷ ops_of w (n - 1)
+pub top_tree : (w : List ℕ) (n : ℕ) → 0 < n → at w (OPS + (n - 1)) ≡ 0 → ops_of w n ≡ SExp ∷ ops_of w (n - 1)
 top_tree w n h e = ops_top w n h ∙ ap (λ (k : ℕ). op_of k ∷ ops_of w (n - 1)) e
 
-pub no_join_tree : (w : List ℕ) (n : ℕ) → 0 < n → at w (op_at (n - 1)) ≡ 0 → NoJoin (ops_of w n)
+pub no_join_tree : (w : List ℕ) (n : ℕ) → 0 < n → at w (OPS + (n - 1)) ≡ 0 → NoJoin (ops_of w n)
 no_join_tree w n h e = rw (top_tree w n h e) tt
 
 pub no_join_end : (w : List ℕ) (n : ℕ) → n ≤ 0 → NoJoin (ops_of w n)
@@ -189,5 +188,5 @@ unfolding ops_of
 no_join_end w zero h = tt
 no_join_end w (suc n) h = absurd (omega arith)
 
-pub ready_ops : (w p : List ℕ) (r : Reader) → Ready w p r → r.ops ≤ length w
-ready_ops w p r h = omega (arith, h.sound.ops_bound, h.work, length_ops w r.ops)
+pub ready_ops : (w p : List ℕ) (r : Reader) → Ready w p r → r.ops ≤ 131071
+ready_ops w p r h = omega (arith, h.sound.ops_bound, h.limit, length_ops w r.ops)

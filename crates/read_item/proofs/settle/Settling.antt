@@ -1,6 +1,6 @@
 -- Laws of settling: what comes after the joins is what the definition says.
 -- Assumes nothing.
-use Prim.Native.Nat.{ℕ, ◌-◌, ◌<◌}
+use Prim.Native.Nat.{ℕ, ◌+◌, ◌-◌, ◌<◌}
 use mathlib.Core.Path.{◌≡◌, refl, sym, ap, subst, ◌∙◌}
 use mathlib.Core.List.{List, [], ◌∷◌}
 use native.Mathlib.Omega.{arith}
@@ -10,7 +10,7 @@ use Rattle.spec_reading.specs.Format.{ParseOp, SExp, Cons, go, at_end, settle}
 use Rattle.spec_reading.specs.Store.{store_values}
 use Rattle.spec_reading.specs.Sound.{Sound}
 use Rattle.words.specs.Words.{at}
-use Rattle.read_store.specs.Layout.{op_at, op_of, ops_of}
+use Rattle.read_store.specs.Layout.{OPS, op_of, ops_of}
 use Rattle.read_item.specs.declared.settle.Reader.{Reader}
 use Rattle.read_item.specs.declared.settle.Item.TheVariants as item
 use Rattle.read_item.specs.State.{stored_with, Follows, NoJoin, Settled, Next}
@@ -20,7 +20,7 @@ no_ops : (w : List ℕ) (n : ℕ) → n ≡ 0 → ops_of w n ≡ []
 no_ops w n e = ap (ops_of w) e ∙ unfold ops_of in refl
 
 next_op : (w : List ℕ) (n : ℕ) → 0 < n → NoJoin (ops_of w n) → ops_of w n ≡ SExp ∷ ops_of w (n - 1)
-next_op w n h j = top (op_of (at w (op_at (n - 1)))) (ops_top w n h)
+next_op w n h j = top (op_of (at w (OPS + (n - 1)))) (ops_top w n h)
   where
     top : (o : ParseOp) → ops_of w n ≡ o ∷ ops_of w (n - 1) → ops_of w n ≡ SExp ∷ ops_of w (n - 1)
     top SExp e = e

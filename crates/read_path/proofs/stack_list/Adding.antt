@@ -6,13 +6,13 @@ use mathlib.Core.List.{List, [], ◌∷◌, ◌++◌}
 use mathlib.Core.Option.{Option, none, some}
 use native.Mathlib.Omega.{arith}
 use native.Mathlib.Numerals.{add-one}
-use lib.ListN.{length, take, drop, set, length_set}
+use lib.ListN.{length, take, drop, set}
 use lib.Seq.{paste, get_or-set_same, get_or-set_other, drop-drop}
 use Rattle.words.specs.Words.{at}
 use Rattle.allocator.specs.Handle.{handle_of, pair, nil}
 use Rattle.spec_reading.specs.Store.{Store, Value, Listed, add_to_list, list_of}
-use Rattle.read_store.specs.Layout.{node_at, list_at, cached_list, value_at, values_of}
-use Rattle.read_store.proofs.reader_stacks.Stacks.{value_same, values_same, values_more}
+use Rattle.read_store.specs.Layout.{VALUES, cached_list, value_at, values_of}
+use Rattle.read_store.proofs.reader_stacks.Stacks.{values_same, values_more}
 use Rattle.read_store.proofs.Stored.{take_two, drop_two, half}
 use Rattle.read_path.specs.declared.stack_list.Built.{Built}
 use Rattle.spec_reading.specs.Sound.{unlisted}
@@ -27,18 +27,17 @@ list_of_word (suc n) h = ap some less
     less : n ≡ suc n - 1
     less = omega arith
 
-module _ (w p : List ℕ) (i : ℕ) (below b : Built) (listed : at w (list_at (length w) i) ≡ 0 → ⊥) (node : b.node.0 ≡ at w (list_at (length w) i) - 1)
+module _ (w p : List ℕ) (i : ℕ) (below b : Built) (listed : at w (VALUES + 2 * i + 1) ≡ 0 → ⊥) (node : b.node.0 ≡ at w (VALUES + 2 * i + 1) - 1)
     (pairs : b.pairs ≡ below.pairs) (ghosts : b.ghosts ≡ below.ghosts) (listed_is : b.listed ≡ i + 1) where
-  cached : cached_list (at w (list_at (length w) i)) ≡ some b.node.0
-  cached = list_of_word (at w (list_at (length w) i)) listed ∙ ap some (sym node)
+  cached : cached_list (at w (VALUES + 2 * i + 1)) ≡ some b.node.0
+  cached = list_of_word (at w (VALUES + 2 * i + 1)) listed ∙ ap some (sym node)
 
   pub adds_cached : Adds w p i below w p b
   adds_cached =
       record {
-        list_is = λ l h. subst (λ (o : Option ℕ). Holds p b (add_to_list o (at w (node_at (length w) i)) l)) (sym cached)
+        list_is = λ l h. subst (λ (o : Option ℕ). Holds p b (add_to_list o (at w (VALUES + 2 * i)) l)) (sym cached)
             record { node_is = refl; pairs_are = ap (λ (n : ℕ). take (2 * n) p) pairs ∙ h.pairs_are; ghosts_are = ghosts ∙ h.ghosts_are };
         values_are = λ l h. rw cached;
-        long = refl;
         others = λ k q. refl;
         pairs_rest = refl;
         total = omega arith;
@@ -48,57 +47,45 @@ module _ (w p : List ℕ) (i : ℕ) (below b : Built) (listed : at w (list_at (l
 
 -- ---- a pair that is made
 
-module _ (w p : List ℕ) (i : ℕ) (below : Built) (p' : List ℕ) (b : Built) (room : list_at (length w) i < length w) (free : 2 * below.pairs + 2 ≤ length p)
-    (bare : at w (list_at (length w) i) ≡ 0) (some_left : 1 ≤ below.ghosts) (node : b.node.0 ≡ handle_of (pair below.pairs))
+module _ (w p : List ℕ) (i : ℕ) (below : Built) (p' : List ℕ) (b : Built) (room : VALUES + 2 * i + 1 < length w) (free : 2 * below.pairs + 2 ≤ length p)
+    (bare : at w (VALUES + 2 * i + 1) ≡ 0) (some_left : 1 ≤ below.ghosts) (node : b.node.0 ≡ handle_of (pair below.pairs))
     (pairs : b.pairs ≡ below.pairs + 1) (ghosts : b.ghosts ≡ below.ghosts - 1) (listed_is : b.listed ≡ i + 1)
-    (appended : p' ≡ paste p (2 * below.pairs) (at w (node_at (length w) i) ∷ below.node.0 ∷ []) 2) where
-  abbrev place : ℕ
-  place = list_at (length w) i
-
+    (appended : p' ≡ paste p (2 * below.pairs) (at w (VALUES + 2 * i) ∷ below.node.0 ∷ []) 2) where
   kept : List ℕ
-  kept = set w place (b.node.0 + 1)
+  kept = set w (VALUES + 2 * i + 1) (b.node.0 + 1)
 
-  kept_long : length kept ≡ length w
-  unfolding kept
-  kept_long = length_set w place (b.node.0 + 1)
-
-  none_yet : cached_list (at w (list_at (length w) i)) ≡ none
+  none_yet : cached_list (at w (VALUES + 2 * i + 1)) ≡ none
   none_yet = ap cached_list bare
 
-  elsewhere : (k : ℕ) → (k ≡ place → ⊥) → at kept k ≡ at w k
+  elsewhere : (k : ℕ) → (k ≡ VALUES + 2 * i + 1 → ⊥) → at kept k ≡ at w k
   unfolding kept
-  elsewhere k q = get_or-set_other w place k (b.node.0 + 1) 0 q
+  elsewhere k q = get_or-set_other w (VALUES + 2 * i + 1) k (b.node.0 + 1) 0 q
 
-  kept_list : cached_list (at kept (list_at (length kept) i)) ≡ some b.node.0
+  kept_list : cached_list (at kept (VALUES + 2 * i + 1)) ≡ some b.node.0
   unfolding kept
-  kept_list =
-      ap (λ (n : ℕ). cached_list (at kept (list_at n i))) kept_long ∙ ap cached_list (get_or-set_same w place (b.node.0 + 1) 0 room ∙ add-one b.node.0)
+  kept_list = ap cached_list (get_or-set_same w (VALUES + 2 * i + 1) (b.node.0 + 1) 0 room ∙ add-one b.node.0)
 
-  kept_node : at kept (node_at (length kept) i) ≡ at w (node_at (length w) i)
-  kept_node = ap (λ (n : ℕ). at kept (node_at n i)) kept_long ∙ elsewhere (node_at (length w) i) (λ q. omega arith)
-
-  made : (l : Listed) → Holds p below l → Holds p' b (add_to_list none (at w (node_at (length w) i)) l)
+  made : (l : Listed) → Holds p below l → Holds p' b (add_to_list none (at w (VALUES + 2 * i)) l)
   made l h =
       record {
         node_is = node ∙ ap (λ (n : ℕ). handle_of (pair n)) (sym (half p l.store.pairs below.pairs (omega arith) (sym h.pairs_are)));
         pairs_are =
-            (λ j. take (2 * pairs j) (appended j)) ∙ take_two p below.pairs (at w (node_at (length w) i)) below.node.0 free
-            ∙ (λ j. h.pairs_are j ++ at w (node_at (length w) i) ∷ h.node_is j ∷ []);
+            (λ j. take (2 * pairs j) (appended j)) ∙ take_two p below.pairs (at w (VALUES + 2 * i)) below.node.0 free
+            ∙ (λ j. h.pairs_are j ++ at w (VALUES + 2 * i) ∷ h.node_is j ∷ []);
         ghosts_are = ghosts ∙ ap (λ (n : ℕ). n - 1) h.ghosts_are;
       }
 
-  pub adds_made : Adds w p i below (set w (list_at (length w) i) (b.node.0 + 1)) p' b
+  pub adds_made : Adds w p i below (set w (VALUES + 2 * i + 1) (b.node.0 + 1)) p' b
   unfolding kept
   adds_made =
       record {
-        list_is = λ l h. subst (λ (o : Option ℕ). Holds p' b (add_to_list o (at w (node_at (length w) i)) l)) (sym none_yet) (made l h);
+        list_is = λ l h. subst (λ (o : Option ℕ). Holds p' b (add_to_list o (at w (VALUES + 2 * i)) l)) (sym none_yet) (made l h);
         values_are = λ l h.
-            (λ j. record { node = kept_node j; list = (kept_list ∙ ap some (made l h).node_is) j } ∷ l.values)
-            ∙ ap (λ (o : Option ℕ). (add_to_list o (at w (node_at (length w) i)) l).values) (sym none_yet);
-        long = kept_long;
+            (λ j. record { node = elsewhere (VALUES + 2 * i) (λ q. omega arith) j; list = (kept_list ∙ ap some (made l h).node_is) j } ∷ l.values)
+            ∙ ap (λ (o : Option ℕ). (add_to_list o (at w (VALUES + 2 * i)) l).values) (sym none_yet);
         others = elsewhere;
         pairs_rest =
-            (λ j. drop (2 * pairs j) (appended j)) ∙ drop_two p below.pairs (at w (node_at (length w) i)) below.node.0 free
+            (λ j. drop (2 * pairs j) (appended j)) ∙ drop_two p below.pairs (at w (VALUES + 2 * i)) below.node.0 free
             ∙ (λ j. drop (2 * sym pairs j) p);
         total = omega arith;
         spent = ap (λ (o : Option ℕ). unlisted_of o b.ghosts) none_yet ∙ omega arith;
@@ -174,7 +161,7 @@ fewer_listed w m n h e = omega (arith, unlisted_up w m (n - m), ap (λ (k : ℕ)
     whole = omega arith
 
 -- The topmost of such values has a list.
-pub top_listed : (w : List ℕ) (n : ℕ) → 0 < n → unlisted (values_of w n) ≡ 0 → at w (list_at (length w) (n - 1)) ≡ 0 → ⊥
+pub top_listed : (w : List ℕ) (n : ℕ) → 0 < n → unlisted (values_of w n) ≡ 0 → at w (VALUES + 2 * (n - 1) + 1) ≡ 0 → ⊥
 top_listed w n h e z = absurd (omega (arith, unlisted_more w (n - 1), ap (λ (k : ℕ). unlisted (values_of w k)) less, bare))
   where
     less : n - 1 + 1 ≡ n
@@ -184,11 +171,11 @@ top_listed w n h e z = absurd (omega (arith, unlisted_more w (n - 1), ap (λ (k 
     bare = ap (λ (k : ℕ). unlisted_of (cached_list k) (unlisted (values_of w (n - 1)))) z
 
 -- It is the list of them all.
-pub top_list : (w : List ℕ) (n : ℕ) → 0 < n → unlisted (values_of w n) ≡ 0 → (s : Store) → at w (list_at (length w) (n - 1)) - 1 ≡ (list_of (values_of w n) s).node
+pub top_list : (w : List ℕ) (n : ℕ) → 0 < n → unlisted (values_of w n) ≡ 0 → (s : Store) → at w (VALUES + 2 * (n - 1) + 1) - 1 ≡ (list_of (values_of w n) s).node
 top_list w n h e s =
     sym (ap (λ (k : ℕ). (list_of (values_of w k) s).node) (sym less) ∙ ap (λ (l : Listed). l.node) (list_more w (n - 1) s)
     ∙ ap (λ (o : Option ℕ). (add_to_list o (value_at w (n - 1)).node (list_of (values_of w (n - 1)) s)).node)
-    (list_of_word (at w (list_at (length w) (n - 1))) (top_listed w n h e)))
+    (list_of_word (at w (VALUES + 2 * (n - 1) + 1)) (top_listed w n h e)))
   where
     less : n - 1 + 1 ≡ n
     less = omega arith
@@ -208,7 +195,6 @@ lists_start w p i listed used ghosts b h a n u g m =
       pairs_are = λ s e f. ap (λ (k : ℕ). take (2 * k) p) u ∙ sym e ∙ ap (λ (t : Store). t.pairs) (sym (list_there (values_of w i) s (fewer_listed w i listed h a)).1);
       ghosts_are = λ s e f. g ∙ sym f ∙ ap (λ (t : Store). t.ghosts) (sym (list_there (values_of w i) s (fewer_listed w i listed h a)).1);
       pairs_rest = refl;
-      long = refl;
       low = λ k l. refl;
       high = λ k l. refl;
       total = omega arith;
@@ -228,7 +214,7 @@ drop_more n m p q l e =
 module _ (w₀ p₀ : List ℕ) (listed used ghosts i : ℕ) (w p : List ℕ) (below : Built) (l : Lists w₀ p₀ i listed used ghosts w p below) (w' p' : List ℕ) (b : Built)
     (a : Adds w p i below w' p' b) where
   same_value : value_at w i ≡ value_at w₀ i
-  same_value = value_same w₀ w i l.long (l.high (node_at (length w₀) i) (omega arith)) (l.high (list_at (length w₀) i) (omega arith))
+  same_value = λ j. record { node = l.high (VALUES + 2 * i) (omega arith) j; list = cached_list (l.high (VALUES + 2 * i + 1) (omega arith) j) }
 
   next_list : (s : Store) → add_to_list (value_at w i).list (value_at w i).node (list_of (values_of w₀ i) s) ≡ list_of (values_of w₀ (i + 1)) s
   next_list s = ap (λ (v : Value). add_to_list v.list v.node (list_of (values_of w₀ i) s)) same_value ∙ sym (list_more w₀ i s)
@@ -246,14 +232,10 @@ module _ (w₀ p₀ : List ℕ) (listed used ghosts i : ℕ) (w p : List ℕ) (b
       go none e = omega (arith, a.total)
       go (some h) e = omega (arith, a.total)
 
-  below_same : values_of w' i ≡ values_of w i
-  below_same =
-      values_same w w' i a.long (λ k m. (a.others (node_at (length w) k) (λ q. omega arith), a.others (list_at (length w) k) (λ q. omega arith)))
-
   values_next : (s : Store) → s.pairs ≡ take (2 * used) p₀ → s.ghosts ≡ ghosts → values_of w' (i + 1) ≡ (list_of (values_of w₀ (i + 1)) s).values
   values_next s e f =
       values_more w' i
-      ∙ ap {B = List Value} (λ vs. value_at w' i ∷ vs) (below_same ∙ l.values_are s e f)
+      ∙ ap {B = List Value} (λ vs. value_at w' i ∷ vs) (values_same w w' i (λ k m n. a.others k (λ q. omega arith)) ∙ l.values_are s e f)
       ∙ a.values_are (list_of (values_of w₀ i) s) (held s e f) ∙ ap (λ (r : Listed). r.values) (next_list s)
 
   listed_next : unlisted (values_of w' b.listed) ≡ 0
@@ -269,9 +251,8 @@ module _ (w₀ p₀ : List ℕ) (listed used ghosts i : ℕ) (w p : List ℕ) (b
         pairs_are = λ s e f. (holds s e f).pairs_are;
         ghosts_are = λ s e f. (holds s e f).ghosts_are;
         pairs_rest = a.pairs_rest ∙ drop_more below.pairs b.pairs p p₀ grown l.pairs_rest;
-        long = a.long ∙ l.long;
-        low = λ k m. a.others k (λ q. omega (arith, l.long)) ∙ l.low k m;
-        high = λ k m. a.others k (λ q. omega (arith, l.long)) ∙ l.high k (omega arith);
+        low = λ k m. a.others k (λ q. omega arith) ∙ l.low k m;
+        high = λ k m. a.others k (λ q. omega arith) ∙ l.high k (omega arith);
         total = a.total ∙ l.total;
         more = omega (arith, grown, l.more);
         listed_is = omega (arith, a.listed_is);
@@ -294,7 +275,7 @@ one_left w₀ p₀ listed used ghosts i count w p b l h r e =
     (omega (arith, unlisted_more w₀ i, unlisted_up w₀ (i + 1) (count - (i + 1)), ap (λ (n : ℕ). unlisted (values_of w₀ n)) whole)))
   where
     same : value_at w i ≡ value_at w₀ i
-    same = value_same w₀ w i l.long (l.high (node_at (length w₀) i) (omega arith)) (l.high (list_at (length w₀) i) (omega arith))
+    same = λ j. record { node = l.high (VALUES + 2 * i) (omega arith) j; list = cached_list (l.high (VALUES + 2 * i + 1) (omega arith) j) }
 
     whole : i + 1 + (count - (i + 1)) ≡ count
     whole = omega arith
@@ -302,7 +283,7 @@ one_left w₀ p₀ listed used ghosts i count w p b l h r e =
 -- ---- room
 
 -- There is a ghost pair for a value without a list.
-pub bare_ghost : (w : List ℕ) (i g : ℕ) → at w (list_at (length w) i) ≡ 0 → unlisted_of (value_at w i).list 0 ≤ g → 1 ≤ g
+pub bare_ghost : (w : List ℕ) (i g : ℕ) → at w (VALUES + 2 * i + 1) ≡ 0 → unlisted_of (value_at w i).list 0 ≤ g → 1 ≤ g
 bare_ghost w i g e h = subst (λ (o : Option ℕ). unlisted_of o 0 ≤ g) (ap cached_list e) h
 
 pub pair_handle_small : (n : ℕ) → n < 2 ^ 26 → handle_of (pair n) + 1 < 2 ^ 32

@@ -107,28 +107,26 @@ returns-3 c =
       (r.more, r.total),
     )
 
-sub-t27 : tie.Need-overflow-sub-t27
-sub-t27 c = omega (arith, (steps-short c.before.before).1, c.before.if1.false)
+sub-t25 : tie.Need-overflow-sub-t25
+sub-t25 c = omega (arith, (steps-short c.before.before).1, c.before.if1.false)
 
-sub-t28 : tie.Need-overflow-sub-t28
-sub-t28 c = omega (arith, (steps-short c.before.before).1, c.before.if1.false)
+sub-t26 : tie.Need-overflow-sub-t26
+sub-t26 c = omega (arith, (steps-short c.before.before).1, c.before.if1.false)
+
+mul-t27 : tie.Need-overflow-mul-t27
+mul-t27 c = search rules
+
+add-t28 : tie.Need-overflow-add-t28
+add-t28 c = search rules
 
 mul-t29 : tie.Need-overflow-mul-t29
 mul-t29 c = search rules
 
-add-t30 : tie.Need-overflow-add-t30
-add-t30 c = search rules
-
-mul-t31 : tie.Need-overflow-mul-t31
-mul-t31 c = search rules
-
-slice-read-t33 : tie.Need-slice-read-t33
-slice-read-t33 c =
-    let steps = c.before.before.before in
-    omega (arith, (steps-short steps).1, c.before.before.if1.false, (start steps.before).requires.1.room.work)
+slice-read-t31 : tie.Need-slice-read-t31
+slice-read-t31 c = search rules
 
 add-walk-bits : tie.Need-overflow-add-walk-bits
-add-walk-bits c = let steps = c.before.before.before in omega (arith, (steps-short steps).1, (start steps.before).requires.1.room.work)
+add-walk-bits c = let steps = c.before.before.before in omega (arith, (steps-short steps).1, (start steps.before).requires.1.room.few)
 
 walk-bits-requires-2 : tie.Need-walk-bits-requires-2
 walk-bits-requires-2 c κs =
@@ -175,12 +173,12 @@ traverse-path-with-vec-spec =
     same-length-2
     same-length-3
     returns-3
-    sub-t27
-    sub-t28
+    sub-t25
+    sub-t26
+    mul-t27
+    add-t28
     mul-t29
-    add-t30
-    mul-t31
-    slice-read-t33
+    slice-read-t31
     add-walk-bits
     walk-bits-requires-2
     walked-requires-3

@@ -1,43 +1,34 @@
 -- Laws of the reader's two stacks in work: which words they depend on, how many values there are, and what the stores of a push leave.
 -- Assumes nothing.
-use Prim.Native.Nat.{ℕ, zero, suc, ◌+◌, ◌-◌, ◌/◌, ◌≤◌, ◌<◌}
+use Prim.Native.Nat.{ℕ, zero, suc, ◌+◌, ◌-◌, ◌*◌, ◌≤◌, ◌<◌}
 use mathlib.Core.Path.{◌≡◌, refl, ap, ◌∙◌}
 use mathlib.Core.List.{List, [], ◌∷◌}
 use native.Mathlib.Omega.{arith}
 use native.Mathlib.Numerals.{add-one}
 use lib.ListN.{length, drop, set, length_set}
 use Rattle.words.specs.Words.{at}
-use Rattle.words.proofs.Words.{Store, stores, length_stores, miss, hit}
+use Rattle.words.proofs.Words.{Store, stores, miss, hit}
 use Rattle.spec_reading.specs.Format.{ParseOp, SExp, Cons}
 use Rattle.spec_reading.specs.Store.{Value}
-use Rattle.read_store.specs.Layout.{op_at, node_at, list_at, op_of, ops_of, cached_list, value_at, values_of, PushedValue, PushedPair}
+use Rattle.read_store.specs.Layout.{OPS, VALUES, op_of, ops_of, cached_list, value_at, values_of, PushedValue, PushedPair}
 
--- n operations keep where their words keep
-pub ops_same : (w w' : List ℕ) (n : ℕ) → ((k : ℕ) → k < n → at w' (op_at k) ≡ at w (op_at k)) → ops_of w' n ≡ ops_of w n
+-- n operations keep where the words from OPS on keep
+pub ops_same : (w w' : List ℕ) (n : ℕ) → ((k : ℕ) → k < OPS + n → at w' k ≡ at w k) → ops_of w' n ≡ ops_of w n
 unfolding ops_of
 ops_same w w' zero h = refl
-ops_same w w' (suc n) h = λ i. op_of (h n (omega arith) i) ∷ ops_same w w' n (λ k l. h k (omega arith)) i
+ops_same w w' (suc n) h = λ i. op_of (h (OPS + n) (omega arith) i) ∷ ops_same w w' n (λ k l. h k (omega arith)) i
 
 -- n values keep where their words keep
-pub value_same : (w w' : List ℕ) (n : ℕ) → length w' ≡ length w → at w' (node_at (length w) n) ≡ at w (node_at (length w) n)
-    → at w' (list_at (length w) n) ≡ at w (list_at (length w) n) → value_at w' n ≡ value_at w n
-value_same w w' n e node list =
-    λ i.
-    record {
-      node = (ap (λ (m : ℕ). at w' (node_at m n)) e ∙ node) i;
-      list = cached_list ((ap (λ (m : ℕ). at w' (list_at m n)) e ∙ list) i);
-    }
-
-pub values_same : (w w' : List ℕ) (n : ℕ) → length w' ≡ length w
-    → ((k : ℕ) → k < n → (at w' (node_at (length w) k) ≡ at w (node_at (length w) k)) × (at w' (list_at (length w) k) ≡ at w (list_at (length w) k)))
-    → values_of w' n ≡ values_of w n
+pub values_same : (w w' : List ℕ) (n : ℕ) → ((k : ℕ) → VALUES ≤ k → k < VALUES + 2 * n → at w' k ≡ at w k) → values_of w' n ≡ values_of w n
 unfolding values_of
-values_same w w' zero e h = refl
-values_same w w' (suc n) e h =
-    λ i. value_same w w' n e (h n (omega arith)).0 (h n (omega arith)).1 i ∷ values_same w w' n e (λ k l. h k (omega arith)) i
+values_same w w' zero h = refl
+values_same w w' (suc n) h =
+    λ i.
+    record { node = h (VALUES + 2 * n) (omega arith) (omega arith) i; list = cached_list (h (VALUES + 2 * n + 1) (omega arith) (omega arith) i) }
+    ∷ values_same w w' n (λ k l m. h k l (omega arith)) i
 
 -- one operation, or value, more
-pub ops_more : (w : List ℕ) (n : ℕ) → ops_of w (n + 1) ≡ op_of (at w (op_at n)) ∷ ops_of w n
+pub ops_more : (w : List ℕ) (n : ℕ) → ops_of w (n + 1) ≡ op_of (at w (OPS + n)) ∷ ops_of w n
 unfolding ops_of
 ops_more w n = ap (ops_of w) (add-one n)
 
@@ -74,82 +65,70 @@ drop_values w (suc n) (suc k) h = drop_values w n k (omega arith) ∙ ap (values
 
 -- ---- pushes
 
-module _ (w : List ℕ) (n v : ℕ) (room : list_at (length w) n < length w) where
-  abbrev place : ℕ
-  place = node_at (length w) n
-
+module _ (w : List ℕ) (n v : ℕ) (room : VALUES + 2 * n + 1 < length w) where
   value_stores : List Store
-  value_stores = record { to = place; word = v } ∷ record { to = place + 1; word = 0 } ∷ []
+  value_stores = record { to = VALUES + 2 * n; word = v } ∷ record { to = VALUES + 2 * n + 1; word = 0 } ∷ []
 
   value_pushed : List ℕ
   value_pushed = stores w value_stores
 
-  value_long : length value_pushed ≡ length w
-  unfolding value_pushed
-  value_long = length_stores value_stores w
-
-  value_miss : (k : ℕ) → (k ≡ place → ⊥) → (k ≡ place + 1 → ⊥) → at value_pushed k ≡ at w k
+  value_miss : (k : ℕ) → (k ≡ VALUES + 2 * n → ⊥) → (k ≡ VALUES + 2 * n + 1 → ⊥) → at value_pushed k ≡ at w k
   unfolding value_pushed value_stores
   value_miss k p q = miss value_stores w k (p, (q, tt))
 
   value_below : (m : ℕ) → m ≤ n → values_of value_pushed m ≡ values_of w m
-  value_below m l =
-      values_same w value_pushed m value_long (λ k p.
-      (value_miss (node_at (length w) k) (λ e. omega arith) (λ e. omega arith), value_miss (list_at (length w) k) (λ e. omega arith) (λ e. omega arith)))
+  value_below m l = values_same w value_pushed m (λ k p q. value_miss k (λ e. omega arith) (λ e. omega arith))
 
-  value_node : at value_pushed (node_at (length value_pushed) n) ≡ v
+  value_node : at value_pushed (VALUES + 2 * n) ≡ v
   unfolding value_pushed value_stores
   value_node =
-      ap (λ (m : ℕ). at value_pushed (node_at m n)) value_long ∙ hit (record { to = place + 1; word = 0 } ∷ []) w place v (omega arith) ((λ e. omega arith), tt)
+      hit (record { to = VALUES + 2 * n + 1; word = 0 } ∷ []) w (VALUES + 2 * n) v (omega arith) ((λ e. omega arith), tt)
 
-  value_list : at value_pushed (list_at (length value_pushed) n) ≡ 0
+  value_list : at value_pushed (VALUES + 2 * n + 1) ≡ 0
   unfolding value_pushed value_stores
   value_list =
-      let l : place + 1 < length (set w place v) = simp length_set (omega arith) in
-      ap (λ (m : ℕ). at value_pushed (list_at m n)) value_long ∙ hit [] (set w place v) (place + 1) 0 l tt
+      let l : VALUES + 2 * n + 1 < length (set w (VALUES + 2 * n) v) = simp length_set (omega arith) in
+      hit [] (set w (VALUES + 2 * n) v) (VALUES + 2 * n + 1) 0 l tt
 
-  pub pushed_value : PushedValue w (set (set w (node_at (length w) n) v) (node_at (length w) n + 1) 0) n v
+  pub pushed_value : PushedValue w (set (set w (VALUES + 2 * n) v) (VALUES + 2 * n + 1) 0) n v
   unfolding value_pushed value_stores
   pushed_value =
       record {
         values = values_more value_pushed n ∙ (λ i. record { node = value_node i; list = cached_list (value_list i) } ∷ value_below n (omega arith) i);
         below = value_below;
-        ops = λ m l. ops_same w value_pushed m (λ k p. value_miss (op_at k) (λ e. omega arith) (λ e. omega arith));
+        ops = λ m l. ops_same w value_pushed m (λ k p. value_miss k (λ e. omega arith) (λ e. omega arith));
       }
 
-module _ (w : List ℕ) (n : ℕ) (room : n + 2 ≤ length w / 2) where
+module _ (w : List ℕ) (n : ℕ) (room : n + 2 ≤ VALUES) (long : VALUES ≤ length w) where
   pair_stores : List Store
-  pair_stores = record { to = op_at n; word = 1 } ∷ record { to = op_at (n + 1); word = 0 } ∷ []
+  pair_stores = record { to = OPS + n; word = 1 } ∷ record { to = OPS + n + 1; word = 0 } ∷ []
 
   pair_pushed : List ℕ
   pair_pushed = stores w pair_stores
 
-  pair_miss : (k : ℕ) → (k ≡ op_at n → ⊥) → (k ≡ op_at (n + 1) → ⊥) → at pair_pushed k ≡ at w k
+  pair_miss : (k : ℕ) → (k ≡ OPS + n → ⊥) → (k ≡ OPS + n + 1 → ⊥) → at pair_pushed k ≡ at w k
   unfolding pair_pushed pair_stores
   pair_miss k p q = miss pair_stores w k (p, (q, tt))
 
-  pair_join : at pair_pushed (op_at n) ≡ 1
+  pair_join : at pair_pushed (OPS + n) ≡ 1
   unfolding pair_pushed pair_stores
-  pair_join = hit (record { to = op_at (n + 1); word = 0 } ∷ []) w (op_at n) 1 (omega arith) ((λ e. omega arith), tt)
+  pair_join = hit (record { to = OPS + n + 1; word = 0 } ∷ []) w (OPS + n) 1 (omega arith) ((λ e. omega arith), tt)
 
-  pair_read : at pair_pushed (op_at (n + 1)) ≡ 0
+  pair_read : at pair_pushed (OPS + n + 1) ≡ 0
   unfolding pair_pushed pair_stores
   pair_read =
-      let l : op_at (n + 1) < length (set w (op_at n) 1) = simp length_set (omega arith) in
-      hit [] (set w (op_at n) 1) (op_at (n + 1)) 0 l tt
+      let l : OPS + n + 1 < length (set w (OPS + n) 1) = simp length_set (omega arith) in
+      hit [] (set w (OPS + n) 1) (OPS + n + 1) 0 l tt
 
   pair_ops : ops_of pair_pushed (n + 2) ≡ SExp ∷ Cons ∷ ops_of w n
   pair_ops =
       let e : n + 2 ≡ n + 1 + 1 = omega arith in
-      ap (ops_of pair_pushed) e ∙ ops_more pair_pushed (n + 1) ∙ ap {B = List ParseOp} (λ o. op_of o ∷ ops_of pair_pushed (n + 1)) pair_read
+      let f : OPS + (n + 1) ≡ OPS + n + 1 = omega arith in
+      ap (ops_of pair_pushed) e ∙ ops_more pair_pushed (n + 1) ∙ ap {B = List ParseOp} (λ o. op_of o ∷ ops_of pair_pushed (n + 1)) (ap (at pair_pushed) f ∙ pair_read)
       ∙ ap {B = List ParseOp} (λ os. SExp ∷ os)
-      (ops_more pair_pushed n ∙ (λ i. op_of (pair_join i) ∷ ops_same w pair_pushed n (λ k p. pair_miss (op_at k) (λ q. omega arith) (λ q. omega arith)) i))
+      (ops_more pair_pushed n ∙ (λ i. op_of (pair_join i) ∷ ops_same w pair_pushed n (λ k p. pair_miss k (λ q. omega arith) (λ q. omega arith)) i))
 
-  pub pushed_pair : PushedPair w (set (set w (op_at n) 1) (op_at (n + 1)) 0) n
+  pub pushed_pair : PushedPair w (set (set w (OPS + n) 1) (OPS + n + 1) 0) n
   unfolding pair_pushed pair_stores
   pushed_pair =
-      record {
-        ops = pair_ops;
-        values = λ m. values_same w pair_pushed m (length_stores pair_stores w) (λ k p.
-            (pair_miss (node_at (length w) k) (λ e. omega arith) (λ e. omega arith), pair_miss (list_at (length w) k) (λ e. omega arith) (λ e. omega arith)));
-      }
+      record { ops = pair_ops; values = λ m. values_same w pair_pushed m (λ k p q. pair_miss k (λ e. omega arith) (λ e. omega arith)) }

@@ -7,7 +7,6 @@ use native.Mathlib.Omega.{arith}
 use lib.ListN.{length, take}
 use lib.Seq.{length_take_le}
 use Rattle.words.proofs.Words.{take_lesser}
-use Rattle.limits.specs.Limits.{version_1}
 use Rattle.spec_reading.specs.Call as read
 
 -- The count of bytes that are lent.
@@ -15,6 +14,6 @@ pub lesser_many : (m n : ℕ) (l : List ℕ) → m ≡ min n (length l) → m �
 lesser_many m n l e = sym (length_take_le m l (omega arith))
 
 -- What the reading call gives of the lesser count of bytes is what it gives of the size.
-pub first_read : (m n : ℕ) (o : List ℕ) → m ≡ min n (length o) → (lent : read.Slices) (r : read.Result) → r ≡ read.reading version_1 (take m o) lent
-    → r ≡ read.reading version_1 (take n o) lent
-first_read m n o e lent r is = is ∙ ap (λ (x : List ℕ). read.reading version_1 x lent) (take_lesser m n o e)
+pub first_read : (m n : ℕ) (o : List ℕ) → m ≡ min n (length o) → (lent : read.Slices) (r : read.Result) → r ≡ read.reading (take m o) lent
+    → r ≡ read.reading (take n o) lent
+first_read m n o e lent r is = is ∙ ap (λ (x : List ℕ). read.reading x lent) (take_lesser m n o e)

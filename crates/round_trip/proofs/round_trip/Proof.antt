@@ -55,7 +55,6 @@ use Rattle.read_call.specs.Outcome.{read_result_of}
 use Rattle.session_answer.specs.declared.SessionAnswer.{SessionAnswer}
 use Rattle.session_answer.specs.contracts.SessionAnswer as R
 use Rattle.session_answer.proofs.SessionAnswer.TheLaws as R'
-use Rattle.limits.specs.Limits.{version_1}
 use Rattle.session_call.specs.Outcome.{result_of, ReadsBack}
 use Rattle.session_call.proofs.Lending.{lends, comes, twice}
 use Rattle.round_trip.specs.declared.RoundTrip.{RoundTrip}
@@ -204,10 +203,10 @@ module _ {M : Type 1} {𝓤 : Ura M} (𝓛 : Logic 𝓤) (mem : Memory → SProp
     Ran s w w₂ cs o = result_of s w w₂ cs o ≡ the_session x₀.now before
 
     abbrev Back : SessionAnswer → (w w₂ : List ℕ) (cs : List Checkpoint) (o : List ℕ) → Type 0
-    Back s w w₂ cs o = ReadsBack version_1 counted x₀.now (result_of s w w₂ cs o)
+    Back s w w₂ cs o = ReadsBack counted x₀.now (result_of s w w₂ cs o)
 
     abbrev WasRead : SessionAnswer → (w o : List ℕ) → ReadAnswer → (w₁ ps ns bs : List ℕ) → Type 0
-    WasRead s w o r w₁ ps ns bs = read_result_of r w₁ ps ns bs ≡ reading version_1 (take s.size o) (store-slices w x₅.now x₆.now x₇.now)
+    WasRead s w o r w₁ ps ns bs = read_result_of r w₁ ps ns bs ≡ reading (take s.size o) (store-slices w x₅.now x₆.now x₇.now)
 
     abbrev Ends : (w₁ w₂ : List ℕ) (cs : List Checkpoint) (o ps ns bs : List ℕ) → List (Item 𝓤)
     Ends w₁ w₂ cs o ps ns bs = ‵ ((ShrSlice (named 0) κ₀ u8).own_val x₀ (v₀ ∷ [])) ∷ ‵ (flft κ₀ q₀) ∷ ‵ (flft κ₁ q₁) ∷ ‵ (flft κ₂ q₂) ∷ ‵ (flft κ₃ q₃)

@@ -14,17 +14,17 @@ decreases-loop options₀ count i₀ options i = count - i
 arg-count-requires : tie.Need-arg-count-requires invariant-loop decreases-loop
 arg-count-requires c κs = search rules
 
-read-standard-requires : tie.Need-read-standard-requires invariant-loop decreases-loop
-read-standard-requires c κs = search rules
+slice-aggregate-read-from : tie.Need-slice-aggregate-read-from invariant-loop decreases-loop
+slice-aggregate-read-from c = search rules
+
+read-from-requires : tie.Need-read-from-requires invariant-loop decreases-loop
+read-from-requires c κs = search rules
 
 returns : tie.Need-returns invariant-loop decreases-loop
 returns c = search rules
 
 loop-holds : tie.Need-loop-init invariant-loop decreases-loop
 loop-holds c = search rules
-
-sub-read-named : tie.Need-overflow-sub-read-named invariant-loop decreases-loop
-sub-read-named c = search rules
 
 read-named-requires : tie.Need-read-named-requires invariant-loop decreases-loop
 read-named-requires c κs = search rules
@@ -48,10 +48,10 @@ main_spec =
     invariant-loop
     decreases-loop
     arg-count-requires
-    read-standard-requires
+    slice-aggregate-read-from
+    read-from-requires
     returns
     loop-holds
-    sub-read-named
     read-named-requires
     add-i
     loop-less

@@ -1,14 +1,12 @@
 -- `session_begin::begin` asks questions 1 to 8, and loads the file where all get yes.
 -- Assumes nothing.
 use Prim.Native.Nat.{ℕ, ◌<◌}
-use mathlib.Core.Path.{◌≡◌, sym, ap, ◌∙◌}
+use mathlib.Core.Path.{◌≡◌, sym, ◌∙◌}
 use mathlib.Core.Bool.{true}
 use native.Mathlib.Omega.{arith}
 use lib.ListN.{length}
 use borrow.Author.Tests.{not-true, not-false}
 use Rattle.words.specs.Lists.{Bytes, all_of}
-use Rattle.limits.specs.Limits.{limits_of}
-use Rattle.limits.specs.declared.Limits.{Limits as Numbers}
 use Rattle.session_begin.specs.Lengths.{are_long}
 use Rattle.session_begin.proofs.Asking.{begin_short, begin_refused, open_asks, begin_run}
 use borrow.Author.Rules.{rules}
@@ -19,20 +17,9 @@ use Rattle.session_begin.proofs.begin.Tie as tie
 bytes : (x : tie.After-shared-slice-known) → Bytes x.before.args.file.now
 bytes x = all_of (λ (n : ℕ). n < 256) x.before.args.file.now 0 (λ i m. omega (arith, x.shared-slice-known.given i))
 
--- What `long_enough` answers, by the version's number.
-asked : (x : tie.After-long-enough) → let a = x.before.before.before.before.args in
-    x.long_enough.result ≡ are_long (limits_of a.rules.version).work_words (length a.work.now) a.words a.records
-asked x =
-    let a = x.before.before.before.before.args in
-    x.long_enough.ensures ∙ ap (λ (n : Numbers). are_long n.work_words (length a.work.now) a.words a.records) x.before.limits_of.ensures
-
 -- The slices are long enough.
-long : (x : tie.Else1) → let a = x.before.before.before.before.before.args in
-    are_long (limits_of a.rules.version).work_words (length a.work.now) a.words a.records ≡ true
-long x = let l = x.before.long_enough in sym (asked x.before) ∙ not-false l.result x.if1.false
-
-limits-of-requires : tie.Need-limits-of-requires
-limits-of-requires c κs = search rules
+long : (x : tie.Else1) → let a = x.before.before.before.before.args in are_long (length a.work.now) a.words a.records ≡ true
+long x = let l = x.before.long_enough in sym l.ensures ∙ not-false l.result x.if1.false
 
 long-enough-requires : tie.Need-long-enough-requires
 long-enough-requires c κs = search rules
@@ -43,9 +30,9 @@ refused-requires c κs = search rules
 returns : tie.Need-returns
 returns c =
     let l = c.before.before.long_enough in
-    let known = c.before.before.before.before.before in
+    let known = c.before.before.before.before in
     let a = known.before.args in
-    (bytes known, begin_short a.rules a.file.now a.work.now a.words a.records (sym (asked c.before.before) ∙ not-true l.result c.before.if1.true) c.refused.ensures)
+    (bytes known, begin_short a.measure a.file.now a.work.now a.words a.records (sym l.ensures ∙ not-true l.result c.before.if1.true) c.refused.ensures)
 
 check-requires : tie.Need-check-requires
 check-requires c κs = search rules
@@ -56,17 +43,17 @@ refused-requires-2 c κs = search rules
 returns-2 : tie.Need-returns-2
 returns-2 c =
     let checked = c.before.before.before in
-    let known = checked.before.before.before.before.before in
+    let known = checked.before.before.before.before in
     let a = known.before.args in
     let k = checked.check in
-    (bytes known, begin_refused a.rules a.file.now a.work.now a.words a.records (long checked.before) k.result k.ensures c.before.if2.true c.refused2.ensures)
+    (bytes known, begin_refused a.measure a.file.now a.work.now a.words a.records (long checked.before) k.result k.ensures c.before.if2.true c.refused2.ensures)
 
 open-requires : tie.Need-open-requires
 open-requires c κs =
     let checked = c.before.before.before in
-    let a = checked.before.before.before.before.before.before.args in
+    let a = checked.before.before.before.before.before.args in
     let k = checked.check in
-    open_asks a.rules a.file.now a.work.now a.words a.records (long checked.before) k.result k.ensures c.before.if2.false
+    open_asks a.measure a.file.now a.work.now a.words a.records (long checked.before) k.result k.ensures c.before.if2.false
 
 has-forget-requires : tie.Need-has-forget-requires
 has-forget-requires c κs = search rules
@@ -82,11 +69,11 @@ returns-3 c =
     let o = c.before.before.before.before.«open» in
     let passed = c.before.before.before.before.before.before in
     let checked = passed.before.before in
-    let known = checked.before.before.before.before.before in
+    let known = checked.before.before.before.before in
     let a = known.before.args in
     let k = checked.check in (
       bytes known,
-      begin_run a.rules a.file.now a.work.now a.words a.records (long checked.before) k.result k.ensures passed.if2.false
+      begin_run a.measure a.file.now a.work.now a.words a.records (long checked.before) k.result k.ensures passed.if2.false
           o.new.1.0 o.auto.1.0 o.ensures c.before.has-forget.ensures c.started.ensures,
     )
 
@@ -94,7 +81,6 @@ pub begin-spec : {M : Type 1} → statement M
 begin-spec =
     tie.close
     (tie.spec
-    limits-of-requires
     long-enough-requires
     refused-requires
     returns

@@ -1,38 +1,18 @@
 -- `session_begin::load_places` puts the places of the atoms and the handles of the pairs into work.
 -- Assumes nothing.
-use Prim.Native.Nat.{ℕ, ◌+◌}
-use mathlib.Core.Path.{◌≡◌, sym, subst}
-use mathlib.Core.List.{List}
+use mathlib.Core.Path.{sym}
 use native.Mathlib.Omega.{arith}
 use borrow.Author.Rules.{rules}
 use Rattle.words.proofs.Words.{part_length}
 use Rattle.words.specs.Words.{part}
-use Rattle.limits.specs.Limits.{limits_of, small_of}
-use Rattle.limits.specs.declared.Limits.{Limits as Numbers}
-use Rattle.limits.specs.declared.Version.{Version}
-use Rattle.limits.specs.Numbers.{numbers}
-use Rattle.spec_session.specs.File.{first_atom}
-use Rattle.spec_session.specs.Places.{AtomsAt}
-use Rattle.file_parts.specs.Loaded.{AtomsThere}
 use Rattle.file_parts.specs.CheckedLaws.{atoms_to_load, pairs_to_load}
 use Rattle.session_state.specs.State.{the_file}
 use Rattle.session_begin.proofs.Opening.{few_twice, pairs_room, placed}
 use Rattle.session_begin.proofs.load_places.Statement.{statement}
 use Rattle.session_begin.proofs.load_places.Tie as tie
 
--- The width of the version's counts, as the struct has it.
-module _ (v : Version) (n : Numbers) (e : n ≡ numbers (limits_of v)) where
-  there : {input : List ℕ} {count : ℕ} → AtomsThere (limits_of v).count_bytes input count → AtomsThere n.count_bytes input count
-  there {input} {count} = subst (λ (m : Numbers). AtomsThere m.count_bytes input count) (sym e)
-
-  placed_by : (input : List ℕ) (xs : List (List ℕ)) → AtomsAt (limits_of v).count_bytes input (first_atom (limits_of v)) xs → AtomsAt n.count_bytes input (5 + n.count_bytes) xs
-  placed_by input xs = subst (λ (m : Numbers). AtomsAt m.count_bytes input (5 + m.count_bytes) xs) (sym e)
-
 clear-tables-requires : tie.Need-clear-tables-requires
 clear-tables-requires c κs = search rules
-
-limits-of-requires : tie.Need-limits-of-requires
-limits-of-requires c κs = search rules
 
 sub-load-atoms : tie.Need-overflow-sub-load-atoms
 sub-load-atoms c = search rules
@@ -46,13 +26,10 @@ part-load-atoms-end c = search rules
 load-atoms-requires : tie.Need-load-atoms-requires
 unfolding part
 load-atoms-requires c κs =
-    let cleared = c.before.before.before.before in
+    let cleared = c.before.before.before in
     let cl = cleared.clear-tables in
-    let s = cleared.before.before.before.before in
-    let pre = s.requires in (
-      there s.args.rules.version c.before.limits_of.result c.before.limits_of.ensures (atoms_to_load (small_of s.args.rules.version) pre.0),
-      omega (arith, (few_twice pre.0).0, part_length cl.new.0 0 2048 (omega (arith, cl.auto.0, pre.1))),
-    )
+    let pre = cleared.before.before.before.before.requires in
+    (atoms_to_load pre.0, omega (arith, (few_twice pre.0).0, part_length cl.new.0 0 2048 (omega (arith, cl.auto.0, pre.1))))
 
 sub-load-pairs : tie.Need-overflow-sub-load-pairs
 sub-load-pairs c = search rules
@@ -67,7 +44,7 @@ load-pairs-requires : tie.Need-load-pairs-requires
 unfolding part
 load-pairs-requires c κs =
     let loaded = c.before.before.before in
-    let cleared = loaded.before.before.before.before.before in
+    let cleared = loaded.before.before.before.before in
     let la = loaded.load-atoms in
     let cl = cleared.clear-tables in
     let pre = cleared.before.before.before.before.requires in
@@ -80,25 +57,21 @@ returns : tie.Need-returns
 unfolding part
 returns c =
     let loaded = c.before.before.before.before.before.before in
-    let cleared = loaded.before.before.before.before.before in
-    let limits = loaded.before.before.limits_of in
+    let cleared = loaded.before.before.before.before in
     let s = cleared.before.before.before.before in
-    let f = the_file s.args.rules s.args.file.now in
+    let f = the_file s.args.file.now in
     let p = s.requires.0 in
     let cl = cleared.clear-tables in
     let la = loaded.load-atoms in
     let lp = c.before.before.load-pairs in
     placed p s.requires.1 cl.new.0 la.new.1.0 lp.new.1.0 cl.auto.0 cl.ensures
-    la.auto.1.0
-    (la.ensures f.atoms (sym p.atoms_are) (placed_by s.args.rules.version limits.result limits.ensures s.args.file.now f.atoms p.atoms_there))
-    lp.auto.1.0 (lp.ensures f.pairs (sym p.pairs_are) p.pairs_there)
+    la.auto.1.0 (la.ensures f.atoms (sym p.atoms_are) p.atoms_there) lp.auto.1.0 (lp.ensures f.pairs (sym p.pairs_are) p.pairs_there)
 
 pub load-places-spec : {M : Type 1} → statement M
 load-places-spec =
     tie.close
     (tie.spec
     clear-tables-requires
-    limits-of-requires
     sub-load-atoms
     part-load-atoms-start
     part-load-atoms-end

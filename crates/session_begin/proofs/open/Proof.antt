@@ -6,7 +6,6 @@ use native.Mathlib.Omega.{arith}
 use lib.ListN.{length, length_set}
 use borrow.Author.Rules.{rules}
 use Rattle.words.specs.Words.{WORK}
-use Rattle.limits.specs.Limits.{limits_of}
 use Rattle.file_parts.specs.Checked.{Passed}
 use Rattle.session_state.specs.State.{the_file}
 use Rattle.session_begin.proofs.Opening.{firsts_ask, opened}
@@ -14,8 +13,7 @@ use Rattle.session_begin.proofs.open.Statement.{statement}
 use Rattle.session_begin.proofs.open.Tie as tie
 
 -- What is asked of the call, and the words, after the places are loaded.
-pre : (x : tie.After-load-places) → let a = x.before.before.before.before.args in
-    Passed (limits_of a.rules.version) a.file.now (the_file a.rules a.file.now) a.checked × (WORK ≤ length a.work.now)
+pre : (x : tie.After-load-places) → let a = x.before.before.before.before.args in Passed a.file.now (the_file a.file.now) a.checked × (WORK ≤ length a.work.now)
 pre x = x.before.before.before.before.requires
 
 long : (x : tie.After-load-places) → WORK ≤ length x.load-places.new.1.0

@@ -1,6 +1,6 @@
 -- Written by tools/walks/session_call.py.
 -- `session_call::nikvoldra_session_documented` meets its contract: a walk of its MIR. It knows of `run_session` that it meets its contract.
--- All slices go to it for good, the version is `One` and the measure `Documented`.
+-- All slices go to it for good, and the measure is `Documented`.
 -- Assumes nothing.
 use mathlib.Core.Path.{◌≡◌, refl, ap, subst}
 use Prim.Native.Nat.{ℕ}
@@ -45,22 +45,17 @@ use denote.Exit.{yes}
 use Rattle.session_state.specs.declared.checkpoints.Checkpoint.{Checkpoint}
 use Rattle.session_state.specs.Records.{blank}
 use Rattle.session_state.specs.contracts.checkpoints.Checkpoint as T
-use Rattle.session_state.specs.declared.progress.Rules.{Rules}
-use Rattle.session_state.specs.contracts.progress.Rules as Q
-use Rattle.session_state.proofs.progress.Rules.TheLaws as Q'
+use Rattle.path.specs.declared.Measure.{Measure}
+use Rattle.path.specs.contracts.Measure as D
+use Rattle.path.proofs.Measure.TheLaws as D'
+use Rattle.spec_session.specs.File.{version_1}
 use Rattle.spec_session.specs.Call.{session}
 use Rattle.session_steps.proofs.run_steps.Lending.{twice}
 use Rattle.session_answer.specs.declared.SessionAnswer.{SessionAnswer}
 use Rattle.session_answer.specs.contracts.SessionAnswer as R
 use Rattle.session_answer.proofs.SessionAnswer.TheLaws as R'
 use Rattle.session_call.specs.Outcome.{slices, result_of, ReadsBack}
-use Rattle.limits.specs.declared.Version.TheVariants.{One}
-use Rattle.limits.specs.contracts.Version as N
-use Rattle.limits.proofs.Version.TheLaws as N'
-use Rattle.limits.specs.Limits.{version_1}
 use Rattle.path.specs.declared.Measure.TheVariants.{Documented}
-use Rattle.path.specs.contracts.Measure as D
-use Rattle.path.proofs.Measure.TheLaws as D'
 use Rattle.path.specs.Measure.{documented}
 use Rattle.session_call.specs.contracts.run_session.run_session as one_run
 use Rattle.session_call.proofs.run_session.run_session.Symbol as one_run_def
@@ -80,19 +75,12 @@ stayed = (
   ),
 )
 
--- The machine values of the answer, and of the rules.
+-- The machine values of the answer, and of a measure.
 abbrev mach-r : SessionAnswer → Val
 mach-r r = LL.val R.the_type R'.the_laws r
 
-abbrev mach-m : Rules → Val
-mach-m m = LL.val Q.the_type Q'.the_laws m
-
--- The rules of the call.
-abbrev the-rules : Rules
-the-rules = record { version = One; measure = Documented }
-
-are-rules : Is Q.the_row the-rules (mach-m the-rules ∷ [])
-are-rules = LL.owes Q.the_type Q'.the_laws the-rules (EL.owes N.the_type N'.the_laws One tt, (EL.owes D.the_type D'.the_laws Documented tt, tt))
+abbrev mach-m : Measure → Val
+mach-m m = EL.val D.the_type D'.the_laws m
 
 module _ {M : Type 1} {𝓤 : Ura M} (𝓛 : Logic 𝓤) (mem : Memory → SProp 𝓤) (run : Routine → Fun 𝓤) where
   -- The contracts that the proof cites.
@@ -159,7 +147,7 @@ module _ {M : Type 1} {𝓤 : Ura M} (𝓛 : Logic 𝓤) (mem : Memory → SProp
     Said r w ws cs o = result_of r w ws cs o ≡ session blank version_1 documented input (slices x₁.now x₂.now x₃.now x₄.now)
 
     abbrev Reads : SessionAnswer → (w ws : List ℕ) (cs : List Checkpoint) (o : List ℕ) → Type 0
-    Reads r w ws cs o = ReadsBack version_1 documented input (result_of r w ws cs o)
+    Reads r w ws cs o = ReadsBack documented input (result_of r w ws cs o)
 
     abbrev Leaves : SessionAnswer → (w ws : List ℕ) (cs : List Checkpoint) (o : List ℕ) → SProp 𝓤
     Leaves r w ws cs o = on_exit 𝓛 this.ended stayed (κ₀, (κ₁, (κ₂, (κ₃, (κ₄, tt))))) (q₀, (q₁, (q₂, (q₃, (q₄, tt))))) vals (mach-r r) r a
@@ -179,8 +167,8 @@ module _ {M : Type 1} {𝓤 : Ura M} (𝓛 : Logic 𝓤) (mem : Memory → SProp
         nothing ! $ move ! (6 ∷ []) $ fjoin ! $ move ! (5 ∷ []) $ fjoin ! $ move ! (4 ∷ []) $ fjoin ! $ move ! (3 ∷ []) $ fjoin ! $ move ! (2 ∷ []) $ fjoin ! $
         move ! (1 ∷ []) $ frame ! $ frame ! $ owned ! R.the_row (Is R.the_row) (LL.makes R.the_type R'.the_plain 𝓛) r _ r-is $ done !
 
-    abbrev given-one-run : Bor (List ℕ) × (Bor (List ℕ) × (Bor (List ℕ) × (Bor (List Checkpoint) × (Bor (List ℕ) × (Rules × Unit {0})))))
-    given-one-run = (x₀, (x₁, (x₂, (x₃, (x₄, (the-rules, tt))))))
+    abbrev given-one-run : Bor (List ℕ) × (Bor (List ℕ) × (Bor (List ℕ) × (Bor (List Checkpoint) × (Bor (List ℕ) × (Measure × Unit {0})))))
+    given-one-run = (x₀, (x₁, (x₂, (x₃, (x₄, (Documented, tt))))))
 
     abbrev to-one-run : Run.Ghost
     to-one-run = (
@@ -189,7 +177,7 @@ module _ {M : Type 1} {𝓤 : Ura M} (𝓛 : Logic 𝓤) (mem : Memory → SProp
         (q₀, (q₁, (q₂, (q₃, (q₄, tt))))),
         tt,
         given-one-run,
-        (v₀ ∷ [], (v₁ ∷ [], (v₂ ∷ [], (v₃ ∷ [], (v₄ ∷ [], (mach-m the-rules ∷ [], tt)))))),
+        (v₀ ∷ [], (v₁ ∷ [], (v₂ ∷ [], (v₃ ∷ [], (v₄ ∷ [], (mach-m Documented ∷ [], tt)))))),
       ),
       tt,
     )
@@ -203,9 +191,10 @@ module _ {M : Type 1} {𝓤 : Ura M} (𝓛 : Logic 𝓤) (mem : Memory → SProp
     goes-one-run =
         qed 𝓛 passed-one-run ∵
         -- What the parameters own; and the tokens.
-        nothing ! $ owned ! Q.the_row (Is Q.the_row) (LL.makes Q.the_type Q'.the_plain 𝓛) the-rules _ are-rules $ fjoin ! $ move ! (9 ∷ []) $ fjoin ! $
-        move ! (7 ∷ []) $ fjoin ! $ move ! (5 ∷ []) $ fjoin ! $ move ! (3 ∷ []) $ fjoin ! $ move ! (1 ∷ []) $ fjoin ! $ nothing ! $ move ! (6 ∷ []) $ join ! $
-        move ! (5 ∷ []) $ join ! $ move ! (4 ∷ []) $ join ! $ move ! (3 ∷ []) $ join ! $ move ! (2 ∷ []) $ join ! $ join ! $ frame ! $ done !
+        nothing ! $ owned ! D.the_row (Is D.the_row) (EL.makes D.the_type D'.the_plain 𝓛) Documented _ (EL.owes D.the_type D'.the_laws Documented tt) $
+        fjoin ! $ move ! (9 ∷ []) $ fjoin ! $ move ! (7 ∷ []) $ fjoin ! $ move ! (5 ∷ []) $ fjoin ! $ move ! (3 ∷ []) $ fjoin ! $ move ! (1 ∷ []) $ fjoin ! $
+        nothing ! $ move ! (6 ∷ []) $ join ! $ move ! (5 ∷ []) $ join ! $ move ! (4 ∷ []) $ join ! $ move ! (3 ∷ []) $ join ! $ move ! (2 ∷ []) $ join ! $
+        join ! $ frame ! $ done !
 
     module _ (𝓣 : Tables 𝓤 H) (fm : FmC 𝓤 H 𝓛.laws 𝓣.C) (known-one-run : Triple 𝓤 (𝓣.C #one-run) Run) where
       walk : ent 𝓤 (on_entry 𝓛 this.signature (κ₀, (κ₁, (κ₂, (κ₃, (κ₄, tt))))) (q₀, (q₁, (q₂, (q₃, (q₄, tt))))) a vals)
@@ -215,45 +204,40 @@ module _ {M : Type 1} {𝓤 : Ura M} (𝓛 : Logic 𝓤) (mem : Memory → SProp
           ∷ ‵ (owns (ShrSlice (named 0) κ₀ u8 ∷ MutSlice (named 1) κ₁ u32 ∷ MutSlice (named 2) κ₂ u32 ∷ MutSlice (named 3) κ₃ T.the_row ∷ MutSlice
           (named 4) κ₄ u8 ∷ []) a vals) ∷ []) ∵ enter ! 𝓣.C 𝓣.Λ code.function (v₀ ∷ v₁ ∷ v₂ ∷ v₃ ∷ v₄ ∷ []) _ $
           alloc1 ! (λ l₀. alloc1 ! (λ l₁. alloc1 ! (λ l₂. alloc1 ! (λ l₃. alloc1 ! (λ l₄. alloc1 ! (λ l₅. alloc1 ! (λ l₆. alloc1 ! (λ l₇. alloc1 ! (λ l₈.
-          alloc1 ! (λ l₉. alloc1 ! (λ l₁₀. alloc1 ! (λ l₁₁. alloc1 ! (λ l₁₂. alloc1 ! (λ l₁₃. alloc1 ! (λ l₁₄. alloc1 ! (λ l₁₅. alloc1 ! (λ l₁₆. alloc0 ! $
-          params1 ! $ pass1 ! (init ! 30 refl (tt, (tt, (record { fits = room₀.0 }, tt)))) $
-          pass1 ! (init ! 28 refl (tt, (tt, (record { fits = room₁.0 }, tt)))) $ pass1 ! (init ! 26 refl (tt, (tt, (record { fits = room₂.0 }, tt)))) $
-          pass1 ! (init ! 24 refl (tt, (tt, (record { fits = room₃.0 }, tt)))) $ pass1 ! (init ! 22 refl (tt, (tt, (record { fits = room₄.0 }, tt)))) $
-          pass0 ! $
+          alloc1 ! (λ l₉. alloc1 ! (λ l₁₀. alloc1 ! (λ l₁₁. alloc1 ! (λ l₁₂. alloc1 ! (λ l₁₃. alloc1 ! (λ l₁₄. alloc0 ! $ params1 ! $
+          pass1 ! (init ! 26 refl (tt, (tt, (record { fits = room₀.0 }, tt)))) $ pass1 ! (init ! 24 refl (tt, (tt, (record { fits = room₁.0 }, tt)))) $
+          pass1 ! (init ! 22 refl (tt, (tt, (record { fits = room₂.0 }, tt)))) $ pass1 ! (init ! 20 refl (tt, (tt, (record { fits = room₃.0 }, tt)))) $
+          pass1 ! (init ! 18 refl (tt, (tt, (record { fits = room₄.0 }, tt)))) $ pass0 ! $
           -- What the parameters own, and the tokens, one by one.
-          move ! (35 ∷ []) $ fsplit ! $ move ! (1 ∷ []) $ fsplit ! $ move ! (1 ∷ []) $ fsplit ! $ move ! (1 ∷ []) $ fsplit ! $ move ! (1 ∷ []) $ fsplit ! $
-          move ! (1 ∷ []) $ drop ! $ move ! (39 ∷ []) $ split ! $ move ! (1 ∷ []) $ split ! $ move ! (1 ∷ []) $ split ! $ move ! (1 ∷ []) $ split ! $
+          move ! (31 ∷ []) $ fsplit ! $ move ! (1 ∷ []) $ fsplit ! $ move ! (1 ∷ []) $ fsplit ! $ move ! (1 ∷ []) $ fsplit ! $ move ! (1 ∷ []) $ fsplit ! $
+          move ! (1 ∷ []) $ drop ! $ move ! (35 ∷ []) $ split ! $ move ! (1 ∷ []) $ split ! $ move ! (1 ∷ []) $ split ! $ move ! (1 ∷ []) $ split ! $
           move ! (1 ∷ []) $ split ! $ move ! (1 ∷ []) $ drop ! $
-          -- The rules, and the slices as the call takes them.
-          assigns ! (agg ! (and_then ! (lit ! tt) (no_more !))) (from ! (stop !))
-          (init ! 28 refl ((EL.lawful N.the_type N'.the_laws 𝓛 tt).typed One _ (EL.owes N.the_type N'.the_laws One tt)).0) $
-          assigns ! (agg ! (and_then ! (lit ! tt) (no_more !))) (from ! (stop !))
-          (init ! 26 refl ((EL.lawful D.the_type D'.the_laws 𝓛 tt).typed Documented _ (EL.owes D.the_type D'.the_laws Documented tt)).0) $
-          assigns ! (agg ! (and_then ! (load ! (from ! (stop !)) (look ! 28 refl)) (and_then ! (load ! (from ! (stop !)) (look ! 26 refl)) (no_more !))))
-          (from ! (stop !)) (init ! 30 refl ((LL.lawful Q.the_type Q'.the_laws 𝓛).typed the-rules _ are-rules).0) $
-          assigns ! (addr ! (from ! (fld ! refl (hop ! (look_in ! 38 (sub ! 0 refl (whole !))) (stop !))))) (from ! (stop !)) (init ! 24 refl (tt, tt)) $
-          assigns ! (agg ! (and_then ! (load ! (from ! (stop !)) (look ! 24 refl))
-          (and_then ! (load ! (from ! (fld ! refl (stop !))) (look_in ! 38 (sub ! 1 refl (whole !)))) (no_more !)))) (from ! (stop !))
-          (init ! 22 refl (tt, (tt, (record { fits = room₁.0 }, tt)))) $
-          assigns ! (addr ! (from ! (fld ! refl (hop ! (look_in ! 36 (sub ! 0 refl (whole !))) (stop !))))) (from ! (stop !)) (init ! 20 refl (tt, tt)) $
-          assigns ! (agg ! (and_then ! (load ! (from ! (stop !)) (look ! 20 refl))
-          (and_then ! (load ! (from ! (fld ! refl (stop !))) (look_in ! 36 (sub ! 1 refl (whole !)))) (no_more !)))) (from ! (stop !))
-          (init ! 18 refl (tt, (tt, (record { fits = room₂.0 }, tt)))) $
-          assigns ! (addr ! (from ! (fld ! refl (hop ! (look_in ! 34 (sub ! 0 refl (whole !))) (stop !))))) (from ! (stop !)) (init ! 16 refl (tt, tt)) $
-          assigns ! (agg ! (and_then ! (load ! (from ! (stop !)) (look ! 16 refl))
+          -- The slices and the measure, as the call takes them.
+          assigns ! (addr ! (from ! (fld ! refl (hop ! (look_in ! 34 (sub ! 0 refl (whole !))) (stop !))))) (from ! (stop !)) (init ! 26 refl (tt, tt)) $
+          assigns ! (agg ! (and_then ! (load ! (from ! (stop !)) (look ! 26 refl))
           (and_then ! (load ! (from ! (fld ! refl (stop !))) (look_in ! 34 (sub ! 1 refl (whole !)))) (no_more !)))) (from ! (stop !))
-          (init ! 14 refl (tt, (tt, (record { fits = room₃.0 }, tt)))) $
-          assigns ! (addr ! (from ! (fld ! refl (hop ! (look_in ! 32 (sub ! 0 refl (whole !))) (stop !))))) (from ! (stop !)) (init ! 12 refl (tt, tt)) $
-          assigns ! (agg ! (and_then ! (load ! (from ! (stop !)) (look ! 12 refl))
+          (init ! 24 refl (tt, (tt, (record { fits = room₁.0 }, tt)))) $
+          assigns ! (addr ! (from ! (fld ! refl (hop ! (look_in ! 32 (sub ! 0 refl (whole !))) (stop !))))) (from ! (stop !)) (init ! 22 refl (tt, tt)) $
+          assigns ! (agg ! (and_then ! (load ! (from ! (stop !)) (look ! 22 refl))
           (and_then ! (load ! (from ! (fld ! refl (stop !))) (look_in ! 32 (sub ! 1 refl (whole !)))) (no_more !)))) (from ! (stop !))
-          (init ! 10 refl (tt, (tt, (record { fits = room₄.0 }, tt)))) $
+          (init ! 20 refl (tt, (tt, (record { fits = room₂.0 }, tt)))) $
+          assigns ! (addr ! (from ! (fld ! refl (hop ! (look_in ! 30 (sub ! 0 refl (whole !))) (stop !))))) (from ! (stop !)) (init ! 18 refl (tt, tt)) $
+          assigns ! (agg ! (and_then ! (load ! (from ! (stop !)) (look ! 18 refl))
+          (and_then ! (load ! (from ! (fld ! refl (stop !))) (look_in ! 30 (sub ! 1 refl (whole !)))) (no_more !)))) (from ! (stop !))
+          (init ! 16 refl (tt, (tt, (record { fits = room₃.0 }, tt)))) $
+          assigns ! (addr ! (from ! (fld ! refl (hop ! (look_in ! 28 (sub ! 0 refl (whole !))) (stop !))))) (from ! (stop !)) (init ! 14 refl (tt, tt)) $
+          assigns ! (agg ! (and_then ! (load ! (from ! (stop !)) (look ! 14 refl))
+          (and_then ! (load ! (from ! (fld ! refl (stop !))) (look_in ! 28 (sub ! 1 refl (whole !)))) (no_more !)))) (from ! (stop !))
+          (init ! 12 refl (tt, (tt, (record { fits = room₄.0 }, tt)))) $
+          assigns ! (agg ! (and_then ! (lit ! tt) (no_more !))) (from ! (stop !))
+          (init ! 10 refl ((EL.lawful D.the_type D'.the_laws 𝓛 tt).typed Documented _ (EL.owes D.the_type D'.the_laws Documented tt)).0) $
           -- A copy of `file` is kept.
           move ! (9 ∷ []) $ twice ! u8 0 κ₀ x₀ (v₀ ∷ []) $ move ! (0 ∷ 6 ∷ 10 ∷ 5 ∷ 9 ∷ 4 ∷ 8 ∷ 3 ∷ 7 ∷ 2 ∷ []) $
           group ! 10 $ use1 𝓛 (raw (Run.pre to-one-run)) goes-one-run $
-          calls_at ! fm Run known-one-run to-one-run (and_then ! (load ! (from ! (stop !)) (look ! 32 refl))
-          (and_then ! (load ! (from ! (stop !)) (look ! 14 refl)) (and_then ! (load ! (from ! (stop !)) (look ! 10 refl))
-          (and_then ! (load ! (from ! (stop !)) (look ! 6 refl)) (and_then ! (load ! (from ! (stop !)) (look ! 2 refl))
-          (and_then ! (load ! (from ! (stop !)) (look ! 22 refl)) (no_more !)))))))
+          calls_at ! fm Run known-one-run to-one-run (and_then ! (load ! (from ! (stop !)) (look ! 28 refl))
+          (and_then ! (load ! (from ! (stop !)) (look ! 16 refl)) (and_then ! (load ! (from ! (stop !)) (look ! 12 refl))
+          (and_then ! (load ! (from ! (stop !)) (look ! 8 refl)) (and_then ! (load ! (from ! (stop !)) (look ! 4 refl))
+          (and_then ! (load ! (from ! (stop !)) (look ! 2 refl)) (no_more !)))))))
           (λ u. use1 𝓛 (later (some (λ (r : SessionAnswer). ((‵ (flft κ₀ q₀) ⊛ ‵ (flft κ₁ q₁) ⊛ ‵ (flft κ₂ q₂) ⊛ ‵ (flft κ₃ q₃) ⊛ ‵ (flft κ₄ q₄) ⊛ ‵ ftrue)
           ⊛ ‵ ((R.the_row).own_val r (u ∷ [])))
           ⊛ some (λ (zs : Unit {0} × (List ℕ × (List ℕ × (List Checkpoint × (List ℕ × (Unit {0} × Unit {0})))))). ‵ (lasts one_run.ended
@@ -266,19 +250,18 @@ module _ {M : Type 1} {𝓤 : Ura M} (𝓛 : Logic 𝓤) (mem : Memory → SProp
           fsplit ! $ drop ! $ fsplit ! $ fsplit ! $ move ! (1 ∷ []) $ feq_l ! (λ e₁. move ! (1 ∷ []) $ fsplit ! $ fsplit ! $ move ! (1 ∷ []) $ feq_l ! (λ e₂.
           move ! (1 ∷ []) $ fsplit ! $ fsplit ! $ move ! (1 ∷ []) $ feq_l ! (λ e₃. move ! (1 ∷ []) $ fsplit ! $ fsplit ! $ move ! (1 ∷ []) $ feq_l ! (λ e₄.
           move ! (1 ∷ []) $ drop ! $ move ! (4 ∷ []) $ split ! $ move ! (1 ∷ []) $ facts ! R.the_row (Is R.the_row) (shows 𝓛 R.the_row) r (u ∷ []) (λ r-is.
-          land ! (from ! (stop !)) (init ! 38 refl ((LL.lawful R.the_type R'.the_laws 𝓛).typed r _ r-is).0) $
-          rewrite ! 38 (λ (z : Val). ‵ (fat full_share R'.mir l₀ 0 z)) (ap only (LL.tells R.the_type R'.the_laws r _ r-is)) refl $ split ! $ move ! (1 ∷ []) $
+          land ! (from ! (stop !)) (init ! 34 refl ((LL.lawful R.the_type R'.the_laws 𝓛).typed r _ r-is).0) $
+          rewrite ! 34 (λ (z : Val). ‵ (fat full_share R'.mir l₀ 0 z)) (ap only (LL.tells R.the_type R'.the_laws r _ r-is)) refl $ split ! $ move ! (1 ∷ []) $
           split ! $ move ! (1 ∷ []) $ split ! $ move ! (1 ∷ []) $ split ! $ move ! (1 ∷ []) $ split ! $ move ! (1 ∷ []) $ drop ! $
-          returns ! (look ! 42 refl) $ forget ! 42 refl $ forget ! 40 refl $ forget ! 38 refl $ forget ! 36 refl $ forget ! 34 refl $ forget ! 32 refl $
-          forget ! 30 refl $ forget ! 28 refl $ forget ! 26 refl $ forget ! 24 refl $ forget ! 22 refl $ forget ! 20 refl $ forget ! 18 refl $
-          forget ! 16 refl $ forget ! 14 refl $ forget ! 12 refl $ forget ! 10 refl $ move ! (42 ∷ 43 ∷ []) $ free1 ! $ move ! (40 ∷ 41 ∷ []) $ free1 ! $
-          move ! (38 ∷ 39 ∷ []) $ free1 ! $ move ! (36 ∷ 37 ∷ []) $ free1 ! $ move ! (34 ∷ 35 ∷ []) $ free1 ! $ move ! (32 ∷ 33 ∷ []) $ free1 ! $
-          move ! (30 ∷ 31 ∷ []) $ free1 ! $ move ! (28 ∷ 29 ∷ []) $ free1 ! $ move ! (26 ∷ 27 ∷ []) $ free1 ! $ move ! (24 ∷ 25 ∷ []) $ free1 ! $
-          move ! (22 ∷ 23 ∷ []) $ free1 ! $ move ! (20 ∷ 21 ∷ []) $ free1 ! $ move ! (18 ∷ 19 ∷ []) $ free1 ! $ move ! (16 ∷ 17 ∷ []) $ free1 ! $
-          move ! (14 ∷ 15 ∷ []) $ free1 ! $ move ! (12 ∷ 13 ∷ []) $ free1 ! $ move ! (10 ∷ 11 ∷ []) $ free1 ! $ free0 ! $
+          returns ! (look ! 38 refl) $ forget ! 38 refl $ forget ! 36 refl $ forget ! 34 refl $ forget ! 32 refl $ forget ! 30 refl $ forget ! 28 refl $
+          forget ! 26 refl $ forget ! 24 refl $ forget ! 22 refl $ forget ! 20 refl $ forget ! 18 refl $ forget ! 16 refl $ forget ! 14 refl $
+          forget ! 12 refl $ forget ! 10 refl $ move ! (38 ∷ 39 ∷ []) $ free1 ! $ move ! (36 ∷ 37 ∷ []) $ free1 ! $ move ! (34 ∷ 35 ∷ []) $ free1 ! $
+          move ! (32 ∷ 33 ∷ []) $ free1 ! $ move ! (30 ∷ 31 ∷ []) $ free1 ! $ move ! (28 ∷ 29 ∷ []) $ free1 ! $ move ! (26 ∷ 27 ∷ []) $ free1 ! $
+          move ! (24 ∷ 25 ∷ []) $ free1 ! $ move ! (22 ∷ 23 ∷ []) $ free1 ! $ move ! (20 ∷ 21 ∷ []) $ free1 ! $ move ! (18 ∷ 19 ∷ []) $ free1 ! $
+          move ! (16 ∷ 17 ∷ []) $ free1 ! $ move ! (14 ∷ 15 ∷ []) $ free1 ! $ move ! (12 ∷ 13 ∷ []) $ free1 ! $ move ! (10 ∷ 11 ∷ []) $ free1 ! $ free0 ! $
           move ! (4 ∷ 3 ∷ 2 ∷ 1 ∷ 0 ∷ 9 ∷ 8 ∷ 7 ∷ 6 ∷ []) $
           by ! (exits r zs.1.0 zs.1.1.0 zs.1.1.1.0 zs.1.1.1.1.0 e₁ e₂ e₃ e₄
-          (subst (Is R.the_row r) (LL.tells R.the_type R'.the_laws r _ r-is) r-is) said reads))))))))))))))))))))))))))))
+          (subst (Is R.the_row r) (LL.tells R.the_type R'.the_laws r _ r-is) r-is) said reads))))))))))))))))))))))))))
 
   meets : (𝓣 : Tables 𝓤 H) → Triple 𝓤 (𝓣.C #one-run) Run → Meets 𝓛 this.signature (WpFn 𝓤 H 𝓣.C 𝓣.Λ code.function) (this.spec 𝓛 mem run)
   meets 𝓣 known-one-run =

@@ -17,7 +17,7 @@ update-requires c κs =
 
 resume-requires : tie.Need-resume-requires
 resume-requires c κs =
-    let updated = c.before.before.before.before.before.before in
+    let updated = c.before.before.before.before.before in
     let saved = updated.before.before.before.before in
     let sv = saved.save-state in
     resume_asks saved.before.before.before.before.before.requires sv.auto.0 sv.ensures updated.update.ensures
@@ -28,7 +28,7 @@ after-outcome-requires c κs = search rules
 same_length : tie.Need-same-length
 same_length c =
     let resumed = c.before.before.before.before.before in
-    let updated = resumed.before.before.before.before.before.before.before in
+    let updated = resumed.before.before.before.before.before.before in
     let saved = updated.before.before.before.before in
     resumed.resume.auto.0 ∙ updated.update.auto.0 ∙ saved.save-state.auto.0
 
@@ -38,7 +38,7 @@ same-length-2 c = search rules
 returns : tie.Need-returns
 returns c =
     let resumed = c.before.before.before.before.before in
-    let updated = resumed.before.before.before.before.before.before.before in
+    let updated = resumed.before.before.before.before.before.before in
     let re = resumed.resume in
     let up = updated.update in
     let sv = updated.before.before.before.before.save-state in

@@ -15,8 +15,8 @@ use Rattle.words.specs.Choice.{cond_true, clash}
 use Rattle.words.specs.Lists.{All}
 use Rattle.session_state.specs.Records.{blank}
 use Rattle.session_state.specs.declared.checkpoints.Checkpoint.{Checkpoint}
-use Rattle.session_state.specs.declared.progress.Rules.{Rules}
-use Rattle.session_state.specs.State.{measure_by}
+use Rattle.path.specs.declared.Measure.{Measure}
+use Rattle.path.specs.Measure.{measure_of}
 use Rattle.path.specs.Bytes.{bit}
 use Rattle.spec_session.specs.File.{File, Step, take_quote}
 use Rattle.spec_session.specs.Places.{StepsAt, StepNamed}
@@ -38,10 +38,10 @@ use Rattle.session_state.proofs.Answers.{stands_on}
 use Rattle.session_steps.specs.undo_step.Contracts.{Undoing, Undone}
 use Rattle.session_steps.proofs.undo_step.Undoing.{found, was, undoing, present, stocked, history}
 
-module _ {rules : Rules} {input : List ℕ} {f : File} {w words : List ℕ} {rows : List Checkpoint} {out : List ℕ} {p : Progress} (u : Underway rules input f w words rows out p)
+module _ {measure : Measure} {input : List ℕ} {f : File} {w words : List ℕ} {rows : List Checkpoint} {out : List ℕ} {p : Progress} (u : Underway measure input f w words rows out p)
     (is_open : p.quoted ≡ true) where
-  shown : Shows rules true f (length out) u.state u.past u.session
-  shown = subst (λ (b : Bool). Shows rules b f (length out) u.state u.past u.session) is_open u.shown
+  shown : Shows measure true f (length out) u.state u.past u.session
+  shown = subst (λ (b : Bool). Shows measure b f (length out) u.state u.past u.session) is_open u.shown
 
   -- The quote's add is the last one.
   adds-are : p.adds ≡ length u.state.past + 1
@@ -55,27 +55,27 @@ module _ {rules : Rules} {input : List ℕ} {f : File} {w words : List ℕ} {row
   -- ---- a taking
 
   taken-on : (next : ℕ) {rest : List Step} → u.left ≡ take_quote ∷ rest → StepsAt input next rest → {words' : List ℕ}
-      → words' ≡ noted_words words p → Underway rules input f w words' rows out (noted_at (with_quote p false) next)
+      → words' ≡ noted_words words p → Underway measure input f w words' rows out (noted_at (with_quote p false) next)
   taken-on next {rest} e there {words'} ws =
-      go_on rules input f w words words' rows out (with_quote p false) next rest u.past u.session (standing u.past u.session) u.present later
+      go_on measure input f w words words' rows out (with_quote p false) next rest u.past u.session (standing u.past u.session) u.present later
       (history_later out out refl f w w (λ j l. refl) p.forgets p.steps (p.steps + 1) (omega arith) rows p.counts.size p.adds u.past u.session.cache
       (λ j x y. refl) refl u.history)
       (λ z. ap forgets (sym e) ∙ u.known z) u.few_adds u.goes there
       (subst (λ (ss : List Step). All (StepNamed (length f.atoms) (length f.pairs)) ss) e u.steps_named).1
-      (let l : length u.left ≡ suc (length rest) = ap length e in omega (arith, u.few_steps)) u.many_rows u.many_words (λ z. clash cc) refl run ws u.rules_is
+      (let l : length u.left ≡ suc (length rest) = ap length e in omega (arith, u.few_steps)) u.many_rows u.many_words (λ z. clash cc) refl run ws u.measure_is
     where
       later : Stocked input f w (p.steps + 1)
       later =
           let k = u.stocked in
           record { tables = k.tables; places = k.places; atoms_there = k.atoms_there; room = roomy_later w p.steps (p.steps + 1) (omega arith) k.room }
 
-      run : whole_run rules f (length out)
-          ≡ after_words p.steps (take (3 * p.steps) words) (with_words (words_of u.session) (run_steps (measure_by rules) (length out) f rest (standing u.past u.session)))
+      run : whole_run measure f (length out)
+          ≡ after_words p.steps (take (3 * p.steps) words) (with_words (words_of u.session) (run_steps (measure_of measure) (length out) f rest (standing u.past u.session)))
       run =
           u.same
-          ∙ ap (λ (ss : List Step). after_words p.steps (take (3 * p.steps) words) (run_steps (measure_by rules) (length out) f ss u.state)) e
+          ∙ ap (λ (ss : List Step). after_words p.steps (take (3 * p.steps) words) (run_steps (measure_of measure) (length out) f ss u.state)) e
           ∙ ap (λ (r : Run). after_words p.steps (take (3 * p.steps) words) r)
-          (run_taking rules (length out) f u.state (words_of u.session) (standing u.past u.session) rest shown.0)
+          (run_taking measure (length out) f u.state (words_of u.session) (standing u.past u.session) rest shown.0)
 
   -- ---- a drop
 
@@ -106,7 +106,7 @@ module _ {rules : Rules} {input : List ℕ} {f : File} {w words : List ℕ} {row
         sym (take_at u.state.past (u.state.now ∷ []) (p.adds - 1) (sym last-at)) ∙ ap (take (p.adds - 1)) (sym shown.1)
 
     dropped-on : {w' : List ℕ} → length w' ≡ length w → Undone true w w' (p.adds - 1) r → IfAny (λ x. x ≢ take_quote) (nth u.left 0)
-        → Underway rules input f w' words rows out (undone_at p r (p.adds - 1))
+        → Underway measure input f w' words rows out (undone_at p r (p.adds - 1))
     dropped-on {w'} long a other =
         record {
           left = u.left;
@@ -126,12 +126,12 @@ module _ {rules : Rules} {input : List ℕ} {f : File} {w words : List ℕ} {row
           quote_saved = λ z. clash cc;
           state = standing (take (p.adds - 1) u.past) (was true u few row flag);
           shown = refl;
-          rules_is = u.rules_is;
+          measure_is = u.measure_is;
           same =
               u.same
               ∙ ap (λ (y : Run). after_words p.steps (take (3 * p.steps) words) y)
-              (sym (run_unseen (measure_by rules) (length out) f u.left other none u.state)
-              ∙ (λ i. run_steps (measure_by rules) (length out) f u.left (standing (past-before i) (was-now i))));
+              (sym (run_unseen (measure_of measure) (length out) f u.left other none u.state)
+              ∙ (λ i. run_steps (measure_of measure) (length out) f u.left (standing (past-before i) (was-now i))));
         }
 
 -- ---- the answers
@@ -139,12 +139,12 @@ module _ {rules : Rules} {input : List ℕ} {f : File} {w words : List ℕ} {row
 module _ {input : List ℕ} {f : File} {w words out : List ℕ} {p : Progress} {c : Checkpoint} (ready : Ready input f w words out p c)
     (is_open : p.quoted ≡ true) where
   -- The run goes on, with the record as it was.
-  goes_on : (rules : Rules) {w' words' : List ℕ} {t : Progress} (a : StepAnswer) → a ≡ record { state = t; saved = c } → (rows : List Checkpoint) (k : ℕ) → get_or rows k blank ≡ c → t.done ≡ false
-      → Underway rules input f w' words' rows out t → Stands rules input f w' words' (set rows k a.saved) out a.state a.state.done
-  goes_on rules {w'} {words'} {t} a is rows k r-is d u =
-      subst (λ (x : StepAnswer). Stands rules input f w' words' (set rows k x.saved) out x.state x.state.done) (sym is)
-      (stands_on rules input f w' words' (set rows k c) out t d
-      (subst (λ (y : List Checkpoint). Underway rules input f w' words' y out t) (sym (ap (set rows k) (sym r-is) ∙ set-get_or rows k blank)) u))
+  goes_on : (measure : Measure) {w' words' : List ℕ} {t : Progress} (a : StepAnswer) → a ≡ record { state = t; saved = c } → (rows : List Checkpoint) (k : ℕ) → get_or rows k blank ≡ c → t.done ≡ false
+      → Underway measure input f w' words' rows out t → Stands measure input f w' words' (set rows k a.saved) out a.state a.state.done
+  goes_on measure {w'} {words'} {t} a is rows k r-is d u =
+      subst (λ (x : StepAnswer). Stands measure input f w' words' (set rows k x.saved) out x.state x.state.done) (sym is)
+      (stands_on measure input f w' words' (set rows k c) out t d
+      (subst (λ (y : List Checkpoint). Underway measure input f w' words' y out t) (sym (ap (set rows k) (sym r-is) ∙ set-get_or rows k blank)) u))
 
   module _ (next : ℕ) (comes : Comes input p.at (next_step.Take next)) where
     pub take-asks : Noting words p
@@ -162,10 +162,10 @@ module _ {input : List ℕ} {f : File} {w words out : List ℕ} {p : Progress} {
 
     pub takes-on : {words' : List ℕ} {a : StepAnswer} → words' ≡ noted_words words p
         → a ≡ record { state = noted_at (with_quote p false) next; saved = c } → Onward input f w words out p c w words' out a
-    takes-on {words'} {a} ws is rules rows u r-is =
+    takes-on {words'} {a} ws is measure rows u r-is =
         let e = comes u.left u.steps_there in
         let k = slot_for p.quoted u.left p.adds in (
-          goes_on rules a is rows k r-is u.goes (taken-on u is_open next e.1 e.2 ws),
+          goes_on measure a is rows k r-is u.goes (taken-on u is_open next e.1 e.2 ws),
           omega (arith, ap (λ (b : Bool). bit (not b)) is_open, ap (λ (x : StepAnswer). x.state.steps) is, ap (λ (x : StepAnswer). bit (not x.state.quoted)) is),
         )
 
@@ -176,8 +176,8 @@ module _ {input : List ℕ} {f : File} {w words out : List ℕ} {p : Progress} {
 
     pub drops-on : {w' : List ℕ} {a : StepAnswer} → length w' ≡ length w → Undone true w w' (p.adds - 1) c
         → a ≡ record { state = undone_at p c (p.adds - 1); saved = c } → Onward input f w words out p c w' words out a
-    drops-on {w'} {a} long un is rules rows u r-is =
+    drops-on {w'} {a} long un is measure rows u r-is =
         let k = slot_for p.quoted u.left p.adds in (
-          goes_on rules a is rows k r-is refl (dropped-on u is_open r-is long un (other u.left u.steps_there)),
+          goes_on measure a is rows k r-is refl (dropped-on u is_open r-is long un (other u.left u.steps_there)),
           omega (arith, ap (λ (b : Bool). bit (not b)) is_open, ap (λ (x : StepAnswer). x.state.steps) is, ap (λ (x : StepAnswer). bit (not x.state.quoted)) is),
         )

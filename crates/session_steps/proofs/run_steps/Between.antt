@@ -9,13 +9,12 @@ use lib.Dec.{T as Holds}
 use lib.ListN.{length, get_or, set, take}
 use Rattle.session_state.specs.Records.{blank}
 use Rattle.session_state.specs.declared.checkpoints.Checkpoint.{Checkpoint}
-use Rattle.spec_session.specs.File.{File, Step}
+use Rattle.spec_session.specs.File.{Step}
 use Rattle.spec_session.specs.Places.{StepsAt}
 use Rattle.session_state.specs.declared.progress.Progress.{Progress}
-use Rattle.session_state.specs.declared.progress.Rules.{Rules}
 use Rattle.session_state.specs.declared.progress.StepAnswer.{StepAnswer}
 use Rattle.path.specs.Bytes.{bit}
-use Rattle.session_state.specs.State.{output_most, the_file, Underway, Stands, slot_for}
+use Rattle.session_state.specs.State.{the_file, Underway, Stands, slot_for}
 use Rattle.session_state.specs.Steps.{Ready, Onward}
 use Rattle.session_state.proofs.Answers.{stands_on, under, ended}
 use Rattle.session_steps.specs.Driven.{Going, Driven}
@@ -40,8 +39,7 @@ Slot input p k = (k < 16) × ((ss : List Step) → StepsAt input p.at ss → k �
 -- The step of a run, with record k.
 abbrev pub Stepped : (input : List ℕ) (m : Values) (k : ℕ) (w words out : List ℕ) (a : StepAnswer) → Type 0
 Stepped input m k w words out a =
-    Onward input (the_file m.progress.rules input) m.work m.words (take (output_most m.progress.rules) m.out) m.progress (get_or m.rows k blank) w words
-    (take (output_most m.progress.rules) out) a
+    Onward input (the_file input) m.work m.words (take 65535 m.out) m.progress (get_or m.rows k blank) w words (take 65535 out) a
 
 -- The values after a step, whose record is stored.
 abbrev pub after_step : Values → ℕ → StepAnswer → (w words out : List ℕ) → Values
@@ -56,20 +54,10 @@ stops true h = refl
 stops false h = absurd h
 
 module _ (input : List ℕ) (first : Values) where
-  -- The rules of the run, its file, and the part of an output that it uses.
-  abbrev ruled : Rules
-  ruled = first.progress.rules
-
-  abbrev f : File
-  f = the_file ruled input
-
-  abbrev used : List ℕ → List ℕ
-  used out = take (output_most ruled) out
-
   -- A run that was over is as it was. Any other is under way, or it has ended.
   abbrev Since : Values → Bool → Type 0
   Since m true = m ≡ first
-  Since m false = Stands ruled input f m.work m.words m.rows (used m.out) m.progress m.progress.done
+  Since m false = Stands first.progress.measure input (the_file input) m.work m.words m.rows (take 65535 m.out) m.progress m.progress.done
 
   abbrev pub Between : Values → Type 0
   Between m = Since m first.progress.done
@@ -79,7 +67,7 @@ module _ (input : List ℕ) (first : Values) where
     where
       go : (b : Bool) → first.progress.done ≡ b → Going input first.work first.words first.rows first.out first.progress b → Since first b
       go true e h = refl
-      go false e h = stands_on ruled input f first.work first.words first.rows (used first.out) first.progress e h
+      go false e h = stands_on first.progress.measure input (the_file input) first.work first.words first.rows (take 65535 first.out) first.progress e h
 
   -- A run that goes on was not over.
   was_not_over : (m : Values) → Between m → m.progress.done ≡ false → first.progress.done ≡ false
@@ -90,12 +78,12 @@ module _ (input : List ℕ) (first : Values) where
       go false d h = refl
 
   under_way : (m : Values) → Between m → m.progress.done ≡ false
-      → Underway ruled input f m.work m.words m.rows (used m.out) m.progress
+      → Underway first.progress.measure input (the_file input) m.work m.words m.rows (take 65535 m.out) m.progress
   under_way m s e =
-      under ruled input f m.work m.words m.rows (used m.out) m.progress e (subst (λ (b : Bool). Since m b) (was_not_over m s e) s)
+      under first.progress.measure input (the_file input) m.work m.words m.rows (take 65535 m.out) m.progress e (subst (λ (b : Bool). Since m b) (was_not_over m s e) s)
 
   module _ (m : Values) (s : Between m) (e : m.progress.done ≡ false) (k : ℕ) (slot : Slot input m.progress k) where
-    abbrev u : Underway ruled input f m.work m.words m.rows (used m.out) m.progress
+    abbrev u : Underway first.progress.measure input (the_file input) m.work m.words m.rows (take 65535 m.out) m.progress
     u = under_way m s e
 
     pub in_rows : k < length m.rows
@@ -107,26 +95,18 @@ module _ (input : List ℕ) (first : Values) where
     record_is : get_or m.rows (slot_for m.progress.quoted u.left m.progress.adds) blank ≡ get_or m.rows k blank
     record_is = ap (λ (j : ℕ). get_or m.rows j blank) (sym is_slot)
 
-    pub ready : Ready input (the_file m.progress.rules input) m.work m.words (take (output_most m.progress.rules) m.out) m.progress (get_or m.rows k blank)
-    ready =
-        subst (λ (x : Rules). Ready input (the_file x input) m.work m.words (take (output_most x) m.out) m.progress (get_or m.rows k blank)) (sym u.rules_is)
-        (record { rules = ruled; rows = m.rows; underway = u; record_is = record_is })
+    pub ready : Ready input (the_file input) m.work m.words (take 65535 m.out) m.progress (get_or m.rows k blank)
+    ready = record { measure = first.progress.measure; rows = m.rows; underway = u; record_is = record_is }
 
-    module _ (a : StepAnswer) (w words out : List ℕ) (stepped : Stepped input m k w words out a) where
-      -- The step, by the rules of the run.
-      st : Onward input f m.work m.words (used m.out) m.progress (get_or m.rows k blank) w words (used out) a
-      st =
-          subst (λ (x : Rules). Onward input (the_file x input) m.work m.words (take (output_most x) m.out) m.progress (get_or m.rows k blank) w words
-          (take (output_most x) out) a) u.rules_is stepped
-
+    module _ (a : StepAnswer) (w words out : List ℕ) (st : Stepped input m k w words out a) where
       pub goes_on : Between (after_step m k a w words out)
       goes_on =
           subst (λ (b : Bool). Since (after_step m k a w words out) b) (sym (was_not_over m s e))
-          (subst (λ (j : ℕ). Stands ruled input f w words (set m.rows j a.saved) (used out) a.state a.state.done) (sym is_slot)
-          (st ruled m.rows u record_is).0)
+          (subst (λ (j : ℕ). Stands first.progress.measure input (the_file input) w words (set m.rows j a.saved) (take 65535 out) a.state a.state.done) (sym is_slot)
+          (st first.progress.measure m.rows u record_is).0)
 
       pub falls : ahead a.state < ahead m.progress
-      falls = omega (arith, (st ruled m.rows u record_is).1, u.few_steps, ap bit e, bit-most (not m.progress.quoted))
+      falls = omega (arith, (st first.progress.measure m.rows u record_is).1, u.few_steps, ap bit e, bit-most (not m.progress.quoted))
 
   -- The run is over.
   pub at_end : (m : Values) → Between m → m.progress.done ≡ true
@@ -142,4 +122,4 @@ module _ (input : List ℕ) (first : Values) where
         ap (λ (x : Values). x.out) h,
         ap (λ (x : Values). x.progress) h,
       )
-      go false h = ended ruled input f m.work m.words m.rows (used m.out) m.progress e h
+      go false h = ended first.progress.measure input (the_file input) m.work m.words m.rows (take 65535 m.out) m.progress e h

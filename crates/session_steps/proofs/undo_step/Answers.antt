@@ -7,7 +7,7 @@ use mathlib.Core.List.{List, ◌∷◌}
 use native.Mathlib.Omega.{arith}
 use lib.ListN.{length, set}
 use Rattle.session_state.specs.declared.checkpoints.Checkpoint.{Checkpoint}
-use Rattle.session_state.specs.State.{measure_by}
+use Rattle.path.specs.Measure.{measure_of}
 use Rattle.spec_session.specs.File.{File, Step}
 use Rattle.file_parts.specs.Loaded.{FirstStep}
 use Rattle.spec_session.specs.Places.{StepsAt}
@@ -38,10 +38,10 @@ module _ {input : List ℕ} {f : File} {w words out : List ℕ} {p : Progress} {
   -- Question 11.
   pub stops-11 : {a : StepAnswer} → a ≡ stopped_at p 11 c → p.adds ≤ n → Onward input f w words out p c w words out a
   stops-11 {a} is beyond =
-      stops input f w words out p c none_open 11 a is (λ rules rows u.
+      stops input f w words out p c none_open 11 a is (λ measure rows u.
       let e = comes u.left u.steps_there in
-      ap (λ (ss : List Step). run_steps (measure_by rules) (length out) f ss (standing u.past u.session)) e.1
-      ∙ run_beyond rules (length out) f u.past u.session b n e.0 (nth_none u.past n (omega (arith, u.history.long))))
+      ap (λ (ss : List Step). run_steps (measure_of measure) (length out) f ss (standing u.past u.session)) e.1
+      ∙ run_beyond measure (length out) f u.past u.session b n e.0 (nth_none u.past n (omega (arith, u.history.long))))
 
   module _ (few : n < p.adds) where
     pub undo-asks : Undoing b w p.depth n c
@@ -62,10 +62,10 @@ module _ {input : List ℕ} {f : File} {w words out : List ℕ} {p : Progress} {
     pub undoes-on : {w' : List ℕ} → length w' ≡ length w → Undone b w w' n c → {words' : List ℕ} {q t : Progress} → q ≡ undone_at p c n
         → words' ≡ noted_words words q → t ≡ noted_at q next
         → Onward input f w words out p c w' words' out (record { state = t; saved = c })
-    undoes-on {w'} long un {words'} {q} {t} qi ws is rules rows u r-is =
+    undoes-on {w'} long un {words'} {q} {t} qi ws is measure rows u r-is =
         let e = comes u.left u.steps_there in
         let s : t.steps ≡ p.steps + 1 = ap (λ (x : Progress). x.steps) is ∙ ap (λ (x : Progress). x.steps + 1) qi in (
-          stands_on rules input f w' words' (set rows (slot_for p.quoted u.left p.adds) c) out t (ap (λ (x : Progress). x.done) is ∙ ap (λ (x : Progress). x.done) qi)
+          stands_on measure input f w' words' (set rows (slot_for p.quoted u.left p.adds) c) out t (ap (λ (x : Progress). x.done) is ∙ ap (λ (x : Progress). x.done) qi)
               (undone_on b u none_open e.1 few r-is long un next e.2 qi ws is),
           omega (arith, ap bit (ap not none_open), ap (λ (x : Progress). bit (not x.quoted)) is, ap (λ (x : Progress). bit (not x.quoted)) qi),
         )

@@ -15,8 +15,8 @@ use Rattle.words.specs.Lists.{All}
 use Rattle.words.specs.Choice.{cond_true, clash}
 use Rattle.session_state.specs.Records.{blank}
 use Rattle.session_state.specs.declared.checkpoints.Checkpoint.{Checkpoint}
-use Rattle.session_state.specs.declared.progress.Rules.{Rules}
-use Rattle.session_state.specs.State.{measure_by}
+use Rattle.path.specs.declared.Measure.{Measure}
+use Rattle.path.specs.Measure.{measure_of}
 use Rattle.spec_session.specs.File.{File, Step}
 use Rattle.spec_session.specs.Places.{StepsAt, StepNamed}
 use Rattle.spec_session.specs.Cache.{Cache}
@@ -99,8 +99,8 @@ restore_asks b {w} {x} {depth} {n} {r} u long a =
 
 -- ---- an undo: the state before add n, of which record n and copy n are kept
 
-module _ {rules : Rules} {input : List ℕ} {f : File} {w words : List ℕ} {rows : List Checkpoint} {out : List ℕ} {p : Progress} (b : Bool) {n : ℕ}
-    (u : Underway rules input f w words rows out p) (few : n < p.adds) {r : Checkpoint} (row : get_or rows n blank ≡ r) (flag : b ≡ true → p.forgets ≡ true) where
+module _ {measure : Measure} {input : List ℕ} {f : File} {w words : List ℕ} {rows : List Checkpoint} {out : List ℕ} {p : Progress} (b : Bool) {n : ℕ}
+    (u : Underway measure input f w words rows out p) (few : n < p.adds) {r : Checkpoint} (row : get_or rows n blank ≡ r) (flag : b ≡ true → p.forgets ≡ true) where
   -- The session before add n.
   pub found : Found u.past n
   found = nth_found u.past n (omega (arith, u.history.long))
@@ -112,7 +112,7 @@ module _ {rules : Rules} {input : List ℕ} {f : File} {w words : List ℕ} {row
   before = subst (λ (x : Checkpoint). Before f w out p.forgets p.steps n x was) row (u.history.befores n was found.is)
 
   -- What the record counts fits.
-  pub fits_then : (r.size ≤ 1048576) × Bounded (counts_in r)
+  pub fits_then : (r.size ≤ 65535) × Bounded (counts_in r)
   fits_then = (omega (arith, before.stood.running.fits, before.stood.running.short), before.stood.running.bounded)
 
   abbrev then : List ℕ
@@ -335,8 +335,8 @@ rest_known : (b : Bool) (n : ℕ) (rest : List Step) → forgets (undo_of b n �
 rest_known false n rest h = h
 rest_known true n rest h = clash cc
 
-module _ {rules : Rules} {input : List ℕ} {f : File} {w words : List ℕ} {rows : List Checkpoint} {out : List ℕ} {p : Progress} (b : Bool) {n : ℕ} {rest : List Step}
-    (u : Underway rules input f w words rows out p) (none_open : p.quoted ≡ false) (e : u.left ≡ undo_of b n ∷ rest) (few : n < p.adds) {r : Checkpoint}
+module _ {measure : Measure} {input : List ℕ} {f : File} {w words : List ℕ} {rows : List Checkpoint} {out : List ℕ} {p : Progress} (b : Bool) {n : ℕ} {rest : List Step}
+    (u : Underway measure input f w words rows out p) (none_open : p.quoted ≡ false) (e : u.left ≡ undo_of b n ∷ rest) (few : n < p.adds) {r : Checkpoint}
     (r-is : get_or rows (slot_for p.quoted u.left p.adds) blank ≡ r) where
   pub slot : slot_for p.quoted u.left p.adds ≡ n
   slot =
@@ -352,7 +352,7 @@ module _ {rules : Rules} {input : List ℕ} {f : File} {w words : List ℕ} {row
   flagged : b ≡ true → p.forgets ≡ true
   flagged = flag_set b n rest p.forgets (λ z. ap forgets (sym e) ∙ u.known z)
 
-  pub undo_fits : (r.size ≤ 1048576) × Bounded (counts_in r)
+  pub undo_fits : (r.size ≤ 65535) × Bounded (counts_in r)
   undo_fits = fits_then b u few row_is flagged
 
   pub undo_takes : Undoing b w p.depth n r
@@ -364,28 +364,28 @@ module _ {rules : Rules} {input : List ℕ} {f : File} {w words : List ℕ} {row
 
     pub undone_on : (next : ℕ) → StepsAt input next rest → {words' : List ℕ} {q t : Progress} → q ≡ undone_at p r n
         → words' ≡ noted_words words q → t ≡ noted_at q next
-        → Underway rules input f w' words' (set rows (slot_for p.quoted u.left p.adds) r) out t
+        → Underway measure input f w' words' (set rows (slot_for p.quoted u.left p.adds) r) out t
     undone_on next there {words'} {q} {t} qi ws ti =
-        subst (λ (y : Progress). Underway rules input f w' words' (set rows (slot_for p.quoted u.left p.adds) r) out y) (sym ti)
-        (subst (λ (y : List Checkpoint). Underway rules input f w' words' y out (noted_at q next))
+        subst (λ (y : Progress). Underway measure input f w' words' (set rows (slot_for p.quoted u.left p.adds) r) out y) (sym ti)
+        (subst (λ (y : List Checkpoint). Underway measure input f w' words' y out (noted_at q next))
         (sym (ap (set rows (slot_for p.quoted u.left p.adds)) (sym r-is) ∙ set-get_or rows (slot_for p.quoted u.left p.adds) blank))
-        (subst (λ (y : Progress). words' ≡ noted_words words y → Underway rules input f w' words' rows out (noted_at y next)) (sym qi)
-        (λ y. go_on rules input f w' words words' rows out (undone_at p r n) next rest (take n u.past) now_back (standing (take n u.past) now_back)
+        (subst (λ (y : Progress). words' ≡ noted_words words y → Underway measure input f w' words' rows out (noted_at y next)) (sym qi)
+        (λ y. go_on measure input f w' words words' rows out (undone_at p r n) next rest (take n u.past) now_back (standing (take n u.past) now_back)
         (present b u few row_is flagged long a (p.steps + 1) (omega arith)) (stocked b u few row_is flagged long a (p.steps + 1) (omega arith))
         (history b u few row_is flagged long a (p.steps + 1) (omega arith))
         (λ z. rest_known b n rest (ap forgets (sym e) ∙ u.known z)) (omega (arith, u.few_adds)) refl there
         (all_rest u.left e u.steps_named)
         (let l : length u.left ≡ suc (length rest) = ap length e in omega (arith, u.few_steps))
-        u.many_rows u.many_words (λ z. clash cc) refl run y u.rules_is) ws))
+        u.many_rows u.many_words (λ z. clash cc) refl run y u.measure_is) ws))
       where
         all_rest : (ss : List Step) → ss ≡ undo_of b n ∷ rest → All (StepNamed (length f.atoms) (length f.pairs)) ss
             → All (StepNamed (length f.atoms) (length f.pairs)) rest
         all_rest ss q y = (subst (λ (z : List Step). All (StepNamed (length f.atoms) (length f.pairs)) z) q y).1
 
-        run : whole_run rules f (length out)
-            ≡ after_words p.steps (take (3 * p.steps) words) (with_words (words_of now_back) (run_steps (measure_by rules) (length out) f rest (standing (take n u.past) now_back)))
+        run : whole_run measure f (length out)
+            ≡ after_words p.steps (take (3 * p.steps) words) (with_words (words_of now_back) (run_steps (measure_of measure) (length out) f rest (standing (take n u.past) now_back)))
         run =
-            same-standing input f w words out p r none_open rules rows u
-            ∙ ap (λ (ss : List Step). after_words p.steps (take (3 * p.steps) words) (run_steps (measure_by rules) (length out) f ss (standing u.past u.session))) e
+            same-standing input f w words out p r none_open measure rows u
+            ∙ ap (λ (ss : List Step). after_words p.steps (take (3 * p.steps) words) (run_steps (measure_of measure) (length out) f ss (standing u.past u.session))) e
             ∙ ap (λ (y : Run). after_words p.steps (take (3 * p.steps) words) y)
-            (run_undo rules (length out) f u.past u.session b n rest (was b u few row_is flagged) (found b u few row_is flagged).is)
+            (run_undo measure (length out) f u.past u.session b n rest (was b u few row_is flagged) (found b u few row_is flagged).is)

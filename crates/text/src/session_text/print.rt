@@ -44,6 +44,6 @@ pub fn refusal(number: u32) {
 // How the program is called, on standard error.
 pub fn usage() {
     say(
-        b"usage: session [--items] [--counts] [--documented] [--v2] [FILE ..]    no file: standard input\n",
+        b"usage: session [--items] [--counts] [--documented] [FILE ..]    no file: standard input\n",
     );
 }

@@ -31,7 +31,7 @@ named_atom a p (small-atom v) q b = refl
 named_atom a p (unknown k i) q b = absurd (false≢true q)
 
 -- A part of a short file is short.
-pub part_short : (file : List ℕ) (a n : ℕ) → length file ≤ 1048576 → length (take n (drop a file)) < 2 ^ 34
+pub part_short : (file : List ℕ) (a n : ℕ) → length file ≤ 65535 → length (take n (drop a file)) < 2 ^ 34
 part_short file a n h = simp (length-take, length_drop) (omega arith)
 
 -- The part that starts and ends where the words say.

@@ -3,7 +3,6 @@
 use super::{Builder, mark};
 use crate::node::NIL;
 use crate::rng::Rng;
-use crate::version::Version;
 
 /// Bytes of an atom next to a bound of its prefix's width.
 const SIZES: &[usize] = &[1, 2, 63, 64, 65, 8_191, 8_192];
@@ -28,8 +27,8 @@ fn sized(b: &mut Builder, rng: &mut Rng, left: &mut usize) -> u32 {
 
 /// Bundles with atoms of all sizes, twice with some values between; they are added, quoted,
 /// taken, dropped, and taken back by `02` and by `03`, at times all of them at last.
-pub fn widths(rng: &mut Rng, v: Version) -> Vec<u8> {
-    let mut b = Builder::new(v);
+pub fn widths(rng: &mut Rng) -> Vec<u8> {
+    let mut b = Builder::default();
     let s = mark(&mut b);
     b.sentinel(s);
     let mut left = 20_000;
@@ -80,17 +79,17 @@ pub fn widths(rng: &mut Rng, v: Version) -> Vec<u8> {
 
 /// x in a pair that x's parents have no room for, so that x comes a second time in full: 13,
 /// for a byte or for the whole of x, in an add or in a quote, or not.
-pub fn twice(rng: &mut Rng, v: Version) -> Vec<u8> {
-    let mut b = Builder::new(v);
+pub fn twice(rng: &mut Rng) -> Vec<u8> {
+    let mut b = Builder::default();
     let s = b.small(7);
     b.sentinel(s);
     let foobar = b.list_atom(b"foobar");
     let twin = b.pair(foobar, foobar);
     let bundle = b.pair(twin, s);
     let size = match rng.below(3) {
-        0 => rng.range(v.atom_bytes - 28, v.atom_bytes - 8),
-        // x twice and what is around it are about as many bytes as the output has
-        _ => rng.range(v.output / 2 - 391, v.output / 2 - 375),
+        0 => rng.range(32_740, 32_760),
+        // x twice and what is around it are about 65,535 bytes
+        _ => rng.range(32_376, 32_392),
     };
     let x = b.list_atom(&vec![0x80 | rng.byte(); size]);
     let lost = b.pair(x, b.small(5));

@@ -4,11 +4,10 @@ use super::{Builder, mark, recent};
 use crate::node::{NIL, SMALL, handle};
 use crate::rng::Rng;
 use crate::session::MAX_STEPS;
-use crate::version::Version;
 
 /// With a sentinel that nothing else is.
-fn begin(v: Version) -> (Builder, u32) {
-    let mut b = Builder::new(v);
+fn begin() -> (Builder, u32) {
+    let mut b = Builder::default();
     let s = mark(&mut b);
     b.sentinel(s);
     (b, s)
@@ -22,8 +21,8 @@ fn referred(b: &mut Builder, rng: &mut Rng) -> u32 {
 
 /// Hundreds of bundles are added and taken back, as to see whether they fit; then
 /// one stays.
-pub fn fit_tests(rng: &mut Rng, v: Version) -> Vec<u8> {
-    let (mut b, s) = begin(v);
+pub fn fit_tests(rng: &mut Rng) -> Vec<u8> {
+    let (mut b, s) = begin();
     let atoms = rng.range(2, 10);
     let n = *rng.pick(&[0, 5, 20, 100]);
     let pool = b.pool(rng, atoms, n);
@@ -56,8 +55,8 @@ pub fn fit_tests(rng: &mut Rng, v: Version) -> Vec<u8> {
 }
 
 /// Sessions that are finished, and go on before that.
-pub fn finished(rng: &mut Rng, v: Version) -> Vec<u8> {
-    let (mut b, s) = begin(v);
+pub fn finished(rng: &mut Rng) -> Vec<u8> {
+    let (mut b, s) = begin();
     let atoms = rng.range(1, 8);
     let n = rng.range(0, 20);
     let pool = b.pool(rng, atoms, n);
@@ -75,8 +74,8 @@ pub fn finished(rng: &mut Rng, v: Version) -> Vec<u8> {
 
 /// x below p0, which is on the stack, and below a second pair. About 100 more handles
 /// of that pair come in a tree that is taken back, and then again, and x after them.
-pub fn twins(rng: &mut Rng, v: Version) -> Vec<u8> {
-    let (mut b, s) = begin(v);
+pub fn twins(rng: &mut Rng) -> Vec<u8> {
+    let (mut b, s) = begin();
     let x = referred(&mut b, rng);
     let p0 = b.pair(x, NIL);
     let twin = |b: &mut Builder| b.pair(x, handle(SMALL, 1));
@@ -97,8 +96,8 @@ pub fn twins(rng: &mut Rng, v: Version) -> Vec<u8> {
 
 /// x below p0, which is on the stack and the first of its about 100 parents. x is put
 /// at an open place, loses parents in front, and is taken back; x comes again.
-pub fn front(rng: &mut Rng, v: Version) -> Vec<u8> {
-    let (mut b, s) = begin(v);
+pub fn front(rng: &mut Rng) -> Vec<u8> {
+    let (mut b, s) = begin();
     let x = referred(&mut b, rng);
     let p0 = b.pair(x, NIL);
     let chain = *rng.pick(&[97, 98, 99, 100, 130]);
@@ -119,8 +118,8 @@ pub fn front(rng: &mut Rng, v: Version) -> Vec<u8> {
 }
 
 /// x is put at an open place, takes its parents, and is taken back; x comes again.
-pub fn moved(rng: &mut Rng, v: Version) -> Vec<u8> {
-    let mut b = Builder::new(v);
+pub fn moved(rng: &mut Rng) -> Vec<u8> {
+    let mut b = Builder::default();
     let s = *rng.pick(&[b.small(7), NIL]);
     b.sentinel(s);
     let x = referred(&mut b, rng);
@@ -152,8 +151,8 @@ pub fn moved(rng: &mut Rng, v: Version) -> Vec<u8> {
 }
 
 /// x has about 100 parents; a tree that is taken back has more, which overwrite some.
-pub fn parents(rng: &mut Rng, v: Version) -> Vec<u8> {
-    let (mut b, s) = begin(v);
+pub fn parents(rng: &mut Rng) -> Vec<u8> {
+    let (mut b, s) = begin();
     let n = *rng.pick(&[6, 12, 40]);
     let x = b.list_atom(&[vec![0x81], rng.bytes(n)].concat());
     let side = rng.below(3);
@@ -189,8 +188,8 @@ pub fn parents(rng: &mut Rng, v: Version) -> Vec<u8> {
 
 /// Hundreds of handles of (S . S) and (S . foobar), each added once; then steps back
 /// and adds among so many entries.
-pub fn many_entries(rng: &mut Rng, v: Version) -> Vec<u8> {
-    let mut b = Builder::new(v);
+pub fn many_entries(rng: &mut Rng) -> Vec<u8> {
+    let mut b = Builder::default();
     let s = *rng.pick(&[b.small(7), NIL]);
     b.sentinel(s);
     let foobar = b.list_atom(b"foobar");
@@ -232,8 +231,8 @@ pub fn many_entries(rng: &mut Rng, v: Version) -> Vec<u8> {
 
 /// The last number is the count of adds, one more, or far more. Those before it are
 /// below the count, at times by one.
-pub fn refused_11(rng: &mut Rng, v: Version) -> Vec<u8> {
-    let (mut b, s) = begin(v);
+pub fn refused_11(rng: &mut Rng) -> Vec<u8> {
+    let (mut b, s) = begin();
     let pool = b.pool(rng, 4, 4);
     let adds = rng.range(0, 4);
     if adds > 0 {
@@ -253,8 +252,8 @@ pub fn refused_11(rng: &mut Rng, v: Version) -> Vec<u8> {
 }
 
 /// A number that the file's end cuts off.
-pub fn refused_4(rng: &mut Rng, v: Version) -> Vec<u8> {
-    let mut file = super::undo(rng, v, 70);
+pub fn refused_4(rng: &mut Rng) -> Vec<u8> {
+    let mut file = super::undo(rng, 70);
     file.push(3);
     if rng.percent(50) {
         file.push(0);

@@ -6,7 +6,6 @@
 use super::Builder;
 use crate::node::NIL;
 use crate::rng::Rng;
-use crate::version::Version;
 
 /// The most values above the bottom one: 4,096 pairs are open then.
 const MOST_ABOVE: usize = 4_095;
@@ -96,8 +95,8 @@ fn length(rng: &mut Rng, bits: usize) -> usize {
 
 /// As few bytes of file as there can be: fifteen adds put 4,087 values of the smallest spine above
 /// x, whose path has 512 bytes then. A pair as x takes fewer bytes than an atom.
-pub fn least(rng: &mut Rng, v: Version) -> Vec<u8> {
-    let mut b = Builder::new(v);
+pub fn least(rng: &mut Rng) -> Vec<u8> {
+    let mut b = Builder::default();
     let s = b.small(7);
     b.sentinel(s);
     let more = *rng.pick(&[2, 3, 4]);
@@ -120,8 +119,8 @@ pub fn least(rng: &mut Rng, v: Version) -> Vec<u8> {
 }
 
 /// x at the bottom of the stack, or deep in a tree there, and x again at last.
-pub fn again(rng: &mut Rng, v: Version, is_pair: bool) -> Vec<u8> {
-    let mut b = Builder::new(v);
+pub fn again(rng: &mut Rng, is_pair: bool) -> Vec<u8> {
+    let mut b = Builder::default();
     let s = b.small(7);
     b.sentinel(s);
     let bits = bits(rng);
@@ -146,8 +145,8 @@ pub fn again(rng: &mut Rng, v: Version, is_pair: bool) -> Vec<u8> {
 }
 
 /// 4,096 pairs are open, or nearly, and x is a pair: as no reference it gets 12.
-pub fn open(rng: &mut Rng, v: Version) -> Vec<u8> {
-    let mut b = Builder::new(v);
+pub fn open(rng: &mut Rng) -> Vec<u8> {
+    let mut b = Builder::default();
     let s = b.small(7);
     b.sentinel(s);
     let above = MOST_ABOVE - rng.below(3);
@@ -171,8 +170,8 @@ pub fn open(rng: &mut Rng, v: Version) -> Vec<u8> {
 
 /// Several of them at the bottom, each of which comes again, in an add, a quote, a quote that is
 /// taken, after a `02` and after a `03`; at times before an open place.
-pub fn steps(rng: &mut Rng, v: Version) -> Vec<u8> {
-    let mut b = Builder::new(v);
+pub fn steps(rng: &mut Rng) -> Vec<u8> {
+    let mut b = Builder::default();
     let s = b.small(7);
     b.sentinel(s);
     let count = rng.range(2, 4);

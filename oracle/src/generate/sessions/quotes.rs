@@ -3,12 +3,11 @@
 use super::{Builder, forgets, mark, recent};
 use crate::node::{ATOM, NIL, NONE, PAIR, handle};
 use crate::rng::Rng;
-use crate::session::{self, MAX_STEPS, Step};
-use crate::version::{V1, Version};
+use crate::session::{self, MAX_ATOM_BYTES, MAX_STEPS, Step};
 
 /// With a sentinel that nothing else is, or that is nil or a small atom.
-fn begin(rng: &mut Rng, v: Version) -> (Builder, u32) {
-    let mut b = Builder::new(v);
+fn begin(rng: &mut Rng) -> (Builder, u32) {
+    let mut b = Builder::default();
     let s = match rng.below(3) {
         0 => mark(&mut b),
         1 => b.small(7),
@@ -21,8 +20,8 @@ fn begin(rng: &mut Rng, v: Version) -> (Builder, u32) {
 /// The same trees with other steps: an add that is taken back right after it is mostly
 /// a quote that is dropped, another add at times a quote and its taking, and quotes of
 /// the trees that are added come before adds.
-pub fn quoting(rng: &mut Rng, v: Version, file: &[u8]) -> Vec<u8> {
-    let Ok(mut s) = session::parse(v, file) else {
+pub fn quoting(rng: &mut Rng, file: &[u8]) -> Vec<u8> {
+    let Ok(mut s) = session::parse(file) else {
         return file.to_vec();
     };
     let steps = std::mem::take(&mut s.steps);
@@ -60,13 +59,13 @@ pub fn quoting(rng: &mut Rng, v: Version, file: &[u8]) -> Vec<u8> {
             }
         }
     }
-    s.to_bytes(v)
+    s.to_bytes()
 }
 
 /// Adds by `01` and by `04` and `05`, quotes that are dropped, and steps back in so many
 /// of 100, of `02` and `03`. At times the last step is one that is refused.
-pub fn quotes(rng: &mut Rng, v: Version, undos: usize) -> Vec<u8> {
-    let (mut b, s) = begin(rng, v);
+pub fn quotes(rng: &mut Rng, undos: usize) -> Vec<u8> {
+    let (mut b, s) = begin(rng);
     let n = rng.range(0, 8);
     let mut pool = b.pool(rng, 3, n);
     pool.push(b.list_atom(b"foobar"));
@@ -123,8 +122,8 @@ pub fn quotes(rng: &mut Rng, v: Version, undos: usize) -> Vec<u8> {
 
 /// Several bundles are quoted, and the last one quoted, or one that is quoted again, is
 /// taken; up to 1,024 steps.
-pub fn tests(rng: &mut Rng, v: Version) -> Vec<u8> {
-    let mut b = Builder::new(v);
+pub fn tests(rng: &mut Rng) -> Vec<u8> {
+    let mut b = Builder::default();
     let s = mark(&mut b);
     b.sentinel(s);
     let atoms = rng.range(2, 10);
@@ -175,8 +174,8 @@ pub fn tests(rng: &mut Rng, v: Version) -> Vec<u8> {
 }
 
 /// Quotes of trees that leave no open place: the session goes on unless one is taken.
-pub fn finished(rng: &mut Rng, v: Version) -> Vec<u8> {
-    let (mut b, s) = begin(rng, v);
+pub fn finished(rng: &mut Rng) -> Vec<u8> {
+    let (mut b, s) = begin(rng);
     let atoms = rng.range(1, 8);
     let n = rng.range(0, 20);
     let pool = b.pool(rng, atoms, n);
@@ -215,63 +214,63 @@ pub fn finished(rng: &mut Rng, v: Version) -> Vec<u8> {
     b.done()
 }
 
-pub fn twins(rng: &mut Rng, v: Version) -> Vec<u8> {
-    let file = forgets::twins(rng, v);
-    quoting(rng, v, &file)
+pub fn twins(rng: &mut Rng) -> Vec<u8> {
+    let file = forgets::twins(rng);
+    quoting(rng, &file)
 }
 
-pub fn moved(rng: &mut Rng, v: Version) -> Vec<u8> {
-    let file = forgets::moved(rng, v);
-    quoting(rng, v, &file)
+pub fn moved(rng: &mut Rng) -> Vec<u8> {
+    let file = forgets::moved(rng);
+    quoting(rng, &file)
 }
 
-pub fn front(rng: &mut Rng, v: Version) -> Vec<u8> {
-    let file = forgets::front(rng, v);
-    quoting(rng, v, &file)
+pub fn front(rng: &mut Rng) -> Vec<u8> {
+    let file = forgets::front(rng);
+    quoting(rng, &file)
 }
 
-pub fn parents(rng: &mut Rng, v: Version) -> Vec<u8> {
-    let file = forgets::parents(rng, v);
-    quoting(rng, v, &file)
+pub fn parents(rng: &mut Rng) -> Vec<u8> {
+    let file = forgets::parents(rng);
+    quoting(rng, &file)
 }
 
-pub fn deep(rng: &mut Rng, v: Version) -> Vec<u8> {
-    let file = super::deep_undo(rng, v, 70);
-    quoting(rng, v, &file)
+pub fn deep(rng: &mut Rng) -> Vec<u8> {
+    let file = super::deep_undo(rng, 70);
+    quoting(rng, &file)
 }
 
-pub fn many_steps(rng: &mut Rng, v: Version) -> Vec<u8> {
-    let file = super::many_steps(rng, v, 70);
-    quoting(rng, v, &file)
+pub fn many_steps(rng: &mut Rng) -> Vec<u8> {
+    let file = super::many_steps(rng, 70);
+    quoting(rng, &file)
 }
 
-pub fn many_entries(rng: &mut Rng, v: Version) -> Vec<u8> {
-    let file = forgets::many_entries(rng, v);
-    quoting(rng, v, &file)
+pub fn many_entries(rng: &mut Rng) -> Vec<u8> {
+    let file = forgets::many_entries(rng);
+    quoting(rng, &file)
 }
 
-pub fn sixteen(rng: &mut Rng, v: Version) -> Vec<u8> {
-    let file = super::sixteen_adds(rng, v);
-    quoting(rng, v, &file)
+pub fn sixteen(rng: &mut Rng) -> Vec<u8> {
+    let file = super::sixteen_adds(rng);
+    quoting(rng, &file)
 }
 
 /// A small session with quotes, for faults.
-pub fn small(rng: &mut Rng, v: Version) -> Vec<u8> {
+pub fn small(rng: &mut Rng) -> Vec<u8> {
     let undos = *rng.pick(&[0, 30]);
-    quotes(rng, v, undos)
+    quotes(rng, undos)
 }
 
 /// A handle that the file's end cuts off.
-pub fn refused_4(rng: &mut Rng, v: Version) -> Vec<u8> {
-    let mut file = small(rng, v);
+pub fn refused_4(rng: &mut Rng) -> Vec<u8> {
+    let mut file = small(rng);
     file.push(4);
     file.extend(&[8, 0, 0][..rng.below(4)]);
     file
 }
 
 /// A `04` with a handle that names nothing.
-pub fn refused_7(rng: &mut Rng, v: Version) -> Vec<u8> {
-    let mut file = small(rng, v);
+pub fn refused_7(rng: &mut Rng) -> Vec<u8> {
+    let mut file = small(rng);
     file.push(4);
     let bad = *rng.pick(&[handle(PAIR, 900), handle(ATOM, 900), handle(3, 0), NONE]);
     file.extend(bad.to_be_bytes());
@@ -282,8 +281,8 @@ pub fn refused_7(rng: &mut Rng, v: Version) -> Vec<u8> {
 }
 
 /// A quote, or several, when the session is finished.
-pub fn refused_9(rng: &mut Rng, v: Version) -> Vec<u8> {
-    let (mut b, s) = begin(rng, v);
+pub fn refused_9(rng: &mut Rng) -> Vec<u8> {
+    let (mut b, s) = begin(rng);
     let pool = b.pool(rng, 4, 4);
     for _ in 0..rng.below(3) {
         let depth = rng.range(1, 4);
@@ -305,8 +304,8 @@ pub fn refused_9(rng: &mut Rng, v: Version) -> Vec<u8> {
 }
 
 /// More than 16 adds, of both forms, and quotes before and after the 16th.
-pub fn refused_10(rng: &mut Rng, v: Version) -> Vec<u8> {
-    let (mut b, s) = begin(rng, v);
+pub fn refused_10(rng: &mut Rng) -> Vec<u8> {
+    let (mut b, s) = begin(rng);
     let foobar = b.list_atom(b"foobar");
     let trees = [s, b.pair(foobar, s), b.pair(s, foobar)];
     let mut adds = 0;
@@ -343,8 +342,8 @@ pub fn refused_10(rng: &mut Rng, v: Version) -> Vec<u8> {
 }
 
 /// 4,096 pairs are open before the quote's `ff`, its first or a later one.
-pub fn refused_12(rng: &mut Rng, v: Version) -> Vec<u8> {
-    let mut b = Builder::new(v);
+pub fn refused_12(rng: &mut Rng) -> Vec<u8> {
+    let mut b = Builder::default();
     let left = rng.percent(50);
     let inside = rng.below(4);
     super::open_chain(&mut b, rng, 4096 - inside, left);
@@ -359,14 +358,11 @@ pub fn refused_12(rng: &mut Rng, v: Version) -> Vec<u8> {
 }
 
 /// As `refused-13`, with a quote of what doesn't fit after items that do.
-pub fn refused_13(rng: &mut Rng, v: Version) -> Vec<u8> {
-    if v.output > V1.output {
-        return super::wide::refused_13(rng, v, 100);
-    }
-    let mut b = Builder::new(v);
+pub fn refused_13(rng: &mut Rng) -> Vec<u8> {
+    let mut b = Builder::default();
     let s = b.small(7);
     b.sentinel(s);
-    let big = b.list_atom(&vec![0x80 | rng.byte(); v.atom_bytes]);
+    let big = b.list_atom(&vec![0x80 | rng.byte(); MAX_ATOM_BYTES]);
     let items: Vec<u32> = (0..1000).map(|i| b.small(0x100_0000 + i)).collect();
     let list = b.right(&items, s);
     let x = b.pair(list, s);
@@ -388,8 +384,8 @@ pub fn refused_13(rng: &mut Rng, v: Version) -> Vec<u8> {
 
 /// A `05` with no quote open: at first, after another step, after a quote that such a
 /// step dropped, and twice.
-pub fn refused_17(rng: &mut Rng, v: Version) -> Vec<u8> {
-    let (mut b, s) = begin(rng, v);
+pub fn refused_17(rng: &mut Rng) -> Vec<u8> {
+    let (mut b, s) = begin(rng);
     let foobar = b.list_atom(b"foobar");
     let trees = [s, b.pair(foobar, s), b.pair(s, foobar)];
     let adds = rng.below(4);

@@ -17,7 +17,7 @@ refusal-requires : tie.Need-refusal-requires
 refusal-requires c κs = search rules
 
 returns : tie.Need-returns
-returns c = let a = c.before.before.before.args in atom_short a.file.now c.refusal.result a.start a.size a.most a.used (omega arith) (omega arith) c.refusal.ensures
+returns c = let a = c.before.before.before.args in atom_short a.file.now c.refusal.result a.start a.size a.used (omega arith) (omega arith) c.refusal.ensures
 
 refusal-requires-2 : tie.Need-refusal-requires-2
 refusal-requires-2 c κs = search rules
@@ -25,7 +25,7 @@ refusal-requires-2 c κs = search rules
 returns-2 : tie.Need-returns-2
 returns-2 c =
     let a = c.before.before.before.before.args in
-    atom_large a.file.now c.refusal2.result a.start a.size a.most a.used (omega arith) (omega arith) (omega arith) (omega arith)
+    atom_large a.file.now c.refusal2.result a.start a.size a.used (omega arith) (omega arith) (omega arith) (omega arith)
     c.refusal2.ensures
 
 add-end : tie.Need-overflow-add-end
@@ -56,14 +56,14 @@ returns-3 : tie.Need-returns-3
 returns-3 c =
     let a = c.before.before.before.before.before.before.before.before.args in
     let fits_in_small_atom = c.before.before.before.fits_in_small_atom in
-    atom_small a.file.now c.refusal3.result a.start a.size a.most a.used (omega arith) (omega arith) (omega arith) (omega arith)
+    atom_small a.file.now c.refusal3.result a.start a.size a.used (omega arith) (omega arith) (omega arith) (omega arith)
     fits_in_small_atom.result fits_in_small_atom.ensures _ c.before.enum_told.given.1 c.refusal3.ensures
 
 returns-4 : tie.Need-returns-4
 returns-4 c =
     let a = c.before.before.before.before.before.before.before.args in
     let fits_in_small_atom = c.before.before.fits_in_small_atom in
-    atom_there a.file.now _ a.start a.size a.most a.used (omega arith) (omega arith) (omega arith) (omega arith) fits_in_small_atom.result
+    atom_there a.file.now _ a.start a.size a.used (omega arith) (omega arith) (omega arith) (omega arith) fits_in_small_atom.result
     fits_in_small_atom.ensures c.enum-told2.given.1 refl refl refl
 
 pub atom-bytes-spec : {M : Type 1} → statement M

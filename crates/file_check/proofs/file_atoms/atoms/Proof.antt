@@ -9,16 +9,16 @@ use Rattle.file_check.proofs.file_atoms.atoms.Statement.{statement}
 use Rattle.file_check.proofs.file_atoms.atoms.Tie as tie
 
 abbrev invariant-loop : tie.invariant-loop
-invariant-loop file at width most count next₀ used₀ done₀ next used done = (done ≤ count) × (next ≤ length file) × (used ≤ most) × AtomsSoFar width most file at count next used done
+invariant-loop file at count next₀ used₀ done₀ next used done = (done ≤ count) × (next ≤ length file) × (used ≤ 32768) × AtomsSoFar file at count next used done
 
 abbrev decreases-loop : tie.decreases-loop
-decreases-loop file at width most count next₀ used₀ done₀ next used done = count - done
+decreases-loop file at count next₀ used₀ done₀ next used done = count - done
 
 loop-holds : tie.Need-loop-init invariant-loop decreases-loop
-loop-holds c = let a = c.before.args in (omega arith, omega arith, omega arith, atoms_start a.width a.most a.file.now a.at a.count)
+loop-holds c = let a = c.before.args in (omega arith, omega arith, omega arith, atoms_start a.file.now a.at a.count)
 
 atom-requires : tie.Need-atom-requires invariant-loop decreases-loop
-atom-requires c κs = (omega arith, omega arith, omega arith)
+atom-requires c κs = (omega arith, omega arith)
 
 returns : tie.Need-returns invariant-loop decreases-loop
 returns c = let l = c.before.before.before.before.loop in atoms_refused l.invariant.3 (omega arith) c.before.before.atom.result c.before.before.atom.ensures c.if1.true
@@ -27,7 +27,7 @@ add-used : tie.Need-overflow-add-used invariant-loop decreases-loop
 add-used c =
     let l = c.before.before.before.before.before.loop in
     let atom = c.before.before.before.atom in
-    omega (arith, atoms_few l.invariant.3 (omega arith) atom.result atom.ensures c.before.if1.false (omega arith))
+    omega (arith, atoms_few l.invariant.3 (omega arith) atom.result atom.ensures c.before.if1.false)
 
 add_done : tie.Need-overflow-add-done invariant-loop decreases-loop
 add_done c = omega arith
@@ -40,7 +40,7 @@ loop-again c =
     let l = c.before.before.before.before.before.loop in (
       omega arith,
       atoms_inside l.invariant.3 (omega arith) c.before.before.before.atom.result c.before.before.before.atom.ensures c.before.if1.false,
-      atoms_few l.invariant.3 (omega arith) c.before.before.before.atom.result c.before.before.before.atom.ensures c.before.if1.false (omega arith),
+      atoms_few l.invariant.3 (omega arith) c.before.before.before.atom.result c.before.before.before.atom.ensures c.before.if1.false,
       atoms_turn l.invariant.3 (omega arith) c.before.before.before.atom.result c.before.before.before.atom.ensures c.before.if1.false,
     )
 

@@ -13,13 +13,13 @@ returns : tie.Need-returns
 returns c =
     let a = c.before.before.before.before.args in
     let field = c.before.before.field in
-    count_refused a.file.now field.result a.at a.width a.most field.ensures c.if1.true
+    count_refused a.file.now field.result a.at a.most field.ensures c.if1.true
 
 returns-2 : tie.Need-returns-2
 returns-2 c =
     let a = c.before.before.before.before.before.before.args in
     let field = c.before.before.before.before.field in
-    count_there a.file.now field.result a.at a.width a.most field.ensures c.before.before.if1.false (omega arith)
+    count_there a.file.now field.result a.at a.most field.ensures c.before.before.if1.false (omega arith)
 
 refusal-requires : tie.Need-refusal-requires
 refusal-requires c κs = search rules
@@ -28,7 +28,7 @@ returns-3 : tie.Need-returns-3
 returns-3 c =
     let a = c.before.before.before.before.before.before.before.args in
     let field = c.before.before.before.before.before.field in
-    count_large a.file.now field.result a.at a.width a.most field.ensures c.before.before.before.if1.false c.refusal.result (omega arith)
+    count_large a.file.now field.result a.at a.most field.ensures c.before.before.before.if1.false c.refusal.result (omega arith)
     c.refusal.ensures
 
 pub count_spec : {M : Type 1} → statement M

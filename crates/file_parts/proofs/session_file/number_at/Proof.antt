@@ -1,7 +1,6 @@
 -- `file_parts::session_file::number_at` meets its contract: at most four bytes make a number of 32 bits.
 -- Assumes nothing.
 use Prim.Native.Nat.{ℕ, ◌+◌, ◌^◌, ◌≤◌, ◌<◌}
-use mathlib.Core.Path.{◌≡◌, ap, ◌∙◌}
 use mathlib.Core.List.{List}
 use native.Mathlib.Omega.{arith}
 use native.Mathlib.Nat.{pow-le-pow_right}
@@ -21,34 +20,17 @@ four_bytes input p n bytes h k =
     number_bound (part input p n) (all_take (λ (x : ℕ). x < 256) n (drop p input) (all_drop (λ (x : ℕ). x < 256) p input bytes)) in
     omega (arith, rw (part_length input p n h) at b, pow-le-pow_right {n = 256} (omega arith) {i = n} {j = 4} k)
 
--- The file's bytes are bytes.
-bytes : (x : tie.After-shared-slice-known) → Bytes x.before.args.file.now
-bytes x = all_of (λ (n : ℕ). n < 256) x.before.args.file.now 0 (λ i l. omega (arith, x.shared-slice-known.given i))
-
 number-at-requires : tie.Need-number-at-requires
 number-at-requires c κs = search rules
 
 cast-result : tie.Need-overflow-cast-result
 cast-result c =
-    let a = c.before.before.before.args in
-    omega (arith, c.number_at.ensures, four_bytes a.file.now a.at 2 (bytes c.before.before) (omega arith) (omega arith))
+    let a = c.before.before.args in
+    let bytes = all_of (λ (x : ℕ). x < 256) a.file.now 0 (λ i l. omega (arith, c.before.shared-slice-known.given i)) in
+    omega (arith, c.number_at.ensures, four_bytes a.file.now a.at a.count bytes (omega arith) (omega arith))
 
 returns : tie.Need-returns
-returns c =
-    let a = c.before.before.before.args in
-    let two : 2 ≡ a.count = omega arith in
-    c.number_at.ensures ∙ ap (λ (n : ℕ). number (part a.file.now a.at n)) two
-
-number-at-requires-2 : tie.Need-number-at-requires-2
-number-at-requires-2 c κs = search rules
-
-cast-result-2 : tie.Need-overflow-cast-result-2
-cast-result-2 c =
-    let a = c.before.before.before.args in
-    omega (arith, c.number-at2.ensures, four_bytes a.file.now a.at a.count (bytes c.before.before) (omega arith) (omega arith))
-
-returns-2 : tie.Need-returns-2
-returns-2 c = search rules
+returns c = search rules
 
 pub number-at-spec : {M : Type 1} → statement M
-number-at-spec = tie.close (tie.spec number-at-requires cast-result returns number-at-requires-2 cast-result-2 returns-2)
+number-at-spec = tie.close (tie.spec number-at-requires cast-result returns)

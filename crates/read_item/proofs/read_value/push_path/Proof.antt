@@ -46,7 +46,7 @@ push-node-requires : tie.Need-push-node-requires
 push-node-requires c κs =
     let t = (walk c).traverse-path-with-vec in
     let p = (start (walk c)).requires.0 in
-    (omega (arith, t.kept.1.0, paths.few_values _ _ _ _ p), paths.few_ghosts _ _ _ _ p t.result _ c.before.before.b.given.1 t.ensures.1)
+    (omega (arith, p.work, t.kept.1.0), paths.few_values _ _ _ _ p, paths.few_ghosts _ _ _ _ p t.result _ c.before.before.b.given.1 t.ensures.1)
 
 settle-requires : tie.Need-settle-requires
 settle-requires c κs = let x = pushed c.before.before.before.before in (x.0, x.1.inside)

@@ -24,6 +24,9 @@ loop-holds c = let p = c.before.before.requires in (refl, refl, joins.onward_non
 sub-top : tie.Need-overflow-sub-top invariant-loop decreases-loop
 sub-top c = omega arith
 
+add-if2 : tie.Need-overflow-add-if2 invariant-loop decreases-loop
+add-if2 c = omega (arith, joins.ready_ops _ _ _ (ready c.before.before.before))
+
 mul-if2 : tie.Need-overflow-mul-if2 invariant-loop decreases-loop
 mul-if2 c = omega (arith, joins.ready_ops _ _ _ (ready c.before.before.before))
 
@@ -73,6 +76,7 @@ join-all-spec =
     decreases-loop
     loop-holds
     sub-top
+    add-if2
     mul-if2
     slice-read-if2
     same_length

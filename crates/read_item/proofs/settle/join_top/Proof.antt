@@ -23,7 +23,7 @@ join-requires c κs =
     let known = c.before.before.before in
     let p = known.before.before.before.requires in
     let m = joins.join_room _ _ _ p.0 _ p.2 in
-    (omega (arith, p.0.work, m.values), two known, omega (arith, m.pairs, p.0.room), omega (arith, m.pairs, p.0.limit))
+    (p.0.work, two known, omega (arith, m.values), omega (arith, m.pairs, p.0.room), omega (arith, m.pairs))
 
 sub-next : tie.Need-overflow-sub-next
 sub-next c = search rules

@@ -14,17 +14,17 @@ ghost x =
     let o = x.before.before.before.before in
     bare_ghost o.args.work.now o.args.i o.args.below.ghosts x.if1.false o.requires.ghost
 
-mul-place : tie.Need-overflow-mul-place
-mul-place c = search rules
-
-add-place : tie.Need-overflow-add-place
-add-place c = search rules
+mul-list : tie.Need-overflow-mul-list
+mul-list c = search rules
 
 add-list : tie.Need-overflow-add-list
 add-list c = search rules
 
-mul-list : tie.Need-overflow-mul-list
-mul-list c = search rules
+add-list-2 : tie.Need-overflow-add-list-2
+add-list-2 c = search rules
+
+mul-list-2 : tie.Need-overflow-mul-list-2
+mul-list-2 c = search rules
 
 slice-read-list : tie.Need-slice-read-list
 slice-read-list c = search rules
@@ -41,6 +41,12 @@ returns c = adds_cached _ _ _ _ _ c.if1.true refl refl refl refl
 mul-work : tie.Need-overflow-mul-work
 mul-work c = search rules
 
+add-work : tie.Need-overflow-add-work
+add-work c = search rules
+
+mul-work-2 : tie.Need-overflow-mul-work-2
+mul-work-2 c = search rules
+
 slice-read-work : tie.Need-slice-read-work
 slice-read-work c = search rules
 
@@ -50,17 +56,23 @@ new-pair-requires c κs =
     let p = bare.before.before.before.before.requires in
     omega (arith, ghost bare, p.room, p.pairs)
 
-add-work : tie.Need-overflow-add-work
-add-work c =
+add-work-2 : tie.Need-overflow-add-work-2
+add-work-2 c =
     let bare = c.before.before.before.before.before.before in
     let o = bare.before.before.before.before in
     omega (arith, c.before.before.before.new_pair.ensures.0, pair_handle_small o.args.below.pairs (omega (arith, ghost bare, o.requires.room)))
 
-add-work-2 : tie.Need-overflow-add-work-2
-add-work-2 c = search rules
+mul-work-3 : tie.Need-overflow-mul-work-3
+mul-work-3 c = search rules
 
-mul-work-2 : tie.Need-overflow-mul-work-2
-mul-work-2 c = search rules
+add-work-3 : tie.Need-overflow-add-work-3
+add-work-3 c = search rules
+
+add-work-4 : tie.Need-overflow-add-work-4
+add-work-4 c = search rules
+
+mul-work-4 : tie.Need-overflow-mul-work-4
+mul-work-4 c = search rules
 
 slice-write-work : tie.Need-slice-write-work
 slice-write-work c = search rules
@@ -68,8 +80,8 @@ slice-write-work c = search rules
 add-t11 : tie.Need-overflow-add-t11
 add-t11 c = search rules
 
-sub-t10 : tie.Need-overflow-sub-t10
-sub-t10 c = omega (arith, ghost c.before.before.before.before.before.before.before.before)
+sub-t8 : tie.Need-overflow-sub-t8
+sub-t8 c = omega (arith, ghost c.before.before.before.before.before.before.before.before)
 
 add-t9 : tie.Need-overflow-add-t9
 add-t9 c = search rules
@@ -85,29 +97,33 @@ returns-2 c =
     let bare = c.before.before.before.before.before.before.before.before in
     let p = bare.before.before.before.before.requires in
     let n = c.before.before.before.before.before.new_pair.ensures in
-    adds_made _ _ _ _ _ _ (omega (arith, p.work)) (omega (arith, ghost bare, p.room, p.pairs)) bare.if1.false (ghost bare) n.0 refl refl refl n.1
+    adds_made _ _ _ _ _ _ (omega (arith, p.work, p.few)) (omega (arith, ghost bare, p.room, p.pairs)) bare.if1.false (ghost bare) n.0 refl refl refl n.1
 
 pub add-value-spec : {M : Type 1} → statement M
 add-value-spec =
     tie.close
     (tie.spec
-    mul-place
-    add-place
-    add-list
     mul-list
+    add-list
+    add-list-2
+    mul-list-2
     slice-read-list
     sub-t15
     add-t17
     returns
     mul-work
+    add-work
+    mul-work-2
     slice-read-work
     new-pair-requires
-    add-work
     add-work-2
-    mul-work-2
+    mul-work-3
+    add-work-3
+    add-work-4
+    mul-work-4
     slice-write-work
     add-t11
-    sub-t10
+    sub-t8
     add-t9
     same_length
     same-length-2

@@ -28,7 +28,7 @@ list-at-requires : tie.Need-list-at-requires invariant-loop decreases-loop
 list-at-requires c κs =
     let p = c.before.before.before.before.requires in
     let e = c.before.listed-among.ensures in
-    (omega (arith, p.work, e), record { all = fewer_listed _ _ _ (omega (arith, e)) p.lists; few = omega arith })
+    (p.work, record { all = fewer_listed _ _ _ (omega (arith, e)) p.lists; few = omega (arith, e, p.few) })
 
 loop-holds : tie.Need-loop-init invariant-loop decreases-loop
 loop-holds c =
@@ -48,8 +48,9 @@ add-value-requires c κs =
     let p = h.before.before.before.before.before.before.requires in
     let some_left = c.before.before.loop-test.true in
     record {
-      work = omega (arith, p.work, h.loop.invariant.1, some_left);
-      pairs = omega (arith, p.pairs, h.loop.invariant.2, h.loop.invariant.3.total);
+      work = omega (arith, p.work, h.loop.invariant.1);
+      pairs = omega (arith, p.pairs, h.loop.invariant.2);
+      few = omega (arith, p.few, some_left);
       ghost = one_left _ _ _ _ _ _ _ _ _ _ h.loop.invariant.3 some_left p.ghost h.loop.invariant.4;
       room = omega (arith, p.room, h.loop.invariant.3.total);
     }
@@ -57,7 +58,7 @@ add-value-requires c κs =
 add-i : tie.Need-overflow-add-i invariant-loop decreases-loop
 add-i c =
     let turn = c.before.before.before.before.before.before.before in
-    omega (arith, turn.loop-test.true)
+    omega (arith, turn.loop-test.true, turn.before.before.before.before.before.before.before.requires.few)
 
 loop-less : tie.Need-loop-smaller invariant-loop decreases-loop
 loop-less c = omega (arith, c.before.before.before.before.before.before.before.loop-test.true)

@@ -11,26 +11,26 @@ use Rattle.read_path.proofs.stack_list.list_at.Tie as tie
 returns : tie.Need-returns
 returns c = let a = c.before.args in λ s. sym handle_of_nil ∙ no_list a.work.now a.count c.if1.true s
 
-sub-t6 : tie.Need-overflow-sub-t6
-sub-t6 c = search rules
+sub-t4 : tie.Need-overflow-sub-t4
+sub-t4 c = search rules
 
-mul-t7 : tie.Need-overflow-mul-t7
-mul-t7 c = search rules
+mul-t5 : tie.Need-overflow-mul-t5
+mul-t5 c = search rules
 
-add-t8 : tie.Need-overflow-add-t8
-add-t8 c = search rules
+add-t6 : tie.Need-overflow-add-t6
+add-t6 c = search rules
 
-add-t9 : tie.Need-overflow-add-t9
-add-t9 c = search rules
+add-t7 : tie.Need-overflow-add-t7
+add-t7 c = search rules
 
-mul-t10 : tie.Need-overflow-mul-t10
-mul-t10 c = search rules
+mul-t8 : tie.Need-overflow-mul-t8
+mul-t8 c = search rules
 
-shared-slice-read-t12 : tie.Need-shared-slice-read-t12
-shared-slice-read-t12 c = search rules
+shared-slice-read-t10 : tie.Need-shared-slice-read-t10
+shared-slice-read-t10 c = search rules
 
-sub-t13 : tie.Need-overflow-sub-t13
-sub-t13 c =
+sub-t11 : tie.Need-overflow-sub-t11
+sub-t11 c =
     let o = c.before.before in
     omega (arith, top_listed o.args.work.now o.args.count (omega (arith, c.before.if1.false)) o.requires.1.all)
 
@@ -42,4 +42,4 @@ returns-2 c =
 pub list-at-spec : {M : Type 1} → statement M
 list-at-spec =
     tie.close
-    (tie.spec returns sub-t6 mul-t7 add-t8 add-t9 mul-t10 shared-slice-read-t12 sub-t13 returns-2)
+    (tie.spec returns sub-t4 mul-t5 add-t6 add-t7 mul-t8 shared-slice-read-t10 sub-t11 returns-2)

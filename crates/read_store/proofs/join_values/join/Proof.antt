@@ -6,35 +6,35 @@ use Rattle.read_store.proofs.join_values.Joining.{joined}
 use Rattle.read_store.proofs.join_values.join.Statement.{statement}
 use Rattle.read_store.proofs.join_values.join.Tie as tie
 
-sub-t9 : tie.Need-overflow-sub-t9
-sub-t9 c = search rules
+sub-t8 : tie.Need-overflow-sub-t8
+sub-t8 c = search rules
 
-mul-t10 : tie.Need-overflow-mul-t10
-mul-t10 c = search rules
+mul-t9 : tie.Need-overflow-mul-t9
+mul-t9 c = search rules
 
-add-t11 : tie.Need-overflow-add-t11
-add-t11 c = search rules
-
-mul-t12 : tie.Need-overflow-mul-t12
-mul-t12 c = search rules
-
-slice-read-t14 : tie.Need-slice-read-t14
-slice-read-t14 c = search rules
-
-sub-t9-2 : tie.Need-overflow-sub-t9-2
-sub-t9-2 c = search rules
-
-mul-t10-2 : tie.Need-overflow-mul-t10-2
-mul-t10-2 c = search rules
-
-add-t12 : tie.Need-overflow-add-t12
-add-t12 c = search rules
+add-t10 : tie.Need-overflow-add-t10
+add-t10 c = search rules
 
 mul-t11 : tie.Need-overflow-mul-t11
 mul-t11 c = search rules
 
-slice-read-t14-2 : tie.Need-slice-read-t14-2
-slice-read-t14-2 c = search rules
+slice-read-t13 : tie.Need-slice-read-t13
+slice-read-t13 c = search rules
+
+sub-t8-2 : tie.Need-overflow-sub-t8-2
+sub-t8-2 c = search rules
+
+mul-t9-2 : tie.Need-overflow-mul-t9-2
+mul-t9-2 c = search rules
+
+add-t11 : tie.Need-overflow-add-t11
+add-t11 c = search rules
+
+mul-t10 : tie.Need-overflow-mul-t10
+mul-t10 c = search rules
+
+slice-read-t13-2 : tie.Need-slice-read-t13-2
+slice-read-t13-2 c = search rules
 
 new-pair-requires : tie.Need-new-pair-requires
 new-pair-requires c κs = search rules
@@ -60,16 +60,16 @@ pub join-spec : {M : Type 1} → statement M
 join-spec =
     tie.close
     (tie.spec
-    sub-t9
-    mul-t10
-    add-t11
-    mul-t12
-    slice-read-t14
-    sub-t9-2
-    mul-t10-2
-    add-t12
+    sub-t8
+    mul-t9
+    add-t10
     mul-t11
-    slice-read-t14-2
+    slice-read-t13
+    sub-t8-2
+    mul-t9-2
+    add-t11
+    mul-t10
+    slice-read-t13-2
     new-pair-requires
     sub-push-value
     push-value-requires

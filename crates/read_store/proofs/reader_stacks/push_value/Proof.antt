@@ -1,4 +1,4 @@
--- `read_store::reader_stacks::push_value` meets its contract: its two stores go to the words of the next value.
+-- `read_store::reader_stacks::push_value` meets its contract: its two stores go past the values that are there, and above the operations.
 -- Assumes nothing.
 use native.Mathlib.Omega.{arith}
 use lib.ListN.{length_set}
@@ -7,17 +7,8 @@ use Rattle.read_store.proofs.reader_stacks.Stacks.{pushed_value}
 use Rattle.read_store.proofs.reader_stacks.push_value.Statement.{statement}
 use Rattle.read_store.proofs.reader_stacks.push_value.Tie as tie
 
-mul-place : tie.Need-overflow-mul-place
-mul-place c = search rules
-
-add-place : tie.Need-overflow-add-place
-add-place c = search rules
-
 mul-work : tie.Need-overflow-mul-work
 mul-work c = search rules
-
-slice-write-work : tie.Need-slice-write-work
-slice-write-work c = search rules
 
 add-work : tie.Need-overflow-add-work
 add-work c = search rules
@@ -25,11 +16,26 @@ add-work c = search rules
 mul-work-2 : tie.Need-overflow-mul-work-2
 mul-work-2 c = search rules
 
+slice-write-work : tie.Need-slice-write-work
+slice-write-work c = search rules
+
+mul-work-3 : tie.Need-overflow-mul-work-3
+mul-work-3 c = search rules
+
+add-work-2 : tie.Need-overflow-add-work-2
+add-work-2 c = search rules
+
+add-work-3 : tie.Need-overflow-add-work-3
+add-work-3 c = search rules
+
+mul-work-4 : tie.Need-overflow-mul-work-4
+mul-work-4 c = search rules
+
 slice-write-work-2 : tie.Need-slice-write-work-2
 slice-write-work-2 c = simp length_set (omega arith)
 
 same_length : tie.Need-same-length
-same_length c = search rules
+same_length c = simp length_set
 
 returns : tie.Need-returns
 returns c = pushed_value c.args.work.now c.args.used c.args.node.0 (omega arith)
@@ -38,12 +44,14 @@ pub push-value-spec : {M : Type 1} → statement M
 push-value-spec =
     tie.close
     (tie.spec
-    mul-place
-    add-place
     mul-work
-    slice-write-work
     add-work
     mul-work-2
+    slice-write-work
+    mul-work-3
+    add-work-2
+    add-work-3
+    mul-work-4
     slice-write-work-2
     same_length
     returns)

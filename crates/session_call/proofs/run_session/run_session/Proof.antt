@@ -35,6 +35,7 @@ use denote.Slice.{slice_ty, slice_val, MutSlice, ShrSlice, Room, finally, shr_sl
 use denote.Signature.{plain}
 use denote.Steps.{only, owned, facts, heard, nothing}
 use denote.Struct.Laws as LL
+use denote.Enum.Laws as EL
 use denote.Triple.Entry.{on_entry}
 use denote.Triple.Spec.{Meets, triple_of}
 use denote.Triple.Statement.{Contract, Triple}
@@ -47,9 +48,10 @@ use denote.Exit.{yes}
 use Rattle.session_state.specs.declared.checkpoints.Checkpoint.{Checkpoint}
 use Rattle.session_state.specs.Records.{blank}
 use Rattle.session_state.specs.contracts.checkpoints.Checkpoint as T
-use Rattle.session_state.specs.declared.progress.Rules.{Rules}
-use Rattle.session_state.specs.contracts.progress.Rules as Q
-use Rattle.session_state.proofs.progress.Rules.TheLaws as Q'
+use Rattle.path.specs.declared.Measure.{Measure}
+use Rattle.path.specs.contracts.Measure as D
+use Rattle.path.proofs.Measure.TheLaws as D'
+use Rattle.spec_session.specs.File.{version_1}
 use Rattle.spec_session.specs.Call.{session}
 use Rattle.session_steps.proofs.run_steps.Lending.{lends, comes, twice}
 use Rattle.session_answer.specs.declared.SessionAnswer.{SessionAnswer}
@@ -57,7 +59,6 @@ use Rattle.session_answer.specs.contracts.SessionAnswer as R
 use Rattle.session_answer.proofs.SessionAnswer.TheLaws as R'
 use Rattle.session_call.specs.Outcome.{slices, result_of, ReadsBack}
 use Rattle.words.specs.Lists.{Bytes}
-use Rattle.limits.specs.Limits.{limits_of}
 use Rattle.path.specs.Measure.{measure_of}
 use Rattle.session_state.specs.declared.progress.Progress.{Progress}
 use Rattle.session_state.specs.contracts.progress.Progress as S
@@ -100,7 +101,7 @@ stayed = (
       gave_slice (2 ∷ []) tt (plain (λ _. u32)),
       (
         gave_slice (3 ∷ []) tt (plain (λ _. T.the_row)),
-        (gave_slice (4 ∷ []) tt (plain (λ _. u8)), (stay_none (λ _. Q.the_row) yes, tt)),
+        (gave_slice (4 ∷ []) tt (plain (λ _. u8)), (stay_none (λ _. D.the_row) yes, tt)),
       ),
     ),
   ),
@@ -116,7 +117,7 @@ mut_slice ℓ R = slice_ty (ty_ref ℓ mut (pointee R.written))
 abbrev shr-slice : Lifetime → RattleType → Ty
 shr-slice ℓ R = slice_ty (ty_ref ℓ imm (pointee R.written))
 
--- The machine values of the structs.
+-- The machine values of the structs, and of a measure.
 abbrev mach-b : Begun → Val
 mach-b b = LL.val B.the_type B'.the_laws b
 
@@ -126,8 +127,8 @@ mach-p p = LL.val S.the_type S'.the_laws p
 abbrev mach-r : SessionAnswer → Val
 mach-r r = LL.val R.the_type R'.the_laws r
 
-abbrev mach-m : Rules → Val
-mach-m m = LL.val Q.the_type Q'.the_laws m
+abbrev mach-m : Measure → Val
+mach-m m = EL.val D.the_type D'.the_laws m
 
 module _ {M : Type 1} {𝓤 : Ura M} (𝓛 : Logic 𝓤) (mem : Memory → SProp 𝓤) (run : Routine → Fun 𝓤) where
   -- The contracts that the proof cites.
@@ -147,9 +148,9 @@ module _ {M : Type 1} {𝓤 : Ura M} (𝓛 : Logic 𝓤) (mem : Memory → SProp
 
   -- The parameters, and what they are in the machine.
   module _ (κ₀ κ₁ κ₂ κ₃ κ₄ : Lft) (q₀ q₁ q₂ q₃ q₄ : Share) (x₀ : Bor (List ℕ)) (x₁ : Bor (List ℕ)) (x₂ : Bor (List ℕ)) (x₃ : Bor (List Checkpoint))
-      (x₄ : Bor (List ℕ)) (m : Rules) (room₀ : Room u8 (length x₀.now)) (room₁ : Room u32 (length x₁.now)) (room₂ : Room u32 (length x₂.now))
-      (room₃ : Room T.the_row (length x₃.now)) (room₄ : Room u8 (length x₄.now)) (m-is : Is Q.the_row m (mach-m m ∷ [])) where
-    abbrev a : Bor (List ℕ) × (Bor (List ℕ) × (Bor (List ℕ) × (Bor (List Checkpoint) × (Bor (List ℕ) × (Rules × Unit {0})))))
+      (x₄ : Bor (List ℕ)) (m : Measure) (room₀ : Room u8 (length x₀.now)) (room₁ : Room u32 (length x₁.now)) (room₂ : Room u32 (length x₂.now))
+      (room₃ : Room T.the_row (length x₃.now)) (room₄ : Room u8 (length x₄.now)) (m-is : Is D.the_row m (mach-m m ∷ [])) where
+    abbrev a : Bor (List ℕ) × (Bor (List ℕ) × (Bor (List ℕ) × (Bor (List Checkpoint) × (Bor (List ℕ) × (Measure × Unit {0})))))
     a = (x₀, (x₁, (x₂, (x₃, (x₄, (m, tt))))))
 
     abbrev n₀ : ℕ
@@ -224,11 +225,10 @@ module _ {M : Type 1} {𝓤 : Ura M} (𝓛 : Logic 𝓤) (mem : Memory → SProp
         ∷ ‵ (finally u32 x₁.name w) ∷ ‵ (finally u32 x₂.name ws) ∷ ‵ (finally T.the_row x₃.name cs) ∷ ‵ (finally u8 x₄.name o) ∷ []
 
     abbrev Said : SessionAnswer → (w ws : List ℕ) (cs : List Checkpoint) (o : List ℕ) → Type 0
-    Said r w ws cs o = result_of r w ws cs o ≡ session blank (limits_of m.version) (measure_of m.measure) input
-        (slices x₁.now x₂.now x₃.now x₄.now)
+    Said r w ws cs o = result_of r w ws cs o ≡ session blank version_1 (measure_of m) input (slices x₁.now x₂.now x₃.now x₄.now)
 
     abbrev Reads : SessionAnswer → (w ws : List ℕ) (cs : List Checkpoint) (o : List ℕ) → Type 0
-    Reads r w ws cs o = ReadsBack (limits_of m.version) (measure_of m.measure) input (result_of r w ws cs o)
+    Reads r w ws cs o = ReadsBack (measure_of m) input (result_of r w ws cs o)
 
     abbrev Leaves : SessionAnswer → (w ws : List ℕ) (cs : List Checkpoint) (o : List ℕ) → SProp 𝓤
     Leaves r w ws cs o = on_exit 𝓛 this.ended stayed (κ₀, (κ₁, (κ₂, (κ₃, (κ₄, tt))))) (q₀, (q₁, (q₂, (q₃, (q₄, tt))))) vals (mach-r r) r a
@@ -246,7 +246,7 @@ module _ {M : Type 1} {𝓤 : Ura M} (𝓛 : Logic 𝓤) (mem : Memory → SProp
         says ! reads $ says ! e $
         -- The tokens; and what is had of the parameters.
         nothing ! $ move ! (5 ∷ []) $ join ! $ move ! (4 ∷ []) $ join ! $ move ! (3 ∷ []) $ join ! $ move ! (2 ∷ []) $ join ! $ move ! (1 ∷ []) $ join ! $
-        nothing ! $ owned ! Q.the_row (Is Q.the_row) (LL.makes Q.the_type Q'.the_plain 𝓛) m _ m-is $ fjoin ! $ move ! (6 ∷ []) $ fjoin ! $ move ! (5 ∷ []) $
+        nothing ! $ owned ! D.the_row (Is D.the_row) (EL.makes D.the_type D'.the_plain 𝓛) m _ m-is $ fjoin ! $ move ! (6 ∷ []) $ fjoin ! $ move ! (5 ∷ []) $
         fjoin ! $ move ! (4 ∷ []) $ fjoin ! $ move ! (3 ∷ []) $ fjoin ! $ move ! (2 ∷ []) $ fjoin ! $ move ! (1 ∷ []) $ frame ! $ frame ! $
         owned ! R.the_row (Is R.the_row) (LL.makes R.the_type R'.the_plain 𝓛) r _ r-is $ done !
 
@@ -256,7 +256,7 @@ module _ {M : Type 1} {𝓤 : Ura M} (𝓛 : Logic 𝓤) (mem : Memory → SProp
         -- The types of the locals, one that holds a value, and one that holds none.
         abbrev En : Env 𝓤 H
         En = (R'.mir, l₀) ∷ (shr-slice (named 0) u8, l₁) ∷ (mut_slice (named 1) u32, l₂) ∷ (mut_slice (named 2) u32, l₃) ∷ (mut_slice (named 3) T.the_row, l₄)
-            ∷ (mut_slice (named 4) u8, l₅) ∷ (Q'.mir, l₆) ∷ (ty_int w64, l₇) ∷ (ty_int w64, l₈) ∷ (B'.mir, l₉) ∷ (S'.mir, l₁₀) ∷ (ty_int w64, l₁₁) ∷ (S'.mir, l₁₂)
+            ∷ (mut_slice (named 4) u8, l₅) ∷ (D'.mir, l₆) ∷ (ty_int w64, l₇) ∷ (ty_int w64, l₈) ∷ (B'.mir, l₉) ∷ (S'.mir, l₁₀) ∷ (ty_int w64, l₁₁) ∷ (S'.mir, l₁₂)
             ∷ (mut-ref u32, l₁₃) ∷ (mut_slice erased u32, l₁₄) ∷ (mut-ref T.the_row, l₁₅) ∷ (mut_slice erased T.the_row, l₁₆) ∷ (mut-ref u32, l₁₇)
             ∷ (mut_slice erased u32, l₁₈) ∷ (mut-ref u32, l₁₉) ∷ (mut_slice erased u32, l₂₀) ∷ (mut-ref u8, l₂₁) ∷ (mut_slice erased u8, l₂₂) ∷ (ty_unit, l₂₃)
             ∷ (mut-ref T.the_row, l₂₄) ∷ (mut_slice erased T.the_row, l₂₅) ∷ (mut-ref u32, l₂₆) ∷ (mut_slice erased u32, l₂₇) ∷ (mut-ref u32, l₂₈)
@@ -279,13 +279,13 @@ module _ {M : Type 1} {𝓤 : Ura M} (𝓛 : Logic 𝓤) (mem : Memory → SProp
             (bare (mut-ref T.the_row) l₁₅ (bare (mut_slice erased u32) l₁₄ (bare (mut-ref u32) l₁₃ Γ))))))))))))))))))
 
         abbrev Params : List (Item 𝓤)
-        Params = holds Q'.mir l₆ (mach-m m) (holds (mut_slice (named 4) u8) l₅ v₄
+        Params = holds D'.mir l₆ (mach-m m) (holds (mut_slice (named 4) u8) l₅ v₄
             (holds (mut_slice (named 3) T.the_row) l₄ v₃ (holds (mut_slice (named 2) u32) l₃ v₂
             (holds (mut_slice (named 1) u32) l₂ v₁ (holds (shr-slice (named 0) u8) l₁ v₀ (bare R'.mir l₀ []))))))
 
         -- What `begin` says.
         abbrev Began : Begun → List ℕ → Type 0
-        Began b w₁ = Bytes input × Begins m input x₁.now n₂ n₃ w₁ b (asked m input n₁ n₂ n₃)
+        Began b w₁ = Bytes input × Begins m input x₁.now n₂ n₃ w₁ b (asked input n₁ n₂ n₃)
 
         module _ (b : Begun) (w₁ : List ℕ) (lw₁ : length w₁ ≡ n₁) (began : Began b w₁)
             (start_is : Is S.the_row b.start (mach-p b.start ∷ [])) (records-fit : b.records < 2 ^ 64) where
@@ -530,7 +530,7 @@ module _ {M : Type 1} {𝓤 : Ura M} (𝓛 : Logic 𝓤) (mem : Memory → SProp
               (subst (Is S.the_row p) (LL.tells S.the_type S'.the_laws p _ p-is) p-is))))))))))))))
 
         -- `begin`: the file, work, lent again, and two counts.
-        abbrev given-begin : (ν₁ : ℕ) (δ₁ : GName) → MutBor (List ℕ) × (MutBor (List ℕ) × (ℕ × (ℕ × (Rules × Unit {0}))))
+        abbrev given-begin : (ν₁ : ℕ) (δ₁ : GName) → MutBor (List ℕ) × (MutBor (List ℕ) × (ℕ × (ℕ × (Measure × Unit {0}))))
         given-begin ν₁ δ₁ = (x₀, (again₁ δ₁ x₁.now, (n₂, (n₃, (m, tt)))))
 
         abbrev to-begin : (ν₁ : ℕ) (δ₁ : GName) → Begin.Ghost
@@ -553,7 +553,7 @@ module _ {M : Type 1} {𝓤 : Ura M} (𝓛 : Logic 𝓤) (mem : Memory → SProp
         goes-begin ν₁ δ₁ =
             qed 𝓛 (passed-begin ν₁ δ₁) ∵
             -- What the parameters own; and the tokens.
-            nothing ! $ owned ! Q.the_row (Is Q.the_row) (LL.makes Q.the_type Q'.the_plain 𝓛) m _ m-is $ fjoin ! $
+            nothing ! $ owned ! D.the_row (Is D.the_row) (EL.makes D.the_type D'.the_plain 𝓛) m _ m-is $ fjoin ! $
             owned ! usize (Is usize) (uint_Makes 𝓛 w64) n₃ _ (refl, room₃.0) $ fjoin ! $
             owned ! usize (Is usize) (uint_Makes 𝓛 w64) n₂ _ (refl, room₂.0) $ fjoin ! $ move ! (3 ∷ []) $ fjoin ! $ move ! (1 ∷ []) $ fjoin ! $
             nothing ! $ move ! (3 ∷ []) $ join ! $ move ! (2 ∷ []) $ join ! $ join ! $ frame ! $ done !
@@ -599,7 +599,7 @@ module _ {M : Type 1} {𝓤 : Ura M} (𝓛 : Logic 𝓤) (mem : Memory → SProp
       walk =
           qed 𝓛 ((‵ (flft κ₀ q₀) ⊛ ‵ (flft κ₁ q₁) ⊛ ‵ (flft κ₂ q₂) ⊛ ‵ (flft κ₃ q₃) ⊛ ‵ (flft κ₄ q₄) ⊛ ‵ ftrue)
           ∷ ‵ (owns (ShrSlice (named 0) κ₀ u8 ∷ MutSlice (named 1) κ₁ u32 ∷ MutSlice (named 2) κ₂ u32 ∷ MutSlice (named 3) κ₃ T.the_row ∷ MutSlice
-          (named 4) κ₄ u8 ∷ Q.the_row ∷ []) a vals) ∷ []) ∵ enter ! 𝓣.C 𝓣.Λ code.function (v₀ ∷ v₁ ∷ v₂ ∷ v₃ ∷ v₄ ∷ mach-m m ∷ []) _ $
+          (named 4) κ₄ u8 ∷ D.the_row ∷ []) a vals) ∷ []) ∵ enter ! 𝓣.C 𝓣.Λ code.function (v₀ ∷ v₁ ∷ v₂ ∷ v₃ ∷ v₄ ∷ mach-m m ∷ []) _ $
           alloc1 ! (λ l₀. alloc1 ! (λ l₁. alloc1 ! (λ l₂. alloc1 ! (λ l₃. alloc1 ! (λ l₄. alloc1 ! (λ l₅. alloc1 ! (λ l₆. alloc1 ! (λ l₇. alloc1 ! (λ l₈.
           alloc1 ! (λ l₉. alloc1 ! (λ l₁₀. alloc1 ! (λ l₁₁. alloc1 ! (λ l₁₂. alloc1 ! (λ l₁₃. alloc1 ! (λ l₁₄. alloc1 ! (λ l₁₅. alloc1 ! (λ l₁₆.
           alloc1 ! (λ l₁₇. alloc1 ! (λ l₁₈. alloc1 ! (λ l₁₉. alloc1 ! (λ l₂₀. alloc1 ! (λ l₂₁. alloc1 ! (λ l₂₂. alloc1 ! (λ l₂₃. alloc1 ! (λ l₂₄.
@@ -607,7 +607,7 @@ module _ {M : Type 1} {𝓤 : Ura M} (𝓛 : Logic 𝓤) (mem : Memory → SProp
           pass1 ! (init ! 60 refl (tt, (tt, (record { fits = room₀.0 }, tt)))) $ pass1 ! (init ! 58 refl (tt, (tt, (record { fits = room₁.0 }, tt)))) $
           pass1 ! (init ! 56 refl (tt, (tt, (record { fits = room₂.0 }, tt)))) $ pass1 ! (init ! 54 refl (tt, (tt, (record { fits = room₃.0 }, tt)))) $
           pass1 ! (init ! 52 refl (tt, (tt, (record { fits = room₄.0 }, tt)))) $
-          pass1 ! (init ! 50 refl ((LL.lawful Q.the_type Q'.the_laws 𝓛).typed m _ m-is).0) $ pass0 ! $
+          pass1 ! (init ! 50 refl ((EL.lawful D.the_type D'.the_laws 𝓛 tt).typed m _ m-is).0) $ pass0 ! $
           -- What the parameters own, and the tokens, one by one.
           move ! (65 ∷ []) $ fsplit ! $ move ! (1 ∷ []) $ fsplit ! $ move ! (1 ∷ []) $ fsplit ! $ move ! (1 ∷ []) $ fsplit ! $ move ! (1 ∷ []) $ fsplit ! $
           move ! (1 ∷ []) $ fsplit ! $ move ! (1 ∷ []) $ drop ! $ drop ! $ move ! (69 ∷ []) $ split ! $ move ! (1 ∷ []) $ split ! $ move ! (1 ∷ []) $ split ! $
@@ -628,7 +628,7 @@ module _ {M : Type 1} {𝓤 : Ura M} (𝓛 : Logic 𝓤) (mem : Memory → SProp
               Goes-gave_slice 𝓛 5 3 tt (plain (λ _. T.the_row)),
               (
                 Goes-gave_slice 𝓛 5 4 tt (plain (λ _. u8)),
-                (Goes-none 𝓛 5 (λ _. Q.the_row) yes (λ κs x f. refl), tt),
+                (Goes-none 𝓛 5 (λ _. D.the_row) yes (λ κs x f. refl), tt),
               ),
             ),
           ),
@@ -636,7 +636,7 @@ module _ {M : Type 1} {𝓤 : Ura M} (𝓛 : Logic 𝓤) (mem : Memory → SProp
       ) (this.clauses 𝓛 mem run)
       (WpFn 𝓤 H 𝓣.C 𝓣.Λ code.function) (WpFn-mono 𝓤 H 𝓛.laws 𝓣 code.function)
       (walked 𝓛 this.ended stayed (this.clauses 𝓛 mem run) (WpFn 𝓤 H 𝓣.C 𝓣.Λ code.function)
-      (λ κs. (shr_slice_vals, (shr_slice_vals, (shr_slice_vals, (shr_slice_vals, (shr_slice_vals, (LL.vals Q.the_type Q'.the_laws, tt)))))))
+      (λ κs. (shr_slice_vals, (shr_slice_vals, (shr_slice_vals, (shr_slice_vals, (shr_slice_vals, (EL.vals D.the_type D'.the_laws, tt)))))))
       (λ κs. (
         shr_slice_Tells (named 0) κs.0 u8,
         (
@@ -645,7 +645,7 @@ module _ {M : Type 1} {𝓤 : Ura M} (𝓛 : Logic 𝓤) (mem : Memory → SProp
             mut_slice_Tells (named 2) κs.1.1.0 u32,
             (
               mut_slice_Tells (named 3) κs.1.1.1.0 T.the_row,
-              (mut_slice_Tells (named 4) κs.1.1.1.1.0 u8, (LL.tells Q.the_type Q'.the_laws, tt)),
+              (mut_slice_Tells (named 4) κs.1.1.1.1.0 u8, (EL.tells D.the_type D'.the_laws, tt)),
             ),
           ),
         ),

@@ -60,7 +60,7 @@ use Rattle.session_state.proofs.checkpoints.Checkpoint.TheLaws as T'
 use Rattle.session_state.proofs.checkpoints.Rows.{byte_fits, the_vals, the_tells, the_typed, after}
 use Rattle.session_state.specs.declared.progress.Progress.{Progress}
 use Rattle.session_state.specs.declared.progress.StepAnswer.{StepAnswer}
-use Rattle.session_state.specs.State.{output_most, the_file}
+use Rattle.session_state.specs.State.{the_file}
 use Rattle.session_state.specs.Steps.{Ready}
 use Rattle.session_state.specs.contracts.progress.Progress as S
 use Rattle.session_state.proofs.progress.Progress.TheLaws as S'
@@ -356,8 +356,8 @@ module _ {M : Type 1} {𝓤 : Ura M} (𝓛 : Logic 𝓤) (mem : Memory → SProp
               ∷ ‵ ((ShrSlice (named 4) κ₄ u8).own_val x₄ (v₄ ∷ [])) ∷ ‵ (flft κ₄ q₄) ∷ []
 
           goes_step : (ν₁ ν₂ ν₃ : ℕ) (δ₁ δ₂ δ₃ : GName) (k : ℕ) (c-is : Is T.the_row (rec k) (mach-c (rec k) ∷ []))
-              (rd : Ready file (the_file m.progress.rules file) m.work m.words (take (output_most m.progress.rules) m.out) m.progress
-              (rec k)) → ent 𝓤 (⋆ 𝓛 (passed-step ν₁ ν₂ ν₃ δ₁ δ₂ δ₃ k)) (StepOf.pre (to_step ν₁ ν₂ ν₃ δ₁ δ₂ δ₃ k))
+              (rd : Ready file (the_file file) m.work m.words (take 65535 m.out) m.progress (rec k)) → ent 𝓤
+              (⋆ 𝓛 (passed-step ν₁ ν₂ ν₃ δ₁ δ₂ δ₃ k)) (StepOf.pre (to_step ν₁ ν₂ ν₃ δ₁ δ₂ δ₃ k))
           goes_step ν₁ ν₂ ν₃ δ₁ δ₂ δ₃ k c-is rd =
               qed 𝓛 (passed-step ν₁ ν₂ ν₃ δ₁ δ₂ δ₃ k) ∵ says ! rd $
               -- What the parameters own; and the tokens.
