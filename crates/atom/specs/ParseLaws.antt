@@ -4,8 +4,8 @@ use Rattle.std.specs.Prelude.{ℕ, suc, ◌+◌, ◌-◌, ◌^◌, ◌≤◌, �
 use Rattle.std.proofs.Common.{sym, ◌∙◌, arith, drop_of_length-le}
 use Rattle.std.proofs.Math.Path.{ap}
 use mathlib.Core.List.{List, [], ◌∷◌}
-use Rattle.std.proofs.Math.ListN.{length_drop}
-use Rattle.std.proofs.Math.Seq.{drop_cons}
+use Rattle.std.proofs.Math.ListN.{length-drop}
+use Rattle.std.proofs.Math.Seq.{drop-cons}
 use borrow.Author.Tests.{lt-ltb, le-ltb, le-leb, lt-leb, eq-eqb, ne_eqb}
 use Rattle.words.specs.BigEndian.{number}
 use Rattle.words.specs.Words.{part}
@@ -31,10 +31,10 @@ module _ (s : List ℕ) (p w : ℕ) where
   one_missing h = ap (one_byte w) (drop_of_length-le s h)
 
   pub one_single : p < length s → get_or s p 0 < 0x80 → one_byte w (drop p s) ≡ bad_size 15
-  one_single h l = ap (one_byte w) (drop_cons s p 0 h) ∙ cond_true _ _ _ (lt-ltb _ _ l)
+  one_single h l = ap (one_byte w) (drop-cons s p 0 h) ∙ cond_true _ _ _ (lt-ltb _ _ l)
 
   pub one_right : p < length s → 0x80 ≤ get_or s p 0 → one_byte w (drop p s) ≡ sized w 1
-  one_right h l = ap (one_byte w) (drop_cons s p 0 h) ∙ cond_false _ _ _ (le-ltb _ _ l)
+  one_right h l = ap (one_byte w) (drop-cons s p 0 h) ∙ cond_false _ _ _ (le-ltb _ _ l)
 
 -- ---- a prefix of w bytes that carries n
 
@@ -95,12 +95,12 @@ module _ (input : List ℕ) (p : ℕ) where
   module _ (h : p < length input) where
     pub at_single : get_or input p 0 < 0x80 → parse_at input p ≡ blob (p + 0) (p + 1)
     unfolding parse_at
-    at_single l = rw (drop_cons input p 0 h) (ap (moved_by p) (parse_single (get_or input p 0) (drop (suc p) input) l))
+    at_single l = rw (drop-cons input p 0 h) (ap (moved_by p) (parse_single (get_or input p 0) (drop (suc p) input) l))
 
     pub at_prefixed : 0x80 ≤ get_or input p 0 → parse_at input p ≡ moved_by p (whole (decode_size (drop p input)) (length input - p))
     unfolding parse_at
     at_prefixed l =
-        rw (← length_drop p input, drop_cons input p 0 h) (ap (moved_by p) (parse_prefixed (get_or input p 0) (drop (suc p) input) l))
+        rw (← length-drop p input, drop-cons input p 0 h) (ap (moved_by p) (parse_prefixed (get_or input p 0) (drop (suc p) input) l))
 
 -- ---- the part that an atom is
 

@@ -3,13 +3,13 @@
 use Prim.Native.Nat.{ℕ, zero, suc, ◌+◌, ◌-◌, ◌*◌, ◌/◌, ◌%◌, ◌^◌, ◌≤◌, ◌<◌}
 use Rattle.std.specs.Prelude.{◌≡◌, Bool, true, false, length, get_or, drop}
 use Rattle.std.proofs.Math.Path.{refl, ap}
-use Rattle.std.proofs.Common.{sym, subst, ◌∙◌, arith, zero-add, add-mul, mul-le-mul_right, pow-suc, div-one, div-lt_iff_lt-mul, mod-eq_of_lt, take_at, drop_at, take-add, length_append, pow_mono, pow_pos, lt-ltb, le-ltb, ltb-true}
+use Rattle.std.proofs.Common.{sym, subst, ◌∙◌, arith, zero-add, add-mul, mul-le-mul_right, pow-suc, div-one, div-lt_iff_lt-mul, mod-eq_of_lt, take_at, drop_at, take-add, length-append, pow_mono, pow_pos, lt-ltb, le-ltb, ltb-true}
 use mathlib.Core.List.{List, [], ◌∷◌, ◌++◌, append_assoc}
 use Rattle.std.proofs.Math.Option.{Option, none, some, none-ne-some, some-injective}
 use Rattle.std.proofs.Math.Nat.{pow-succ', one-le-pow, div-div-eq-div-mul, mul-add-div_right}
 use Rattle.std.proofs.Math.Decide.{ℕ_discrete}
-use Rattle.std.proofs.Math.Seq.{length_take_le}
-use Rattle.std.proofs.Math.ListN.{take, length_drop, get_or_append}
+use Rattle.std.proofs.Math.Seq.{length-take-le}
+use Rattle.std.proofs.Math.ListN.{take, length-drop, get_or-append}
 use Rattle.words.specs.Choice.{by_lt, cond_true, cond_false, clash}
 use Rattle.words.specs.Lists.{Bytes, all_take}
 use Rattle.words.specs.Words.{tabulate}
@@ -82,7 +82,7 @@ first_byte : (k n : ℕ) → get_or (big_endian (suc k) n) 0 0 ≡ n / 256 ^ k %
 first_byte zero n = unfold big_endian in ap (λ (x : ℕ). x % 256) (sym (div-one n))
 first_byte (suc k) n =
     ap (λ (l : List ℕ). get_or l 0 0) split
-    ∙ get_or_append (big_endian (suc k) (n / 256)) (n % 256 ∷ []) 0 0 (omega (arith, length_big_endian (suc k) (n / 256)))
+    ∙ get_or-append (big_endian (suc k) (n / 256)) (n % 256 ∷ []) 0 0 (omega (arith, length_big_endian (suc k) (n / 256)))
     ∙ first_byte k (n / 256) ∙ ap (λ (x : ℕ). x % 256) (div-div-eq-div-mul n 256 (256 ^ k) ∙ ap (λ (x : ℕ). n / x) (sym (pow-succ' 256 k)))
   where
     split : big_endian (suc (suc k)) n ≡ big_endian (suc k) (n / 256) ++ n % 256 ∷ []
@@ -160,10 +160,10 @@ module _ (atom rest : List ℕ) (w : ℕ) (other : single atom ≡ false) (c : C
   pre_length = length_big_endian w (mark w + length atom)
 
   s_length : length s ≡ w + length atom + length rest
-  s_length = simp length_append (omega (arith, pre_length))
+  s_length = simp length-append (omega (arith, pre_length))
 
   first : get_or s 0 0 ≡ get_or pre 0 0
-  first = ap (λ (l : List ℕ). get_or l 0 0) tail ∙ get_or_append pre (atom ++ rest) 0 0 (omega (arith, pre_length, c.one))
+  first = ap (λ (l : List ℕ). get_or l 0 0) tail ∙ get_or-append pre (atom ++ rest) 0 0 (omega (arith, pre_length, c.one))
 
   ones_first : ones 8 (get_or s 0 0) ≡ w
   ones_first =
@@ -213,7 +213,7 @@ reads_at : (pre atom rest : List ℕ) → parse (pre ++ atom ++ rest) ≡ blob (
 reads_at pre atom rest e =
     record {
       start = length pre;
-      parsed_is = e ∙ ap (blob (length pre)) (sym (length_append pre atom));
+      parsed_is = e ∙ ap (blob (length pre)) (sym (length-append pre atom));
       blob_is = whole_part;
     }
   where
@@ -221,10 +221,10 @@ reads_at pre atom rest e =
     s = pre ++ atom ++ rest
 
     long : length (pre ++ atom) ≡ length pre + length atom
-    long = length_append pre atom
+    long = length-append pre atom
 
     fits : length (pre ++ atom) ≤ length s
-    fits = simp length_append (omega arith)
+    fits = simp length-append (omega arith)
 
     size : length (pre ++ atom) - length pre ≡ length atom
     size = omega (arith, long)
@@ -336,7 +336,7 @@ module _ (b : ℕ) (bs : List ℕ) (byte : b < 256) (bytes : Bytes bs) (big : 0x
 
   X_length : length X ≡ w - 1
   unfolding X
-  X_length = length_take_le (w - 1) bs (omega arith)
+  X_length = length-take-le (w - 1) bs (omega arith)
 
   X_bytes : Bytes X
   unfolding X
@@ -357,11 +357,11 @@ module _ (b : ℕ) (bs : List ℕ) (byte : b < 256) (bytes : Bytes bs) (big : 0x
 
   atom_length : length atom ≡ n
   unfolding atom
-  atom_length = length_take_le n (drop w all) (simp length_drop (omega arith))
+  atom_length = length-take-le n (drop w all) (simp length-drop (omega arith))
 
   not_alone : single atom ≡ false
   unfolding atom
-  not_alone = not_single n (drop w all) (simp length_drop (omega arith)) (subst (λ (k : ℕ). NotSingle n (drop k all)) ones_are acc.not_single)
+  not_alone = not_single n (drop w all) (simp length-drop (omega arith)) (subst (λ (k : ℕ). NotSingle n (drop k all)) ones_are acc.not_single)
 
   shortest : prefix_width atom ≡ some w
   shortest =
@@ -370,7 +370,7 @@ module _ (b : ℕ) (bs : List ℕ) (byte : b < 256) (bytes : Bytes bs) (big : 0x
 
   same_prefix : prefix w n ≡ take w all
   same_prefix =
-      let long : length (take w all) ≡ w = length_take_le w all (omega arith) in
+      let long : length (take w all) ≡ w = length-take-le w all (omega arith) in
       let e : mark w + n ≡ number (take w all) = omega (arith, carries, front_number, above b X w n byte X_bytes ones_are one five X_length) in
       ap (big_endian w) e ∙ ap (λ (k : ℕ). big_endian k (number (take w all))) (sym long)
       ∙ big_endian_number (take w all) (all_take (λ (x : ℕ). x < 256) w all (byte, bytes))

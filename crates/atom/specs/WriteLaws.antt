@@ -1,7 +1,7 @@
 -- Laws of writing: an equation for each way in which an atom is written.
 -- Assumes nothing.
 use Rattle.std.specs.Prelude.{ℕ, ◌+◌, ◌-◌, ◌*◌, ◌^◌, ◌≤◌, ◌<◌, ◌≡◌, refl, true, false, List, ◌++◌, length, take, drop}
-use Rattle.std.proofs.Common.{sym, ◌∙◌, append_assoc, arith, mul_le_mul, add_assoc, length_append, take_all, drop-drop, lt-ltb, le-ltb}
+use Rattle.std.proofs.Common.{sym, ◌∙◌, append_assoc, arith, mul-le-mul, add_assoc, length-append, take_all, drop-drop, lt-ltb, le-ltb}
 use Rattle.std.proofs.Math.Path.{ap}
 use Rattle.std.proofs.Math.Option.{Option, none, some}
 use Rattle.std.proofs.Math.Nat.{pow-le-pow_right}
@@ -40,7 +40,7 @@ module _ (atom : List ℕ) (w : ℕ) (e : prefix_width atom ≡ some w) where
   encode_some = ap (λ (o : Option ℕ). with_prefix o atom) e
 
   pub length_encoded : length (prefix w (length atom) ++ atom) ≡ w + length atom
-  length_encoded = simp length_append (omega (arith, length_big_endian w (mark w + length atom)))
+  length_encoded = simp length-append (omega (arith, length_big_endian w (mark w + length atom)))
 
   pub length_some : serialized_length atom ≡ w + length atom
   unfolding serialized_length
@@ -90,7 +90,7 @@ paste_paste out p a b h =
     ∙ ap (λ (x : List ℕ). take p out ++ a ++ x) (take-length b) ∙ append_assoc (take p out) a b ∙ ap (λ (x : List ℕ). take p out ++ x) (sym all))
   where
     all : take (length a + length b) (a ++ b) ≡ a ++ b
-    all = take_all (length a + length b) (a ++ b) (simp length_append (omega arith))
+    all = take_all (length a + length b) (a ++ b) (simp length-append (omega arith))
 
     place : p + length a + length b ≡ p + (length a + length b)
     place = add_assoc p (length a) (length b)
@@ -103,7 +103,7 @@ paste_paste out p a b h =
 -- The leading ones of a prefix, as a number, have at most 40 bits.
 pub mark_bound : (w : ℕ) → w ≤ 5 → mark w ≤ 256 * 256 ^ 5
 mark_bound w h =
-    mul_le_mul {n₁ = 256 - 2 ^ (8 - w)} {m₁ = 256 ^ (w - 1)} {n₂ = 256} {m₂ = 256 ^ 5} (omega arith) (pow-le-pow_right {n = 256} (omega arith) {i = w - 1} {j = 5} (omega arith))
+    mul-le-mul {n₁ = 256 - 2 ^ (8 - w)} {m₁ = 256 ^ (w - 1)} {n₂ = 256} {m₂ = 256 ^ 5} (omega arith) (pow-le-pow_right {n = 256} (omega arith) {i = w - 1} {j = 5} (omega arith))
 
 -- An atom with its prefix, written one after the other.
 pub put_prefixed : (out : List ℕ) (p : ℕ) (atom : List ℕ) (w : ℕ) (out₁ out₂ : List ℕ) → prefix_width atom ≡ some w → p + (w + length atom) ≤ length out

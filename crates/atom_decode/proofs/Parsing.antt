@@ -7,7 +7,7 @@ use mathlib.Core.List.{List}
 use native.Mathlib.Omega.{arith}
 use native.Mathlib.Nat.{add_assoc}
 use lib.Dec.{ltb}
-use lib.ListN.{length, get_or, drop, length_drop}
+use lib.ListN.{length, get_or, drop, length-drop}
 use borrow.Author.Tests.{lt-ltb, le-ltb}
 use Rattle.words.specs.Choice.{cond_true, cond_false, by_lt}
 use Rattle.atom.specs.Parse.{ones, Size, sized, bad_size, decode_size, whole, moved_by, parse_at, blob, refused}
@@ -22,7 +22,7 @@ module _ (input : List ℕ) (p : ℕ) (h : p < length input) (big : 0x80 ≤ get
     pub parsed_there : p + w ≤ length input
     parsed_there =
         let a = accepted (ones 8 (get_or (drop p input) 0 0)) (drop p input) w n e in
-        omega (arith, a.there, a.offset_is, length_drop p input)
+        omega (arith, a.there, a.offset_is, length-drop p input)
 
     pub parsed_sized : cond (ltb (length input) (p + w + n)) (refused 14) (blob (p + w) (p + w + n)) ≡ parse_at input p
     parsed_sized = sym (at_prefixed input p h big ∙ ap (λ (z : Size). moved_by p (whole z (length input - p))) e ∙ by_lt (length input) (p + w + n) short long)

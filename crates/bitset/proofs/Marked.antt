@@ -10,7 +10,7 @@ use native.Mathlib.Decide.{ℕ_discrete, dec_lt}
 use lib.Bits.{bit_or, or_shr, or_mod, or_zero_l, or_zero_r, or_self, shifted_even}
 use lib.Pow.{pow-lt, pow-add, shl_exact, shl-shr}
 use lib.Dec.{eqb}
-use lib.ListN.{length, get_or, set, length_set}
+use lib.ListN.{length, get_or, set, length-set}
 use lib.Seq.{ext_get_or, get_or-set_same, get_or-set_other}
 use Rattle.path.specs.Bytes.{odd}
 use Rattle.bitset.specs.BitSet.{bits_of}
@@ -42,9 +42,9 @@ pub marked : (w : List ℕ) (i : ℕ) → i < 32 * length w
     → bits_of (set w (i / 32) (bit_or (get_or w (i / 32) 0) (1 * 2 ^ (i % 32) % 2 ^ 32))) ≡ set (bits_of w) i true
 marked w i h =
     rw one
-    (ext_get_or false _ _ (longer ∙ sym (length_bits_of w) ∙ sym (length_set (bits_of w) i true))
+    (ext_get_or false _ _ (longer ∙ sym (length_bits_of w) ∙ sym (length-set (bits_of w) i true))
     (λ j l. let p : j < 32 * length w = omega (arith, longer) in
-    bits_of_at w' j (omega (arith, length_set w (i / 32) (bit_or x (2 ^ (i % 32))))) ∙ go j p (ℕ_discrete j i)))
+    bits_of_at w' j (omega (arith, length-set w (i / 32) (bit_or x (2 ^ (i % 32))))) ∙ go j p (ℕ_discrete j i)))
   where
     one : 1 * 2 ^ (i % 32) % 2 ^ 32 ≡ 2 ^ (i % 32)
     one = shl_exact 1 (i % 32) 32 (omega arith) (omega arith) ∙ one-mul (2 ^ (i % 32))
@@ -56,7 +56,7 @@ marked w i h =
     w' = set w (i / 32) (bit_or x (2 ^ (i % 32)))
 
     longer : length (bits_of w') ≡ 32 * length w
-    longer = length_bits_of w' ∙ ap (λ (n : ℕ). 32 * n) (length_set w (i / 32) (bit_or x (2 ^ (i % 32))))
+    longer = length_bits_of w' ∙ ap (λ (n : ℕ). 32 * n) (length-set w (i / 32) (bit_or x (2 ^ (i % 32))))
 
     word : get_or w' (i / 32) 0 ≡ bit_or x (2 ^ (i % 32))
     word = get_or-set_same w (i / 32) (bit_or x (2 ^ (i % 32))) 0 (omega arith)

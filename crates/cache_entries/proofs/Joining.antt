@@ -9,7 +9,7 @@ use native.Mathlib.Omega.{arith}
 use native.Mathlib.Numerals.{add-one}
 use native.Mathlib.Decide.{ℕ_discrete}
 use lib.Dec.{eqb}
-use lib.ListN.{length, set, length_set}
+use lib.ListN.{length, set, length-set}
 use lib.Seq.{get_or-set_same, get_or-set_other}
 use borrow.Author.Tests.{ne_eqb}
 use Rattle.words.specs.Words.{at}
@@ -78,7 +78,7 @@ module _ {w w₁ w₂ w₃ : List ℕ} (i : ℕ) {l r x : ℕ} (wh : Whole w) (n
 
   len : length w₄ ≡ length w₃
   unfolding w₄
-  len = length_set w₃ (MAPS + i) (x + 1)
+  len = length-set w₃ (MAPS + i) (x + 1)
 
   other : (k : ℕ) → (k ≡ MAPS + i → ⊥) → at w₄ k ≡ at w₃ k
   unfolding w₄

@@ -4,7 +4,7 @@ use Prim.Native.Nat.{ℕ, zero, suc, ◌+◌, ◌<◌}
 use mathlib.Core.Path.{◌≡◌, refl, sym, ap, ◌∙◌}
 use mathlib.Core.Bool.{Bool}
 use mathlib.Core.List.{List, [], ◌∷◌, ◌++◌, map}
-use lib.ListN.{length, get_or, get_or_append}
+use lib.ListN.{length, get_or, get_or-append}
 use Rattle.words.specs.Words.{at}
 use Rattle.words.proofs.Words.{length_tabulate, get_d_tabulate}
 use Rattle.spec_session.specs.File.{File}
@@ -71,4 +71,4 @@ getD_end [] x = refl
 getD_end (y ∷ xs) x = getD_end xs x
 
 pub getD_before : (xs : List Row) (x : Row) (e : ℕ) → e < length xs → get_or (xs ++ x ∷ []) e no_row ≡ get_or xs e no_row
-getD_before xs x e h = get_or_append xs (x ∷ []) no_row e h
+getD_before xs x e h = get_or-append xs (x ∷ []) no_row e h

@@ -5,7 +5,7 @@ use mathlib.Core.Path.{◌≡◌, refl, sym, ap, ◌∙◌, subst}
 use mathlib.Core.List.{List, [], ◌∷◌, ◌++◌, map}
 use mathlib.Core.Option.{Option, none, some}
 use native.Mathlib.Omega.{arith}
-use lib.ListN.{length, get_or, length_append, length_map}
+use lib.ListN.{length, get_or, length-append, length-map}
 use Rattle.words.specs.Choice.{by_lt}
 use Rattle.words.specs.Words.{at}
 use Rattle.words.proofs.Words.{map_append}
@@ -92,7 +92,7 @@ module _ (w w' : List ℕ) (l r n x : ℕ) (i : Interned w w' l r n x) (wh : Who
       go none q =
           let rows : rows_of w' ≡ rows_of w ++ new_row l r n ∷ [] = ap (λ z. z.0) q in
           let len = length_rows w in
-          let u : at w' USED ≡ suc (at w USED) = sym (length_rows w') ∙ ap length rows ∙ simp length_append (omega (arith, length_rows w)) in
+          let u : at w' USED ≡ suc (at w USED) = sym (length_rows w') ∙ ap length rows ∙ simp length-append (omega (arith, length_rows w)) in
           by_lt e (at w USED)
           (λ h'. old h' (ap (λ (xs : List Row). get_or xs e no_row) rows ∙ getD_before (rows_of w) (new_row l r n) e (omega arith)))
           (λ h'.
@@ -146,7 +146,7 @@ module _ (w w' : List ℕ) (l r n x : ℕ) (i : Interned w w' l r n x) (wh : Who
           record {
             holds = subst (λ (z : Cache × ℕ). Holds f w' z.0) (sym (act none e)) ho';
             answer =
-                ap (λ (z : List Row × ℕ). z.1) q ∙ sym (length_map (rows_of w) (entry_of f)) ∙ ap length (sym ho.entries)
+                ap (λ (z : List Row × ℕ). z.1) q ∙ sym (length-map (rows_of w) (entry_of f)) ∙ ap length (sym ho.entries)
                 ∙ ap (λ (z : Cache × ℕ). z.1) (sym (act none e));
           }
 

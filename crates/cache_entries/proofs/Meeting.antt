@@ -6,7 +6,7 @@ use mathlib.Core.List.{List, [], ◌∷◌, map}
 use mathlib.Core.Option.{Option, none, some}
 use native.Mathlib.Omega.{arith}
 use native.Mathlib.Numerals.{add-one}
-use lib.ListN.{length, set, length_set}
+use lib.ListN.{length, set, length-set}
 use lib.Seq.{get_or-set_same, get_or-set_other}
 use Rattle.words.specs.Words.{at}
 use Rattle.spec_session.specs.File.{File}
@@ -60,7 +60,7 @@ module _ (w w₁ : List ℕ) (x : ℕ) (wh : Whole w) (ins : Inserted w w₁ SEN
 
   len : length w₂ ≡ length w₁
   unfolding w₂
-  len = length_set w₁ SENTINEL_ENTRY (x + 1)
+  len = length-set w₁ SENTINEL_ENTRY (x + 1)
 
   other : (k : ℕ) → (k ≡ SENTINEL_ENTRY → ⊥) → at w₂ k ≡ at w₁ k
   unfolding w₂

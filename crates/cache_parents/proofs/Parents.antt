@@ -7,7 +7,7 @@ use mathlib.Core.List.{List, [], ◌∷◌, ◌++◌}
 use native.Mathlib.Omega.{arith}
 use native.Mathlib.Decide.{ℕ_discrete}
 use lib.Dec.{ltb}
-use lib.ListN.{length, set, length_set}
+use lib.ListN.{length, set, length-set}
 use lib.Seq.{get_or-set_same, get_or-set_other}
 use borrow.Author.Tests.{lt-ltb, le-ltb}
 use Rattle.words.specs.Words.{at, tabulate, WORK}
@@ -95,7 +95,7 @@ module _ (w w₁ : List ℕ) (e p link n i : ℕ) (t : Bool) (s : Sound w) (h : 
 
       r : RowOnly w w₂ e
       r = record {
-        len = simp length_set a.len;
+        len = simp length-set a.len;
         same = λ k x y z. get_or-set_other w₁ (COUNTS + e) k (n + 1) 0 z ∙ a.low k y;
         others = λ d j x y z. link₂ d j x y ∙ a.others d j x (λ u v. z u);
         high = λ k x. get_or-set_other w₁ (COUNTS + e) k (n + 1) 0 (omega (arith, e_low)) ∙ a.high k x;

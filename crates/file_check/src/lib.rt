@@ -4,7 +4,7 @@ mod file_handles;
 
 ghost use Rattle.std.specs.Prelude.{◌≡◌, ◌≤◌, length, take, drop};
 ghost use Rattle.words.specs.Lists.{same};
-ghost use Rattle.spec_session.specs.File.{version_1, mark, after_mark as what-follows, file as whole_file};
+ghost use Rattle.spec_session.specs.File.{version_1, mark, after_mark as what_follows, file as whole_file};
 ghost use Rattle.file_parts.specs.Checked.{Checks, turned_down};
 
 use file_parts::Checked;
@@ -42,7 +42,7 @@ fn has_mark(file: &[u8]) -> bool
 // The file after its mark.
 fn after_mark(file: &[u8]) -> Checked
     requires { (5 ≤ length file.now) × (length file.now ≤ 65535) }
-    ensures { Checks file.now result (what-follows version_1 (drop 5 file.now)) }
+    ensures { Checks file.now result (what_follows version_1 (drop 5 file.now)) }
 {
     let atoms = file_atoms::count(file, 5, ATOMS);
     if atoms.number != 0 {

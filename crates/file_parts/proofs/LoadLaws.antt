@@ -9,8 +9,8 @@ use native.Mathlib.Omega.{arith}
 use native.Mathlib.Numerals.{add-one}
 use native.Mathlib.Nat.{le_antisymm}
 use lib.Dec.{eqb}
-use lib.ListN.{length, get_or, take, drop, set, length_set}
-use lib.Seq.{drop_cons, get_or-set_same, get_or-set_other, drop_at}
+use lib.ListN.{length, get_or, take, drop, set, length-set}
+use lib.Seq.{drop-cons, get_or-set_same, get_or-set_other, drop_at}
 use borrow.Author.Tests.{ne_eqb}
 use Rattle.words.specs.Choice.{by_cond, cond_false, by_lt}
 use Rattle.words.specs.Words.{at, part}
@@ -31,7 +31,7 @@ module _ (w : List ℕ) (i x y : ℕ) (room : 2 * i + 1 < length w) where
   two_first = get_or-set_other (set w (2 * i) x) (2 * i + 1) (2 * i) y 0 (λ e. omega arith) ∙ get_or-set_same w (2 * i) x 0 (omega arith)
 
   two_second : at (two w i x y) (2 * i + 1) ≡ y
-  two_second = get_or-set_same (set w (2 * i) x) (2 * i + 1) y 0 (simp length_set room)
+  two_second = get_or-set_same (set w (2 * i) x) (2 * i + 1) y 0 (simp length-set room)
 
   two_other : (k : ℕ) → (k ≡ 2 * i → ⊥) → (k ≡ 2 * i + 1 → ⊥) → at (two w i x y) k ≡ at w k
   two_other k p q = get_or-set_other (set w (2 * i) x) (2 * i + 1) k y 0 q ∙ get_or-set_other w (2 * i) k x 0 p
@@ -77,7 +77,7 @@ module _ {input : List ℕ} {count : ℕ} {w w' : List ℕ} {place i : ℕ} (s :
 
   module _ (h : i < count) where
     next_atom : AtomsAt input place (get_or s.xs i [] ∷ drop (suc i) s.xs)
-    next_atom = subst (AtomsAt input place) (drop_cons s.xs i [] (omega (arith, s.long))) s.left
+    next_atom = subst (AtomsAt input place) (drop-cons s.xs i [] (omega (arith, s.long))) s.left
 
     pub atom_room : place + 2 ≤ length input
     atom_room = omega (arith, next_atom.0)
@@ -168,7 +168,7 @@ module _ {input : List ℕ} {from count : ℕ} {w w' : List ℕ} {place i : ℕ}
 
   module _ (h : i < count) where
     next_pair : PairsAt input place (pair_of s.ps i ∷ drop (suc i) s.ps)
-    next_pair = subst (PairsAt input place) (drop_cons s.ps i (record { left = 0; right = 0 }) (omega (arith, s.long))) s.left_over
+    next_pair = subst (PairsAt input place) (drop-cons s.ps i (record { left = 0; right = 0 }) (omega (arith, s.long))) s.left_over
 
     pub pair_room : place + 8 ≤ length input
     pair_room = next_pair.0

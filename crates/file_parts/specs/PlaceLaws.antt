@@ -3,7 +3,7 @@
 use Prim.Native.Nat.{ℕ, zero, suc, ◌+◌, ◌-◌, ◌≤◌, ◌<◌}
 use Rattle.std.specs.Prelude.{◌≡◌, List, [], ◌∷◌, ◌++◌, leb, drop}
 use Rattle.std.proofs.Math.Path.{refl, sym, ap, subst}
-use Rattle.std.proofs.Common.{◌∙◌, append-nil, append_assoc, arith, add-one, length_append, drop_of_length-le, drop_cons, drop_at}
+use Rattle.std.proofs.Common.{◌∙◌, append-nil, append_assoc, arith, add-one, length-append, drop_of_length-le, drop-cons, drop_at}
 use Rattle.std.proofs.Math.Option.{Option}
 use Rattle.std.proofs.Math.ListN.{length}
 use Rattle.words.specs.Choice.{by_lt}
@@ -18,7 +18,7 @@ onward : {A : Type 0} (done : List A) (x : A) (more xs : List A) → xs ≡ (don
 onward done x more xs e = e ∙ append_assoc done (x ∷ []) more
 
 one_longer : {A : Type 0} (done : List A) (x : A) → length (done ++ x ∷ []) ≡ suc (length done)
-one_longer done x = length_append done (x ∷ []) ∙ add-one (length done)
+one_longer done x = length-append done (x ∷ []) ∙ add-one (length done)
 
 pub size_low : (x : Step) → 1 ≤ step_size x
 size_low (add h) = omega arith
@@ -95,7 +95,7 @@ module _ (input : List ℕ) where
   more_left : (n a p most : ℕ) (done : List Step) (at : ℕ) → at < length input
       → and_then (one_step a p (length done) most (drop at input)) (λ s r. steps n a p most (done ++ s ∷ []) r) ≡ steps (suc n) a p most done (drop at input)
   unfolding steps
-  more_left n a p most done at l = rw (drop_cons input at 0 l) refl
+  more_left n a p most done at l = rw (drop-cons input at 0 l) refl
 
   one : (a p most at : ℕ) (done xs : List Step) (r : List ℕ) (s : Step) → StepIs input at s → StepNamed a p s
       → StepsRead a p most (at + step_size s) (done ++ s ∷ []) xs → StepsRead a p most at done xs

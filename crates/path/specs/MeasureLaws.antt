@@ -2,7 +2,7 @@
 -- 8,191 bytes and of 1,048,576 to 16,777,215.
 -- Assumes nothing.
 use Rattle.std.specs.Prelude.{ℕ, ◌+◌, ◌/◌, ◌%◌, ◌^◌, ◌≤◌, ◌<◌, ◌≡◌, refl, Bool, true, false, cond, ◌&&◌, List, [], ◌∷◌, ◌++◌, eqb, ltb, leb, length, get_or}
-use Rattle.std.proofs.Common.{sym, ap, ◌∙◌, arith, length_append, eq-eqb, ne_eqb, le-leb, lt-ltb, le-ltb}
+use Rattle.std.proofs.Common.{sym, ap, ◌∙◌, arith, length-append, eq-eqb, ne_eqb, le-leb, lt-ltb, le-ltb}
 use Rattle.std.proofs.Math.Option.{Option, some}
 use Rattle.std.proofs.Math.Decide.{ℕ_discrete}
 use Rattle.std.proofs.lemmas.Bool.{lt-leb}
@@ -86,7 +86,7 @@ module _ (s : List Bool) where
   full = eqb (length bits % 8) 0 && leb 80 first
 
   bits_length : length bits ≡ length s + 1
-  bits_length = length_append s (true ∷ [])
+  bits_length = length-append s (true ∷ [])
 
   bytes_length : n ≡ (length s + 8) / 8
   bytes_length = omega (arith, length_path_bytes bits, bits_length)

@@ -9,7 +9,7 @@ use native.Mathlib.Nat.{pow-succ', mul_assoc, add-mul, mul-mod_left}
 use native.Mathlib.Numerals.{add-one}
 use native.Mathlib.Decide.{ℕ_discrete}
 use borrow.Author.Tests.{eq-eqb, ne_eqb}
-use lib.ListN.{length, get_or, take, drop, set, length_set}
+use lib.ListN.{length, get_or, take, drop, set, length-set}
 use lib.Seq.{take-suc, take-suc-set, drop-set-lt}
 use lib.Pow.{shl-shr, shl_lt, shr_lt, split}
 use Rattle.words.specs.Lists.{Bytes, all_at}
@@ -113,7 +113,7 @@ module _ (s : List ℕ) (p : PathBuilder) (b : Bool) (sound : Sound s p) (room :
         let within : p.in_use < length s = omega (arith, next_within) in
         grown s s' p p' b p.in_use 7 0 (omega arith) (omega arith) refl
         within
-        (ap length stored ∙ length_set s p.in_use (bit b * 2 ^ 7))
+        (ap length stored ∙ length-set s p.in_use (bit b * 2 ^ 7))
         (omega (arith, length_built s p sound, room.count))
         (ap (take (suc p.in_use)) stored ∙ take-suc-set s p.in_use (bit b * 2 ^ 7) within ∙ ap (λ (v : ℕ). take p.in_use s ++ v ∷ []) byte)
         (ap (drop (suc p.in_use)) stored ∙ drop-set-lt (suc p.in_use) s p.in_use (bit b * 2 ^ 7) (omega arith))
@@ -152,7 +152,7 @@ module _ (s : List ℕ) (p : PathBuilder) (b : Bool) (sound : Sound s p) (room :
         grown s s' p p' b (p.in_use - 1) p.bit_pos (get_or s (p.in_use - 1) 0)
         sound.counts.place last_small last_clear
         (omega (arith, last_used, sound.within))
-        (ap length stored ∙ length_set s (p.in_use - 1) v)
+        (ap length stored ∙ length-set s (p.in_use - 1) v)
         (omega (arith, last_used, sound.counts.few))
         (ap (take (suc (p.in_use - 1))) stored ∙ take-suc-set s (p.in_use - 1) v (omega (arith, last_used, sound.within)))
         (ap (drop (suc (p.in_use - 1))) stored ∙ drop-set-lt (suc (p.in_use - 1)) s (p.in_use - 1) v (omega arith))

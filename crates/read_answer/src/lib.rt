@@ -2,7 +2,7 @@
 pub mod clear_slices;
 
 ghost use Rattle.std.specs.Prelude.{◌≡◌};
-ghost use Rattle.spec_reading.specs.Call.{refusal as call-refusal, long_enough};
+ghost use Rattle.spec_reading.specs.Call.{refusal as call_refusal, long_enough};
 ghost use Rattle.read_answer.specs.Answer.{slices, read_answer_of, Counts, read_answer_at};
 
 use read_item::Reader;
@@ -21,7 +21,7 @@ pub struct ReadAnswer {
 }
 
 pub fn refusal(number: u32) -> ReadAnswer
-    ensures { read_answer_of result ≡ call-refusal number }
+    ensures { read_answer_of result ≡ call_refusal number }
 {
     ReadAnswer {
         number,

@@ -7,8 +7,8 @@ use mathlib.Core.List.{List, ◌++◌}
 use native.Mathlib.Omega.{arith}
 use borrow.Author.Tests.{leb-true, le-leb, lt-leb}
 use lib.Dec.{leb}
-use lib.ListN.{length, take, drop, replicate, length_replicate, take-append-drop}
-use lib.Seq.{length_take_le}
+use lib.ListN.{length, take, drop, replicate, length-replicate, take-append-drop}
+use lib.Seq.{length-take-le}
 use Rattle.read_store.proofs.reader_stacks.Stacks.{length_values}
 use Rattle.words.specs.Choice.{both_true}
 use Rattle.words.specs.Words.{at, WORK}
@@ -50,7 +50,7 @@ long w p a b e =
     }
 
 zeroed-length : (l l' : List ℕ) → l' ≡ zeroed l → length l' ≡ length l
-zeroed-length l l' e = ap length e ∙ length_replicate (length l) 0
+zeroed-length l l' e = ap length e ∙ length-replicate (length l) 0
 
 -- A slice that was cleared is zero from its first word on.
 zeroed_rest : (l l' : List ℕ) → l' ≡ zeroed l → drop 0 l' ≡ replicate (length l' - 0) 0
@@ -82,18 +82,18 @@ lent-start input w p a b p' a' b' e short ep ea eb =
 -- Used words and the zeros after them are the whole slice; l is the slice at entry.
 filled-whole : (l l' : List ℕ) (n : ℕ) → length l' ≡ length l → n ≤ length l' → drop n l' ≡ replicate (length l' - n) 0 → l' ≡ filled l (take n l')
 filled-whole l l' n e i z =
-    let k : length l' - n ≡ length l - length (take n l') = omega (arith, length_take_le n l' i) in
+    let k : length l' - n ≡ length l - length (take n l') = omega (arith, length-take-le n l' i) in
     sym (take-append-drop n l') ∙ ap (λ (r : List ℕ). take n l' ++ r) (z ∙ ap (λ (m : ℕ). replicate m 0) k)
 
 module _ (input w p a b : List ℕ) (r : Reader) (h : Ends input w p a b r) where
   pairs-length : length (take (2 * r.pairs) p) ≡ 2 * r.pairs
-  pairs-length = length_take_le (2 * r.pairs) p h.lent.pairs_in
+  pairs-length = length-take-le (2 * r.pairs) p h.lent.pairs_in
 
   atoms-length : length (take (2 * r.atoms) a) ≡ 2 * r.atoms
-  atoms-length = length_take_le (2 * r.atoms) a h.lent.atoms_in
+  atoms-length = length-take-le (2 * r.atoms) a h.lent.atoms_in
 
   bytes_length : length (take r.bytes b) ≡ r.bytes
-  bytes_length = length_take_le r.bytes b h.lent.bytes_in
+  bytes_length = length-take-le r.bytes b h.lent.bytes_in
 
   bounds : Bounds (stored_of w p a b r)
   bounds = sound_bounds r.position _ (stored_of w p a b r) (omega (arith, h.lent.inside, h.lent.short)) h.sound

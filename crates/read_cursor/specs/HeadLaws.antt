@@ -1,7 +1,7 @@
 -- What a head says of the input: whether a byte stands at the place, which one, and what was parsed.
 -- Assumes nothing.
 use Rattle.std.specs.Prelude.{ℕ, ◌+◌, ◌≤◌, ◌<◌, ◌≡◌, refl, cond, eqb, length, get_or}
-use Rattle.std.proofs.Common.{sym, ap, ◌∙◌, drop_of_length-le, drop_cons, eqb-true}
+use Rattle.std.proofs.Common.{sym, ap, ◌∙◌, drop_of_length-le, drop-cons, eqb-true}
 use Rattle.std.proofs.Math.Path.{subst}
 use mathlib.Core.List.{List}
 use Rattle.std.proofs.lemmas.Bool.{eqb-false}
@@ -29,7 +29,7 @@ module _ (input : List ℕ) (p : ℕ) where
   unfolding head_at
   head_says =
       by_lt p (length input)
-      (λ h. subst (λ (l : List ℕ). Says input p (head_of l input p)) (sym (drop_cons input p 0 h)) (begun_says h))
+      (λ h. subst (λ (l : List ℕ). Says input p (head_of l input p)) (sym (drop-cons input p 0 h)) (begun_says h))
       (λ h. subst (λ (l : List ℕ). Says input p (head_of l input p)) (sym (drop_of_length-le input {i = p} h)) h)
 
   -- What the code's answer h, which is x, says.

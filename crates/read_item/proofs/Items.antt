@@ -6,7 +6,7 @@ use mathlib.Core.List.{List, ◌∷◌}
 use native.Mathlib.Omega.{arith}
 use native.Mathlib.Numerals.{add-one}
 use lib.ListN.{length, get_or, take, drop, drop_of_length-le}
-use lib.Seq.{drop_cons}
+use lib.Seq.{drop-cons}
 use borrow.Author.Tests.{eq-eqb, ne_eqb}
 use Rattle.words.specs.Words.{WORK}
 use Rattle.words.specs.Choice.{cond_true, cond_false}
@@ -43,7 +43,7 @@ module _ (input w p a b : List ℕ) (r : Reader) where
 
   module _ (h : r.position < length input) where
     from_first : step store_values (reader_at input w p a b r) ≡ next_item store_values (get_or input r.position 0 ∷ drop (suc r.position) input) ops stored
-    from_first = step_is ∙ ap (λ (l : List ℕ). next_item store_values l ops stored) (drop_cons input r.position 0 h)
+    from_first = step_is ∙ ap (λ (l : List ℕ). next_item store_values l ops stored) (drop-cons input r.position 0 h)
 
     pub step_pair : get_or input r.position 0 ≡ 0xff → step store_values (reader_at input w p a b r) ≡ go (record { rest = drop (r.position + 1) input; ops = SExp ∷ Cons ∷ ops; values = stored })
     step_pair e =
@@ -59,7 +59,7 @@ module _ (input w p a b : List ℕ) (r : Reader) where
         → step store_values (reader_at input w p a b r) ≡ atom_item store_values (parse (drop r.position input)) (drop r.position input) ops stored
     step_atom other d =
         from_first ∙ cond_false _ _ _ (ne_eqb (get_or input r.position 0) 0xff other) ∙ cond_false _ _ _ (ne_eqb (get_or input r.position 0) 0xfe d)
-        ∙ ap (λ (l : List ℕ). atom_item store_values (parse l) l ops stored) (sym (drop_cons input r.position 0 h))
+        ∙ ap (λ (l : List ℕ). atom_item store_values (parse l) l ops stored) (sym (drop-cons input r.position 0 h))
 
     module _ (k : Stands input w p a b r) where
       -- ---- a pair's mark

@@ -7,7 +7,7 @@ use mathlib.Core.Option.{Option, none, some}
 use native.Mathlib.Omega.{arith}
 use native.Mathlib.Numerals.{add-one}
 use lib.ListN.{length, take, drop, set}
-use lib.Seq.{paste, take-paste, drop-paste, sets-eq, length_take_le, take-length}
+use lib.Seq.{paste, take-paste, drop-paste, sets-eq, length-take-le, take-length}
 use Rattle.words.specs.Choice.{clash}
 use Rattle.allocator.specs.Handle.{handle_of, listed-atom, small-atom}
 use Rattle.allocator.specs.SmallAtom.{fits_in_small_atom, fits_answer}
@@ -34,7 +34,7 @@ module _ (d : List ℕ) (n x y : ℕ) (room : 2 * n + 2 ≤ length d) where
 -- as many pairs of words as are in use
 pub half : (d l : List ℕ) (n : ℕ) → 2 * n ≤ length d → l ≡ take (2 * n) d → length l / 2 ≡ n
 half d l n h e =
-    let f : length l ≡ 2 * n = ap length e ∙ length_take_le (2 * n) d h in
+    let f : length l ≡ 2 * n = ap length e ∙ length-take-le (2 * n) d h in
     omega arith
 
 -- ---- atoms
@@ -69,7 +69,7 @@ module _ (a b : List ℕ) (n m : ℕ) (blob a' b' : List ℕ) (node n' m' : ℕ)
 
   stored_atoms : (s : Store) → s.atoms ≡ take (2 * n) a → s.bytes ≡ take m b → take (2 * n') a' ≡ (new_listed blob s).store.atoms
   stored_atoms s p q =
-      let l : length s.bytes ≡ m = ap length q ∙ length_take_le m b (omega arith) in
+      let l : length s.bytes ≡ m = ap length q ∙ length-take-le m b (omega arith) in
       (λ i. take (2 * done.count_is i) (done.atoms_are i)) ∙ take_two a n m (m + length blob) room
       ∙ (λ i. sym p i ++ sym l i ∷ (sym l i + length blob) ∷ [])
 

@@ -15,7 +15,7 @@ use types.Tokens.{lent_back}
 use types.Share.{arr_parts}
 use denote.RattleType.{RattleType}
 use denote.Shadow.{pure_l, pure_i}
-use denote.Memory.{shares as parts-of}
+use denote.Memory.{shares as parts_of}
 use denote.Ref.{MutBor, at_last}
 use denote.Slice.{slice_val, MutSlice, ShrSlice, heres, Room, shr_slice_at, mut_slice_at, coded_holeys}
 use denote.Lend.{Held, lends_shr_slice}
@@ -27,7 +27,7 @@ module _ (R : RattleType) (κ κ' : Lft) (q : Share) {M : Type 1} {𝓤 : Ura M}
   open 𝓛 use {H, A}
 
   abbrev pub Kept : Fml
-  Kept = fsep (flent κ' ((arr_parts (parts-of R) (length ys)).part full_share ys x.ref_ptr.0 x.ref_ptr.1))
+  Kept = fsep (flent κ' ((arr_parts (parts_of R) (length ys)).part full_share ys x.ref_ptr.0 x.ref_ptr.1))
       (fsep (fobor κ q (Held R (length ys) x.ref_ptr.0 x.ref_ptr.1 x.ghost_name))
       (fsep (fobs x.ghost_name ((coded_holeys R).code (heres R ys))) (fauth x.ghost_name ((coded_holeys R).code (heres R ys)))))
 
@@ -48,7 +48,7 @@ module _ (R : RattleType) (κ κ' : Lft) (q : Share) {M : Type 1} {𝓤 : Ura M}
       pure_l ! (shr_slice_at R (at_last x ys) (slice_val x.ptr (length ys) ∷ [])) (λ p. fsplit ! $ opens_slice ! tt R ys x.ptr.0 x.ptr.1 $
       feq_i ! ℕ (length ys) (length ys) refl $ fjoin ! $
       use1 𝓛 (later (some (λ (δ : GName). ‵ ((ShrSlice ℓ' κ' R).own_val (seen δ) (slice_val x.ptr (length ys) ∷ []))
-      ⊛ ‵ (flent κ' ((arr_parts (parts-of R) (length ys)).part full_share ys x.ptr.0 x.ptr.1)))))
+      ⊛ ‵ (flent κ' ((arr_parts (parts_of R) (length ys)).part full_share ys x.ptr.0 x.ptr.1)))))
       (lends_shr_slice 𝓛 R ℓ' κ' full_share ys x.ptr.0 x.ptr.1 p.1) $ await ! tt $ pick ! (λ δ. split ! $
       -- [the `&[T]`; the lender's part; the open borrow; obs; auth]
       at_once ! $ show ! (Loan (length ys)) δ $ frame ! $ move ! (2 ∷ 3 ∷ []) $ fjoin ! $ move ! (2 ∷ 0 ∷ []) $ fjoin ! $ move ! (1 ∷ 0 ∷ []) $ fjoin ! $ done !))

@@ -9,7 +9,7 @@ use Rattle.spec_session.specs.Demand3.{ReadBack}
 use Rattle.spec_session.specs.Call.{Result, session}
 use Rattle.session_state.specs.declared.checkpoints.Checkpoint.{Checkpoint}
 use Rattle.session_state.specs.Records.{blank}
-use Rattle.read_answer.specs.Answer.{slices as store-slices}
+use Rattle.read_answer.specs.Answer.{slices as store_slices}
 use Rattle.read_call.specs.Outcome.{read_result_of}
 use Rattle.session_call.specs.Outcome.{slices, result_of, Claimed}
 use Rattle.round_trip.specs.declared.RoundTrip.{RoundTrip}
@@ -33,7 +33,7 @@ the_session input l = session blank version_1 counted input (slices l.work l.wor
 
 -- The reading of the first `size` bytes of a session's output, with the work that the session left.
 abbrev pub the_reading : Result Checkpoint → Lists → read.Result
-the_reading r l = read.reading (take r.answer.size r.slices.output) (store-slices r.slices.work l.pairs l.atoms l.bytes)
+the_reading r l = read.reading (take r.answer.size r.slices.output) (store_slices r.slices.work l.pairs l.atoms l.bytes)
 
 -- What was read, and is in the slices.
 abbrev pub read_of : RoundTrip → Lists → read.Result
@@ -61,4 +61,4 @@ pub record Trip (input : List ℕ) (before after : Lists) (r : RoundTrip) : Type
   -- The reading of its bytes gave what its definition says.
   pub was_read : read_of r after ≡ the_reading (the_session input before) before
   -- What was read is the plain filling's tree.
-  pub returned : RoundTrips input (store-slices before.work before.pairs before.atoms before.bytes) (session_of input before after r) (read_of r after)
+  pub returned : RoundTrips input (store_slices before.work before.pairs before.atoms before.bytes) (session_of input before after r) (read_of r after)

@@ -1,7 +1,7 @@
 // The finished bytes of a session's output, read.
 ghost use Rattle.std.specs.Prelude.{◌≡◌, min, length, take};
 ghost use Rattle.spec_reading.specs.Call.{reading};
-ghost use Rattle.read_answer.specs.Answer.{slices as store-slices};
+ghost use Rattle.read_answer.specs.Answer.{slices as store_slices};
 ghost use Rattle.read_call.specs.Outcome.{read_result_of};
 
 use read_answer::ReadAnswer;
@@ -30,7 +30,7 @@ pub fn read_first(
 ) -> ReadAnswer
     ensures { read_result_of result work.new pairs.new atoms.new bytes.new
         ≡ reading (take session.size output.now)
-        (store-slices work.old pairs.old atoms.old bytes.old) }
+        (store_slices work.old pairs.old atoms.old bytes.old) }
 {
     let n = lesser(output, session.size);
     read_call::nikvoldra_read(&output[..n], work, pairs, atoms, bytes)

@@ -6,7 +6,7 @@ use mathlib.Core.Bool.{Bool}
 use mathlib.Core.List.{List, [], ◌∷◌}
 use native.Mathlib.Omega.{arith}
 use lib.Dec.{ltb}
-use lib.ListN.{length, length_map}
+use lib.ListN.{length, length-map}
 use borrow.Author.Tests.{lt-ltb, ltb-true}
 use Rattle.words.specs.Choice.{by_cond, by_lt, cond_true}
 use Rattle.words.specs.Words.{at, tabulate}
@@ -38,7 +38,7 @@ unused_parents w x s h l = rw (s.unused x h l)
 
 module _ (f : File) (w : List ℕ) (c : Cache) (ho : Holds f w c) where
   entry_count : length c.entries ≡ at w USED
-  entry_count = ap length ho.entries ∙ length_map (rows_of w) (entry_of f) ∙ length_rows w
+  entry_count = ap length ho.entries ∙ length-map (rows_of w) (entry_of f) ∙ length_rows w
 
   parents_each : Sound w → (x : ℕ) → parents_in c x ≡ parents_of_all w x
   unfolding parents_of_all

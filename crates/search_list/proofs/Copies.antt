@@ -6,7 +6,7 @@ use mathlib.Core.List.{List, [], ◌∷◌, ◌++◌, append_assoc, append-nil}
 use mathlib.Core.Option.{Option}
 use Prim.Native.Nat.{ℕ, zero, suc, ◌+◌, ◌*◌, ◌-◌, ◌/◌, ◌≤◌, ◌<◌}
 use native.Mathlib.Omega.{arith}
-use lib.ListN.{length, set, drop, length_append}
+use lib.ListN.{length, set, drop, length-append}
 use native.Mathlib.Decide.{ℕ_discrete}
 use Rattle.spec_search.specs.Search.{Trail, member, upward, sideward, distance, most_visits}
 use Rattle.words.specs.Choice.{cond_true, cond_false}
@@ -116,7 +116,7 @@ copying_more {w₀} {w} {y} {e} {m} {first} {count} {n} {n'} {i} links ok h k l 
     ∙ ap (λ (x : List Bool). trails_of w n ++ upward S x (parent_of (link_at w e i) ∷ [])) (low_bits w₀ w m ok k.low m (omega arith))
     ∙ ap (λ (z : ℕ). trails_of w n ++ upward S B (parent_of z ∷ [])) (low_link w₀ w links (λ j z. k.low j (omega arith)) e i h l) in
     let more : n' ≤ n + 1 =
-    omega (arith, length_trails y n', ap length t, length_append (trails_of w n) (upward S B q), length_trails w n, length_upward S B q) in
+    omega (arith, length_trails y n', ap length t, length-append (trails_of w n) (upward S B q), length_trails w n, length_upward S B q) in
     record {
       within = omega arith;
       len = len ∙ k.len;

@@ -6,8 +6,8 @@ use mathlib.Core.Bool.{Bool}
 use mathlib.Core.List.{List, [], ◌∷◌, ◌++◌, append_assoc}
 use native.Mathlib.Omega.{arith}
 use native.Mathlib.Numerals.{add-one}
-use lib.ListN.{length, get_or, set, take, drop, length_append, length_set, drop_of_length-le}
-use lib.Seq.{drop_cons, split_at, set_split, take_at, drop_at, take_all, take-suc, length_take_le, append_snoc}
+use lib.ListN.{length, get_or, set, take, drop, length-append, length-set, drop_of_length-le}
+use lib.Seq.{drop-cons, split_at, set_split, take_at, drop_at, take_all, take-suc, length-take-le, append_snoc}
 use Rattle.spec_search.specs.Search.{Trail, Parents, result, stays, dropped, capped, found, gone, left, step, last_first, goes_on, in_front}
 use Rattle.words.specs.Lists.{All, all_append, all_map}
 use Rattle.spec_search.specs.Lists.{all_last_first, size, AtLeast, Longer, shorts, shorts_short, shorts_long, shorts_append, shorts_last_first, shorts_all_long}
@@ -50,7 +50,7 @@ module _ {L : ℕ} {list : List Trail} {c : ℕ} {p : Trail} (o : Facing L list 
 
   from_c : drop c list ≡ p ∷ behind
   unfolding behind
-  from_c = drop_cons list c p o.inside ∙ ap (λ (q : Trail). q ∷ drop (suc c) list) o.is
+  from_c = drop-cons list c p o.inside ∙ ap (λ (q : Trail). q ∷ drop (suc c) list) o.is
 
   whole : list ≡ before ++ p ∷ behind
   unfolding before behind
@@ -58,10 +58,10 @@ module _ {L : ℕ} {list : List Trail} {c : ℕ} {p : Trail} (o : Facing L list 
 
   long_before : length before ≡ c
   unfolding before
-  long_before = length_take_le c list (omega (arith, o.inside))
+  long_before = length-take-le c list (omega (arith, o.inside))
 
   long_behind : length list ≡ c + suc (length behind)
-  long_behind = ap length whole ∙ length_append before (p ∷ behind) ∙ ap (λ (k : ℕ). k + suc (length behind)) long_before
+  long_behind = ap length whole ∙ length-append before (p ∷ behind) ∙ ap (λ (k : ℕ). k + suc (length behind)) long_before
 
   least : All (AtLeast L) (p ∷ behind)
   least = subst (All (AtLeast L)) from_c o.mid.least
@@ -121,7 +121,7 @@ module _ {L : ℕ} {list : List Trail} {c : ℕ} {p : Trail} (o : Facing L list 
           rw (set_split list c q o.inside, append_assoc (take c list) (q ∷ drop (suc c) list) copies, append_snoc (take c list) q (drop (suc c) list ++ copies))
 
       stays_at : length (before ++ q ∷ []) ≡ c + 1
-      stays_at = length_append before (q ∷ []) ∙ ap (λ (k : ℕ). k + 1) long_before
+      stays_at = length-append before (q ∷ []) ∙ ap (λ (k : ℕ). k + 1) long_before
 
       stays_take : take (c + 1) (set list c q ++ copies) ≡ before ++ q ∷ []
       stays_take = ap (take (c + 1)) stays_list ∙ take_at (before ++ q ∷ []) (behind ++ copies) (c + 1) stays_at
@@ -136,7 +136,7 @@ module _ {L : ℕ} {list : List Trail} {c : ℕ} {p : Trail} (o : Facing L list 
       pub stays_mid : Mid L (set list c q ++ copies) (c + 1)
       unfolding before
       stays_mid = record {
-        within = omega (arith, o.inside, length_append (set list c q) copies, length_set list c q);
+        within = omega (arith, o.inside, length-append (set list c q) copies, length-set list c q);
         longer = rw stays_take (all_append (Longer L) before (q ∷ []) o.mid.longer (g_stays.0, tt));
         least = rw stays_drop (all_append (AtLeast L) behind copies least.1 (all_map (Longer L) (AtLeast L) (λ q h. omega arith) copies g_stays.1));
       }
@@ -162,7 +162,7 @@ module _ {L : ℕ} {list : List Trail} {c : ℕ} {p : Trail} (o : Facing L list 
 
       dropped_length : suc (length (swap_remove (list ++ copies) c p)) ≡ length list + length copies
       dropped_length = ap (λ (x : List Trail). suc (length x)) dropped_list
-          ∙ omega (arith, length_append before (last_first (behind ++ copies)), length_last_first (behind ++ copies), length_append behind copies, long_before, long_behind)
+          ∙ omega (arith, length-append before (last_first (behind ++ copies)), length_last_first (behind ++ copies), length-append behind copies, long_before, long_behind)
 
       pub dropped_goes : goes parents stack L list c seen ≡ goes parents stack L (swap_remove (list ++ copies) c p) c seen'
       unfolding goes

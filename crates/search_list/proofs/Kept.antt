@@ -6,7 +6,7 @@ use mathlib.Core.List.{List, ◌∷◌, ◌++◌, append_assoc}
 use mathlib.Core.Option.{Option, none, some}
 use Prim.Native.Nat.{ℕ, zero, suc, ◌+◌, ◌*◌, ◌-◌, ◌≤◌, ◌<◌}
 use native.Mathlib.Omega.{arith}
-use lib.ListN.{length, get_or, set, drop, length_append, get_or_append, length_set, length_drop}
+use lib.ListN.{length, get_or, set, drop, length-append, get_or-append, length-set, length-drop}
 use Rattle.spec_search.specs.Search.{Trail, upward, sideward, distance}
 use Rattle.spec_search.specs.Flat.{swap_remove}
 use Rattle.words.specs.Words.{at, WORK}
@@ -108,7 +108,7 @@ module _ {w x : List ℕ} {c n m e k d v a : ℕ} (u : Up w x c n m e k d v a) w
     length_drop_links : length up ≤ a - (k + 1)
     unfolding S B up
     length_drop_links =
-        omega (arith, length_upward (seen_of w m) (node_bits w m) (drop (k + 1) (parents_of w e)), length_drop (k + 1) (parents_of w e), length_links w e, u.all)
+        omega (arith, length_upward (seen_of w m) (node_bits w m) (drop (k + 1) (parents_of w e)), length-drop (k + 1) (parents_of w e), length_links w e, u.all)
 
     pub up_count : n₂ ≤ n + (a - (k + 1))
     up_count =
@@ -117,8 +117,8 @@ module _ {w x : List ℕ} {c n m e k d v a : ℕ} (u : Up w x c n m e k d v a) w
           arith,
           ap length second,
           length_trails y n₂,
-          length_append (set (trails_of w n) c p) up,
-          length_set (trails_of w n) c p,
+          length-append (set (trails_of w n) c p) up,
+          length-set (trails_of w n) c p,
           length_trails w n,
           length_drop_links,
         )
@@ -165,7 +165,7 @@ module _ {w x : List ℕ} {c n m e d n₂ : ℕ} (u : Off w x c n m e d n₂) wh
   pub off_count : (n ≤ n₂) × (n₂ ≤ n + 1)
   off_count =
       let a = length_sideward (node_bits w m) (distance e (stack_of w d)) in
-      omega (arith, ap length u.list.trails, length_trails x n₂, length_trails w n, length_append (trails_of w n) (stacked w m e d))
+      omega (arith, ap length u.list.trails, length_trails x n₂, length_trails w n, length-append (trails_of w n) (stacked w m e d))
 
   pub off_one : n₂ - 1 + 1 ≡ n₂
   off_one = omega (arith, off_count.0, u.slot)
@@ -183,7 +183,7 @@ module _ {w x : List ℕ} {c n m e d n₂ : ℕ} (u : Off w x c n m e d n₂) wh
       let h = u.slot in
       sym (at_trails x n₂ c (trail_of w c) (omega arith))
       ∙ ap (λ (l : List Trail). get_or l c (trail_of w c)) u.list.trails
-      ∙ get_or_append (trails_of w n) (stacked w m e d) (trail_of w c) c (rw length_trails u.slot)
+      ∙ get_or-append (trails_of w n) (stacked w m e d) (trail_of w c) c (rw length_trails u.slot)
       ∙ at_trails w n c (trail_of w c) u.slot
 
   pub off_done : {y : List ℕ} → Relisted x y m (n₂ - 1) (swap_remove (trails_of x (n₂ - 1 + 1)) c (trail_of x c))

@@ -5,7 +5,7 @@ use mathlib.Core.Bool.{Bool, true, false, cond}
 use mathlib.Core.List.{List, [], ◌∷◌, ◌++◌, append-nil}
 use Prim.Native.Nat.{ℕ, zero, suc, ◌+◌, ◌*◌, ◌-◌, ◌/◌, ◌≤◌, ◌<◌}
 use native.Mathlib.Omega.{arith}
-use lib.ListN.{length, get_or, set, drop, length_append, length_set, length_drop}
+use lib.ListN.{length, get_or, set, drop, length-append, length-set, length-drop}
 use lib.Dec.{ltb}
 use borrow.Author.Tests.{lt-ltb, le-ltb}
 use Rattle.spec_search.specs.Search.{Trail, trail_bits, Parents, Stepped, result, stays, dropped, capped, most_visits, member, upward, sideward, moves, visit, distance, step}
@@ -188,7 +188,7 @@ init_length (p ∷ []) = omega arith
 init_length (p ∷ q ∷ qs) = omega (arith, init_length (q ∷ qs))
 
 swapped_length : (l : List Trail) (c : ℕ) (p : Trail) → length (swap_remove l c p) ≤ length l
-swapped_length l c p = omega (arith, init_length (set l c (last p l)), length_set l c (last p l))
+swapped_length l c p = omega (arith, init_length (set l c (last p l)), length-set l c (last p l))
 
 -- Path c is at entry e.
 pub record At_entry (w : List ℕ) (d c n m e : ℕ) : Type 0 where
@@ -373,15 +373,15 @@ module _ {w x : List ℕ} {d c n m e : ℕ} (u : Visiting w x d c n m e) where
           step_visit ∙ ap (λ (l : List Trail). moves l side (seen_of x (m + 1)))
           (skipped ∙ up_new x e S' B' k l (sym (link_member k l) ∙ f.stands h)) in
           let few-up : length up ≤ count_at w e - (k + 1) =
-          omega (arith, length_upward S' B' (drop (k + 1) (parents_of x e)), length_drop (k + 1) (parents_of x e), length_links x e, count_x) in
+          omega (arith, length_upward S' B' (drop (k + 1) (parents_of x e)), length-drop (k + 1) (parents_of x e), length_links x e, count_x) in
           let b : n' ≤ n + count_at w e + 1 =
           omega (
             arith,
             length_trails y n',
             ap length r.trails,
-            length_append (set (trails_of x n) c q) (up ++ side),
-            length_append up side,
-            length_set (trails_of x n) c q,
+            length-append (set (trails_of x n) c q) (up ++ side),
+            length-append up side,
+            length-set (trails_of x n) c q,
             length_trails x n,
             length_sideward B' (distance e (stack_of x d)),
           ) in
@@ -409,6 +409,6 @@ module _ {w x : List ℕ} {d c n m e : ℕ} (u : Visiting w x d c n m e) where
             length_trails w n,
             length_sideward B' (distance e (stack_of x d)),
             swapped_length (trails_of w n ++ side) c (trail_of w c),
-            length_append (trails_of w n) side,
+            length-append (trails_of w n) side,
           ) in
           turned_dropped here (sound_y r b) (kept_y r) (ly ∙ u.len) s t (low_seen x y (m + 1) v.nodes r.low)

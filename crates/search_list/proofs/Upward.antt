@@ -7,7 +7,7 @@ use Prim.Native.Nat.{ℕ, zero, suc, ◌+◌, ◌/◌, ◌≤◌, ◌<◌}
 use native.Mathlib.Omega.{arith}
 use native.Mathlib.Numerals.{add-one}
 use lib.ListN.{length, drop, drop_of_length-le}
-use lib.Seq.{drop_cons}
+use lib.Seq.{drop-cons}
 use lib.Dec.{ltb}
 use borrow.Author.Tests.{lt-ltb, ltb-true}
 use Rattle.spec_search.specs.Search.{Trail, at_entry, member, upward}
@@ -29,7 +29,7 @@ module _ (w : List ℕ) (e : ℕ) where
   pub links_cons : (i : ℕ) → i < count_at w e → drop i (parents_of w e) ≡ parent_of (link_at w e i) ∷ drop (i + 1) (parents_of w e)
   unfolding parents_of
   links_cons i l =
-      drop_cons (parents_of w e) i (parent_of 0) (rw length_links l)
+      drop-cons (parents_of w e) i (parent_of 0) (rw length_links l)
       ∙ ap₂ {C = List (ℕ × Bool)} (λ q k. q ∷ drop k (parents_of w e))
       (get_d_tabulate (count_at w e) (λ j. parent_of (link_at w e j)) i (parent_of 0) l) (sym (add-one i))
 

@@ -5,8 +5,8 @@ use mathlib.Core.Path.{◌≡◌, refl, sym, ap, subst, ◌∙◌}
 use mathlib.Core.Bool.{Bool, true, false}
 use mathlib.Core.List.{List, [], ◌++◌, append-nil}
 use native.Mathlib.Omega.{arith}
-use lib.ListN.{length, take, drop, replicate, length_drop, drop_of_length-le}
-use lib.Seq.{length_take_le}
+use lib.ListN.{length, take, drop, replicate, length-drop, drop_of_length-le}
+use lib.Seq.{length-take-le}
 use borrow.Rule.Slice.PartMut.{put_mid}
 use Rattle.spec_reading.specs.Call.{zeroed, filled}
 use Rattle.session_state.specs.declared.progress.Progress.{Progress}
@@ -20,11 +20,11 @@ tail_cleared l r n le e =
     ∙ ap (λ (x : List ℕ). take n l ++ x) (append-nil r ∙ e ∙ ap (λ (k : ℕ). replicate k 0) many)
   where
     none_left : drop (length l - n) (drop n l) ≡ []
-    none_left = drop_of_length-le (drop n l) {i = length l - n} (omega (arith, length_drop n l))
+    none_left = drop_of_length-le (drop n l) {i = length l - n} (omega (arith, length-drop n l))
 
     many : length (take (length l - n) (drop n l)) ≡ length l - length (take n l)
     many =
-        length_take_le (length l - n) (drop n l) (omega (arith, length_drop n l)) ∙ omega (arith, length_take_le n l le)
+        length-take-le (length l - n) (drop n l) (omega (arith, length-drop n l)) ∙ omega (arith, length-take-le n l le)
 
 -- With 1 to 8 nothing is cleared.
 pub cleared_none : (p : Progress) (w ws o : List ℕ) (over : Bool) → over ≡ true → Cleared p w ws o w ws o over

@@ -7,8 +7,8 @@ use mathlib.Core.Bool.{Bool, true, false}
 use mathlib.Core.List.{List, [], ◌∷◌, ◌++◌}
 use mathlib.Core.Option.{some}
 use native.Mathlib.Omega.{arith}
-use lib.ListN.{length, get_or, set, take, length_append}
-use lib.Seq.{length-paste, take-take, get_or-set_same, get_or-set_other, length_take_le}
+use lib.ListN.{length, get_or, set, take, length-append}
+use lib.Seq.{length-paste, take-take, get_or-set_same, get_or-set_other, length-take-le}
 use Rattle.spec_session.specs.Coherence.{nth_snoc}
 use Rattle.words.specs.Words.{at}
 use Rattle.words.specs.Lists.{All}
@@ -121,7 +121,7 @@ module _ (out out' : List ℕ) (long : length out' ≡ length out) where
           → History f w' out' rows b steps' (size_at rows m) m (take m past) c'
       history_back m l c' over =
           record {
-            long = length_take_le m past (omega (arith, h.long));
+            long = length-take-le m past (omega (arith, h.long));
             befores = λ k u e. history_kept k u (nth_take m past k u e).1;
             sizes = λ k q. h.ordered k m q l;
             ordered = λ j k q r. h.ordered j k q (omega arith);
@@ -134,7 +134,7 @@ module _ (out out' : List ℕ) (long : length out' ≡ length out) where
           → Before f w' out' b steps' n r u → History f w' out' (set rows n r) b steps' size' (n + 1) (past ++ u ∷ []) c'
       history_more r u size' c' low-n le ge c-is grows now =
           record {
-            long = length_append past (u ∷ []) ∙ omega (arith, h.long);
+            long = length-append past (u ∷ []) ∙ omega (arith, h.long);
             befores = λ k v e. go k v (nth_snoc past u k v e);
             sizes = λ k q. sizes k q;
             ordered = λ j k q q'. ordered j k q q';

@@ -7,7 +7,7 @@ use mathlib.Core.List.{List, [], ◌∷◌, ◌++◌}
 use mathlib.Core.Option.{Option, none, some}
 use native.Mathlib.Omega.{arith}
 use lib.Dec.{ltb}
-use lib.ListN.{length, set, take, length_set}
+use lib.ListN.{length, set, take, length-set}
 use borrow.Author.Tests.{lt-ltb}
 use Rattle.words.specs.Words.{at}
 use Rattle.words.specs.Lists.{All}
@@ -355,7 +355,7 @@ module _ {measure : Measure} {input : List ℕ} {f : File} {w words : List ℕ} 
   few_rest = let l : length u.left ≡ suc (length rest) = ap length e in omega (arith, u.few_steps)
 
   many : 16 ≤ length rows'
-  many = omega (arith, length_set rows p.adds (record_of w p), u.many_rows)
+  many = omega (arith, length-set rows p.adds (record_of w p), u.many_rows)
 
   going : (pl : Place) (end : Bool) (k : Option (List Todo)) → At f w' out' pl.opens pl.depth pl.counts end (after k) → p.counts.size ≤ pl.counts.size
       → add_handle (measure_of measure) (length out') f h s ≡ writer.added (after k) → (words' : List ℕ) → words' ≡ noted_words words (moved_to p pl (p.adds + 1) end)

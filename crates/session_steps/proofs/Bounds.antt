@@ -4,8 +4,8 @@ use Prim.Native.Nat.{ℕ, min}
 use mathlib.Core.Path.{◌≡◌, sym, subst, ◌∙◌}
 use mathlib.Core.List.{List, ◌++◌}
 use native.Mathlib.Omega.{arith}
-use lib.ListN.{length, take, drop, length_append, length_drop}
-use lib.Seq.{length_take_le, take_at}
+use lib.ListN.{length, take, drop, length-append, length-drop}
+use lib.Seq.{length-take-le, take_at}
 use Rattle.words.proofs.Words.{take_lesser}
 use Rattle.session_state.specs.declared.checkpoints.Checkpoint.{Checkpoint}
 use Rattle.spec_session.specs.File.{File}
@@ -15,12 +15,12 @@ use Rattle.session_state.specs.Steps.{Ready, Onward}
 
 module _ {n : ℕ} (o : List ℕ) (e : n ≡ min (length o) 65535) where
   pub used_many : n ≡ length (take n o)
-  used_many = sym (length_take_le n o (omega arith))
+  used_many = sym (length-take-le n o (omega arith))
 
   used_back : (part : List ℕ) → length part ≡ length (take n o) → part ≡ take 65535 (part ++ drop n o)
   used_back part l =
       let t : length part ≡ n = l ∙ sym used_many in
-      let long : length (part ++ drop n o) ≡ length o = length_append part (drop n o) ∙ omega (arith, length_drop n o) in
+      let long : length (part ++ drop n o) ≡ length o = length-append part (drop n o) ∙ omega (arith, length-drop n o) in
       sym (take_at part (drop n o) n t) ∙ take_lesser n 65535 (part ++ drop n o) (omega arith)
 
   module _ {input : List ℕ} {f : File} {w words : List ℕ} {p : Progress} {c : Checkpoint} (r : Ready input f w words (take 65535 o) p c) where

@@ -1,6 +1,6 @@
 -- The store's reader and the plain reader agree on every input within the limit: the same refusal, or the same tree and the same count of pairs.
 use Rattle.std.specs.Prelude.{ℕ, ◌+◌, ◌-◌, ◌*◌, ◌^◌, ◌≤◌, ◌<◌, ◌≡◌, refl, Bool, true, false, List, [], ◌∷◌, ◌++◌, length, take, drop}
-use Rattle.std.proofs.Common.{sym, ap, ap₂, ◌∙◌, subst, append-nil, arith, length_append, get_or-append-add}
+use Rattle.std.proofs.Common.{sym, ap, ap₂, ◌∙◌, subst, append-nil, arith, length-append, get_or-append-add}
 use Rattle.std.proofs.Math.Option.{Option, none, some}
 use Rattle.std.proofs.lemmas.List.{get_or_at}
 use Rattle.std.proofs.Math.Seq.{drop-append_seam, take-length}
@@ -109,7 +109,7 @@ listed_names : (s : Store) (b : List ℕ) → length s.atoms ≡ 2 * atom_count 
 listed_names s b even low =
     rw (node_of_listed_atom (atom_count s) low)
     (listed {i = atom_count s} (omega (arith, two_more s.atoms (length s.bytes) (length s.bytes + length b))) (omega (arith, starts, ends))
-    (omega (arith, ends, length_append s.bytes b)) (part_last s.bytes b (start_of s' (atom_count s)) (end_of s' (atom_count s)) starts ends))
+    (omega (arith, ends, length-append s.bytes b)) (part_last s.bytes b (start_of s' (atom_count s)) (end_of s' (atom_count s)) starts ends))
   where
     s' : Store
     s' = (new_listed b s).store

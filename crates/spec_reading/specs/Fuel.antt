@@ -2,7 +2,7 @@
 use Prim.Native.Nat.{ℕ, zero, suc, ◌≤◌, ◌<◌}
 use Rattle.std.specs.Prelude.{◌≡◌, Bool, true, false, cond, List, [], ◌∷◌, eqb, length, drop}
 use Rattle.std.proofs.Math.Path.{refl, sym}
-use Rattle.std.proofs.Common.{◌∙◌, arith, length_drop}
+use Rattle.std.proofs.Common.{◌∙◌, arith, length-drop}
 use Rattle.std.proofs.Math.Option.{Option, none, some}
 use Rattle.atom.specs.Parse.{Parse, blob, refused, parse, blob_of}
 use Rattle.path.specs.Bytes.{read_path}
@@ -33,12 +33,12 @@ module _ {S : Type 0} (keep : Values S) where
   atom_shorter bytes ops s (refused n) e = tt
   atom_shorter bytes ops s (blob start end) e =
       let w = blob_within bytes start end e in
-      settle_shorter (length bytes) (drop end bytes) ops (keep.push_atom (blob_of bytes (blob start end)) s) (omega (arith, length_drop end bytes, w.some_byte, w.inside))
+      settle_shorter (length bytes) (drop end bytes) ops (keep.push_atom (blob_of bytes (blob start end)) s) (omega (arith, length-drop end bytes, w.some_byte, w.inside))
 
   path_shorter : (bytes : List ℕ) (ops : List ParseOp) (s : S) (p : Parse) → Shorter (suc (length bytes)) (path_item keep p bytes ops s)
   path_shorter bytes ops s (refused n) = tt
   path_shorter bytes ops s (blob start end) =
-      pushed_shorter (suc (length bytes)) (drop end bytes) ops (keep.push_path (read_path (blob_of bytes (blob start end))) s) (omega (arith, length_drop end bytes))
+      pushed_shorter (suc (length bytes)) (drop end bytes) ops (keep.push_path (read_path (blob_of bytes (blob start end))) s) (omega (arith, length-drop end bytes))
 
   next_shorter : (rest : List ℕ) (ops : List ParseOp) (s : S) → Shorter (length rest) (next_item keep rest ops s)
   next_shorter [] ops s = tt

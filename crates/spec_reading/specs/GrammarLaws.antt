@@ -2,7 +2,7 @@
 -- Assumes nothing.
 use Rattle.std.specs.Prelude.{ℕ, zero, suc, ◌+◌, ◌≤◌, ◌<◌, ◌≡◌, Bool, true, false, cond, eqb, length}
 use Rattle.std.proofs.Math.Path.{refl, ap, ap₂}
-use Rattle.std.proofs.Common.{sym, ◌∙◌, subst, arith, length_append, take-append-drop, drop_at, eqb-true}
+use Rattle.std.proofs.Common.{sym, ◌∙◌, subst, arith, length-append, take-append-drop, drop_at, eqb-true}
 use mathlib.Core.List.{List, [], ◌∷◌, ◌++◌, append_assoc, append-nil}
 use Rattle.std.proofs.Math.Option.{Option, none, some}
 use Rattle.std.proofs.Math.ListN.{drop, take}
@@ -147,7 +147,7 @@ module _ (ops : List ParseOp) (ts : List Tree) (m : ℕ) (p : Plain) where
   first_pair : (n : ℕ) → FirstWithin n → (s : List ℕ) → length s ≤ n → Bytes s → from s (SExp ∷ Cons ∷ ops) ts m ≡ accepted p → First (0xff ∷ s) ops ts p
   first_pair n ih s l bs h =
       let x = ih s l bs (SExp ∷ Cons ∷ ops) ts m p h in
-      let short : length x.after ≤ n = omega (arith, l, ap length x.split, length_append x.bytes x.after) in
+      let short : length x.after ≤ n = omega (arith, l, ap length x.split, length-append x.bytes x.after) in
       let y = ih x.after short (bytes_after x.bytes x.after (rw x.split at bs)) (Cons ∷ ops) (x.tree ∷ ts) x.made p x.goes_on in
       record {
         tree = cons x.tree y.tree;

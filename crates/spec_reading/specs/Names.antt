@@ -1,7 +1,7 @@
 -- What a node of a store is as a tree. A node names one tree at most, and names it still in a store with more pairs, atoms and bytes.
 use Rattle.std.specs.Prelude.{ℕ, ◌+◌, ◌-◌, ◌*◌, ◌≤◌, ◌<◌, ◌≡◌, List, [], ◌++◌, length, take, drop}
-use Rattle.std.proofs.Common.{sym, ap, ap₂, ◌∙◌, subst, append_assoc, append-nil, arith, length_append, length_drop}
-use Rattle.std.proofs.Math.ListN.{get_or_append}
+use Rattle.std.proofs.Common.{sym, ap, ap₂, ◌∙◌, subst, append_assoc, append-nil, arith, length-append, length-drop}
+use Rattle.std.proofs.Math.ListN.{get_or-append}
 use Rattle.std.proofs.lemmas.List.{take-append-le, drop-append-le}
 use Rattle.words.specs.Words.{at, part}
 use Rattle.allocator.specs.Handle.{Node, pair, listed-atom, small-atom, node_of, nil}
@@ -86,15 +86,15 @@ extends_trans s t u e f =
     }
 
 at_more : (xs zs ys : List ℕ) (k : ℕ) → zs ≡ xs ++ ys → k < length xs → at zs k ≡ at xs k
-at_more xs zs ys k e h = ap (λ (l : List ℕ). at l k) e ∙ get_or_append xs ys 0 k h
+at_more xs zs ys k e h = ap (λ (l : List ℕ). at l k) e ∙ get_or-append xs ys 0 k h
 
 length_more : (xs zs ys : List ℕ) → zs ≡ xs ++ ys → length xs ≤ length zs
-length_more xs zs ys e = omega (arith, ap length e, length_append xs ys)
+length_more xs zs ys e = omega (arith, ap length e, length-append xs ys)
 
 part_more : (xs zs ys : List ℕ) (i n : ℕ) → zs ≡ xs ++ ys → i + n ≤ length xs → part zs i n ≡ part xs i n
 unfolding part
 part_more xs zs ys i n e h =
-    ap (λ (l : List ℕ). take n (drop i l)) e ∙ ap (take n) (drop-append-le i xs ys (omega arith)) ∙ take-append-le n (drop i xs) ys (omega (arith, length_drop i xs))
+    ap (λ (l : List ℕ). take n (drop i l)) e ∙ ap (take n) (drop-append-le i xs ys (omega arith)) ∙ take-append-le n (drop i xs) ys (omega (arith, length-drop i xs))
 
 -- A node names the same tree in a store with more; ghost pairs do not matter.
 pub names_more : (s s' : Store) (n : Node) (t : Tree) → Extends s s' → Names s n t → Names s' n t

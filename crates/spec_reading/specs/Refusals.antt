@@ -8,7 +8,7 @@ use Rattle.std.proofs.Common.{arith}
 use Rattle.words.specs.Choice.{by_cond}
 use Rattle.words.specs.BigEndian.{number}
 use Rattle.atom.specs.Prefix.{least, mark}
-use Rattle.atom.specs.Parse.{Size, sized, bad_size, one_byte, size_of, decode_size, Parse, blob, refused, whole as whole-atom, parse, blob_of}
+use Rattle.atom.specs.Parse.{Size, sized, bad_size, one_byte, size_of, decode_size, Parse, blob, refused, whole as whole_atom, parse, blob_of}
 use Rattle.path.specs.Bytes.{read_path}
 use Rattle.spec_reading.specs.Format.{Values, ParseOp, SExp, Cons, At, Step, go, whole, stop, Read, accepted, turned_down}
 use Rattle.spec_reading.specs.Format.{settle, pushed, atom_item, path_item, next_item, step, then, run, read}
@@ -56,7 +56,7 @@ size_refusal w s =
     (λ e. by_cond OfSize (ltb size (least w)) _ _ (λ e. fifteen)
     (λ e. by_cond OfSize (eqb size 1) _ _ (λ e. one_byte_refusal w (drop w s)) (λ e. tt)))))
 
-whole_refusal : (z : Size) (len : ℕ) → OfSize z → OfParse (whole-atom z len)
+whole_refusal : (z : Size) (len : ℕ) → OfSize z → OfParse (whole_atom z len)
 whole_refusal (bad_size n) len h = h
 whole_refusal (sized w n) len h = by_cond OfParse (ltb len (w + n)) (refused 14) (blob w (w + n)) (λ e. fourteen) (λ e. tt)
 

@@ -4,7 +4,7 @@ use Rattle.std.specs.Prelude.{◌≡◌, Bool, true, false, cond, eqb, length, d
 use Rattle.std.proofs.Math.Path.{refl, subst}
 use mathlib.Core.List.{List, [], ◌∷◌}
 use Rattle.std.proofs.Math.Option.{Option, none, some}
-use Rattle.std.proofs.Common.{arith, length_drop}
+use Rattle.std.proofs.Common.{arith, length-drop}
 use Rattle.words.specs.Lists.{Bytes, all_drop}
 use Rattle.atom.specs.Parse.{Parse, blob, refused, parse, blob_of}
 use Rattle.path.specs.Bytes.{read_path}
@@ -82,7 +82,7 @@ module _ {S T : Type 0} (keep : Values S) (hold : Values T) (R : ℕ → List Pa
     atom_same bytes (blob start end) e c b =
         let w = blob_within bytes start end e in
         settle_same (used + end) (drop end bytes) ops (keep.push_atom (blob_of bytes (blob start end)) s) (hold.push_atom (blob_of bytes (blob start end)) t)
-        (omega (arith, length_drop end bytes, w.inside)) (all_drop (λ (n : ℕ). n < 256) end bytes b)
+        (omega (arith, length-drop end bytes, w.inside)) (all_drop (λ (n : ℕ). n < 256) end bytes b)
         (alike.atom_alike used end ops (blob_of bytes (blob start end)) s t w.some_byte (length_blob bytes start end w) (omega (arith, w.inside)) (bytes_blob bytes start end w b) r)
 
     path_same : (bytes : List ℕ) (p : Parse) → parse bytes ≡ p → used + suc (length bytes) ≡ total → Bytes bytes
@@ -91,7 +91,7 @@ module _ {S T : Type 0} (keep : Values S) (hold : Values T) (R : ℕ → List Pa
     path_same bytes (blob start end) e c b =
         let w = blob_within bytes start end e in
         pushed_same (used + (end + 1)) (drop end bytes) ops (keep.push_path (read_path (blob_of bytes (blob start end))) s) (hold.push_path (read_path (blob_of bytes (blob start end))) t)
-        (omega (arith, length_drop end bytes, w.inside)) (all_drop (λ (n : ℕ). n < 256) end bytes b)
+        (omega (arith, length-drop end bytes, w.inside)) (all_drop (λ (n : ℕ). n < 256) end bytes b)
         (alike.path_alike used (end + 1) ops (read_path (blob_of bytes (blob start end))) s t (omega arith) (omega (arith, w.inside)) r)
 
     item_same : (b : ℕ) (rest : List ℕ) → used + suc (length rest) ≡ total → Bytes (b ∷ rest) → SameStep R total (item keep b rest ops s) (item hold b rest ops t)

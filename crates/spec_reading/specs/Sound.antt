@@ -1,7 +1,7 @@
 -- What holds of the store's reader after every item: its stacks fit, its counts are bounded by the bytes used, its handles name what is there.
 -- Sound holds at the start and is kept by `ff`, by an atom, by a path and by a join.
 use Rattle.std.specs.Prelude.{ℕ, zero, suc, ◌+◌, ◌*◌, ◌^◌, ◌≤◌, ◌<◌, ◌≡◌, refl, Bool, true, false, List, [], ◌∷◌, ◌++◌, length}
-use Rattle.std.proofs.Common.{ap, subst, arith, length_append}
+use Rattle.std.proofs.Common.{ap, subst, arith, length-append}
 use Rattle.std.proofs.Math.Option.{Option, none, some}
 use Rattle.words.specs.Words.{at}
 use Rattle.words.specs.Lists.{All, all_append, all_map, all_at}
@@ -151,7 +151,7 @@ known_nil p a = known_small p a 0 (omega arith)
 
 -- Two words more are one pair or one atom more.
 pub two_more : (ws : List ℕ) (x y : ℕ) → length (ws ++ x ∷ y ∷ []) ≡ length ws + 2
-two_more ws x y = length_append ws (x ∷ y ∷ [])
+two_more ws x y = length-append ws (x ∷ y ∷ [])
 
 -- ---- a join
 
@@ -263,7 +263,7 @@ module _ (used n : ℕ) (ops : List ParseOp) (b : List ℕ) (s : Stored) (some_b
         values_bound = omega (arith, h.values_bound);
         pairs_bound = omega (arith, h.pairs_bound);
         atoms_bound = omega (arith, h.atoms_bound, one);
-        bytes_bound = omega (arith, h.bytes_bound, length_append s.store.bytes b);
+        bytes_bound = omega (arith, h.bytes_bound, length-append s.store.bytes b);
         holds = push_holds s.values m.store m.node listed (rw (node_of_listed_atom (atom_count s.store) (omega (arith, h.atoms_bound))) (omega (arith, one)));
       }
     where

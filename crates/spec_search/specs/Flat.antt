@@ -2,7 +2,7 @@
 -- Assumes nothing.
 use Prim.Native.Nat.{ℕ, zero, suc, ◌≤◌, ◌<◌}
 use Rattle.std.specs.Prelude.{◌≡◌, refl, Bool, true, false, List, [], ◌∷◌, ◌++◌, length, set}
-use Rattle.std.proofs.Common.{sym, ap, append_assoc, append-nil, arith, length_append}
+use Rattle.std.proofs.Common.{sym, ap, append_assoc, append-nil, arith, length-append}
 use Rattle.std.proofs.Math.Option.{Option, none, some}
 use Rattle.std.proofs.Math.ListN.{get_elem?}
 use Rattle.std.proofs.Math.Seq.{append_snoc, set-append_seam}
@@ -61,7 +61,7 @@ at_end [] = refl
 at_end (x ∷ xs) = at_end xs
 
 pub length_snoc : (xs : List Trail) (p : Trail) → length (xs ++ p ∷ []) ≡ suc (length xs)
-length_snoc xs p = simp length_append (omega arith)
+length_snoc xs p = simp length-append (omega arith)
 
 pub last_seam : (d : Trail) (xs : List Trail) (p : Trail) (ps : List Trail) → last d (xs ++ p ∷ ps) ≡ last p ps
 last_seam d [] p ps = refl

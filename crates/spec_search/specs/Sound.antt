@@ -3,7 +3,7 @@
 use Prim.Native.Nat.{ℕ, suc, ◌+◌, ◌-◌, ◌*◌, ◌≤◌, ◌<◌}
 use Rattle.std.specs.Prelude.{◌≡◌, Bool, cond, length, drop, get_or, eqb}
 use Rattle.std.proofs.Math.Path.{refl, subst}
-use Rattle.std.proofs.Common.{ap, drop_cons, eqb-true}
+use Rattle.std.proofs.Common.{ap, drop-cons, eqb-true}
 use Rattle.std.proofs.Math.Bool.{true, false}
 use mathlib.Core.List.{List, [], ◌∷◌, ◌++◌, map}
 use Rattle.std.proofs.Math.Option
@@ -84,7 +84,7 @@ module _ (T : ℕ → Tree) (parents : Parents) (stack : List ℕ) (e : ℕ) whe
         record {
           arrives = λ seen bits h. h.0;
           nearer = λ seen bits d h.
-              (rw (drop_cons stack d 0 (omega arith)) (leads_step true bits (T (get_or stack d 0)) (from T stack (suc d)) (T e) h.0), omega arith);
+              (rw (drop-cons stack d 0 (omega arith)) (leads_step true bits (T (get_or stack d 0)) (from T stack (suc d)) (T e) h.0), omega arith);
           upwards = λ seen bits x pos l h.
               all_map (λ (q : ℕ × Bool). Holds T x q.0 q.1) (λ (q : ℕ × Bool). Good (at_entry (pos ∷ bits) q.0 q.1))
               (λ q k. leads_up T x q.0 q.1 (pos ∷ bits) (T e) k h) (parents x) (linked x);

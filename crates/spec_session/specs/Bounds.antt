@@ -2,12 +2,12 @@
 -- Assumes nothing.
 use Prim.Native.Nat.{ℕ, zero, suc, ◌+◌, ◌-◌, ◌*◌, ◌%◌, ◌^◌, ◌≤◌, ◌<◌}
 use Rattle.std.specs.Prelude.{◌≡◌, refl, Bool, true, false, cond, eqb, ltb, set, take}
-use Rattle.std.proofs.Common.{sym, ap, ◌∙◌, length_set, length_drop, eqb-true, eq-eqb, ne_eqb, ltb-true, ltb-false}
+use Rattle.std.proofs.Common.{sym, ap, ◌∙◌, length-set, length-drop, eqb-true, eq-eqb, ne_eqb, ltb-true, ltb-false}
 use Rattle.std.proofs.Math.Path.{subst}
 use mathlib.Core.List.{List, [], ◌∷◌, ◌++◌}
 use Rattle.std.proofs.Math.Option.{Option, none, some, none-ne-some, some-injective}
 use native.Mathlib.Omega.{arith}
-use Rattle.std.proofs.Math.ListN.{length, length_append}
+use Rattle.std.proofs.Math.ListN.{length, length-append}
 use Rattle.std.proofs.lemmas.Bool.{eqb-false}
 use Rattle.spec_reading.specs.Sound.{one_if_none}
 use Rattle.spec_session.specs.Cached.{lookup_both}
@@ -61,11 +61,11 @@ all_parents_clear (suc e) (x ∷ es) = omega (arith, all_parents_clear e es)
 pub length_add_parent : (p : ℕ) (side : Bool) (ps : List Parent) → length (add_parent p side ps) ≤ length ps + 1
 length_add_parent p side ps =
     by_cond (λ (l : List Parent). length l ≤ length ps + 1) (ltb (length ps) 100) (ps ++ (p, side) ∷ []) (set ps ((p + bit side) % 100) (p, side))
-    (λ c. omega (arith, length_append ps ((p, side) ∷ [])))
-    (λ c. omega (arith, length_set ps ((p + bit side) % 100) (p, side)))
+    (λ c. omega (arith, length-append ps ((p, side) ∷ [])))
+    (λ c. omega (arith, length-set ps ((p + bit side) % 100) (p, side)))
 
 pub length_move_parents : (moved ps : List Parent) → length (move_parents moved ps) ≤ length ps + length moved
-length_move_parents moved ps = omega (arith, length_drop (length (ps ++ moved) - 100) (ps ++ moved), length_append ps moved)
+length_move_parents moved ps = omega (arith, length-drop (length (ps ++ moved) - 100) (ps ++ moved), length-append ps moved)
 
 -- ---- each list of parents
 
@@ -101,12 +101,12 @@ all_set P (q ∷ ps) (suc i) p h k = (h.0, all_set P ps i p h.1 k)
 pub add_parent_ok : (n p : ℕ) (side : Bool) (ps : List Parent) → p < n → ParentsOK n ps → ParentsOK n (add_parent p side ps)
 add_parent_ok n p side ps l h =
     by_cond (ParentsOK n) (ltb (length ps) 100) (ps ++ (p, side) ∷ []) (set ps ((p + bit side) % 100) (p, side))
-    (λ c. (omega (arith, ltb-true (length ps) 100 c, length_append ps ((p, side) ∷ [])), all_append (λ (q : Parent). q.0 < n) ps ((p, side) ∷ []) h.1 (l, tt)))
-    (λ c. (omega (arith, length_set ps ((p + bit side) % 100) (p, side)), all_set (λ (q : Parent). q.0 < n) ps ((p + bit side) % 100) (p, side) h.1 l))
+    (λ c. (omega (arith, ltb-true (length ps) 100 c, length-append ps ((p, side) ∷ [])), all_append (λ (q : Parent). q.0 < n) ps ((p, side) ∷ []) h.1 (l, tt)))
+    (λ c. (omega (arith, length-set ps ((p + bit side) % 100) (p, side)), all_set (λ (q : Parent). q.0 < n) ps ((p + bit side) % 100) (p, side) h.1 l))
 
 pub move_parents_ok : (n : ℕ) (moved ps : List Parent) → ParentsOK n moved → ParentsOK n ps → ParentsOK n (move_parents moved ps)
 move_parents_ok n moved ps h k = (
-  omega (arith, length_drop (length (ps ++ moved) - 100) (ps ++ moved)),
+  omega (arith, length-drop (length (ps ++ moved) - 100) (ps ++ moved)),
   all_drop (λ (q : Parent). q.0 < n) (length (ps ++ moved) - 100) (ps ++ moved) (all_append (λ (q : Parent). q.0 < n) ps moved k.1 h.1),
 )
 
@@ -293,7 +293,7 @@ known_mono n m h ms k = all_map (λ (q : ℕ × ℕ). q.1 < n) (λ (q : ℕ × �
 -- One entry more, with no parents.
 entries_more : (es : List Entry) (k : Key) (n : ℕ) → All (EntryOK (length es)) es → All (EntryOK (length (es ++ new_entry k n ∷ []))) (es ++ new_entry k n ∷ [])
 entries_more es k n h =
-    let l : length (es ++ new_entry k n ∷ []) ≡ length es + 1 = length_append es (new_entry k n ∷ []) in
+    let l : length (es ++ new_entry k n ∷ []) ≡ length es + 1 = length-append es (new_entry k n ∷ []) in
     all_append (EntryOK (length (es ++ new_entry k n ∷ []))) es (new_entry k n ∷ [])
     (entries_mono (length es) (length (es ++ new_entry k n ∷ [])) (omega (arith, l)) es h) ((omega arith, tt), tt)
 
@@ -315,7 +315,7 @@ module _ (t n : ℕ) where
   new_grown : (c : Cache) (k : Key) (len : ℕ) (o : Option ℕ) → Bounded n c → Below (suc (length c.entries)) o
       → Grown t n c (record { entries = c.entries ++ new_entry k len ∷ []; mapped = c.mapped; sentinel_entry = o }, length c.entries)
   new_grown c k len o b s =
-      let l : length (c.entries ++ new_entry k len ∷ []) ≡ length c.entries + 1 = length_append c.entries (new_entry k len ∷ []) in
+      let l : length (c.entries ++ new_entry k len ∷ []) ≡ length c.entries + 1 = length-append c.entries (new_entry k len ∷ []) in
       record {
         bounded = record {
           parents_ok = entries_more c.entries k len b.parents_ok;
@@ -376,7 +376,7 @@ module _ (t n : ℕ) where
     link_grown c c₁ c₂ e₁ e₂ ht tn ab L R F =
         let away : Absent h f.0.mapped =
         F.stays_absent h (omega arith) (R.stays_absent h (omega arith) (L.stays_absent h (omega arith) ab)) in
-        let more : length (f.0.mapped ++ (h, f.1) ∷ []) ≡ length f.0.mapped + 1 = length_append f.0.mapped ((h, f.1) ∷ []) in
+        let more : length (f.0.mapped ++ (h, f.1) ∷ []) ≡ length f.0.mapped + 1 = length-append f.0.mapped ((h, f.1) ∷ []) in
         record {
           bounded = link_bounded F.bounded F.entry_below (omega arith) away;
           entry_below = omega (arith, linked_length, F.entry_below);
@@ -511,7 +511,7 @@ module _ (f : File) where
   pairs_under [] rows k = all_map (Under (length rows)) (Under (length rows + 0)) (under_mono (length rows) (length rows + 0) (omega arith)) rows k
   pairs_under (p ∷ ps) rows k =
       let new : Unfolded = node (handle_of (pair (length rows))) (unfold_with f rows p.left) (unfold_with f rows p.right) in
-      let l : length (rows ++ new ∷ []) ≡ length rows + 1 = length_append rows (new ∷ []) in
+      let l : length (rows ++ new ∷ []) ≡ length rows + 1 = length-append rows (new ∷ []) in
       let e : length (rows ++ new ∷ []) + length ps ≡ length rows + suc (length ps) = omega (arith, l) in
       let here : Under (length rows + 1) new = (
         omega (arith, pair_handle (length rows)),

@@ -5,7 +5,7 @@ use Rattle.std.specs.Prelude.{◌≡◌, refl, Bool, List, [], ◌∷◌, ◌++�
 use Rattle.std.proofs.Common.{sym, ap, ◌∙◌, subst, arith}
 use Rattle.std.proofs.Math.Bool.{true}
 use Rattle.std.proofs.Math.Option.{Option, none, some, bind, none-ne-some, some-injective}
-use Rattle.std.proofs.Math.ListN.{length_append}
+use Rattle.std.proofs.Math.ListN.{length-append}
 use Rattle.words.specs.Lists.{All}
 use Rattle.atom.specs.Prefix.{encode}
 use Rattle.atom.specs.ParseLaws.{parse_nil}
@@ -131,9 +131,9 @@ cons_case is ih k vs m n t f e h = ih (want ∷ make ∷ k) vs m n t f e h
 module _ (is : List Item) (ih : Goes is) (k : List Op) (vs : List Tree) (m : ℕ) (t : Tree) (f : All Formed is) where
   atom_case : (a b : List ℕ) → encode a ≡ some b → (n : ℕ) → bind (feed is (collapse k (atom a ∷ vs))) (λ r. whole r.0 r.1) ≡ some t
       → length (b ++ output is) ≤ n → Reaches (b ++ output is) k vs m n t
-  atom_case a b q zero e l = absurd (omega (arith, nonempty a b q, length_append b (output is)))
+  atom_case a b q zero e l = absurd (omega (arith, nonempty a b q, length-append b (output is)))
   atom_case a b q (suc n) e l =
-      stepped (b ++ output is) is ih k (atom a) vs m n t f (atom_step b (output is) (ops_of k) vs m a q) e (omega (arith, nonempty a b q, length_append b (output is)))
+      stepped (b ++ output is) is ih k (atom a) vs m n t f (atom_step b (output is) (ops_of k) vs m a q) e (omega (arith, nonempty a b q, length-append b (output is)))
 
   path_case : (path : List Bool) (b : List ℕ) → encode (path_bytes (path ++ true ∷ [])) ≡ some b → (o : Option Tree) → follow path (as_list vs) ≡ o
       → bind (bind (bind o (λ v. some (collapse k (v ∷ vs)))) (feed is)) (λ r. whole r.0 r.1) ≡ some t
@@ -144,7 +144,7 @@ module _ (is : List Item) (ih : Goes is) (k : List Op) (vs : List Tree) (m : ℕ
   path_case path b q (some v) g e (suc n) l =
       stepped (0xfe ∷ (b ++ output is)) is ih k v vs m n t f
       (reference_step b (output is) (ops_of k) vs m (path_bytes (path ++ true ∷ [])) v q (path_referred path vs v g)) e
-      (omega (arith, length_append b (output is)))
+      (omega (arith, length-append b (output is)))
 
 pub goes : (is : List Item) → Goes is
 unfolding bind

@@ -1,9 +1,9 @@
 -- The session call is its run, if it took a step; and what stands in the slices after it.
 -- Assumes nothing.
 use Rattle.std.specs.Prelude.{ℕ, ◌-◌, ◌≤◌, ◌<◌, ◌≡◌, Bool, true, false, cond, List, length, take, replicate}
-use Rattle.std.proofs.Common.{sym, ap, arith, length_append, take_at}
-use Rattle.std.proofs.Math.ListN.{get_or_append}
-use Rattle.std.proofs.lemmas.List.{length_replicate}
+use Rattle.std.proofs.Common.{sym, ap, arith, length-append, take_at}
+use Rattle.std.proofs.Math.ListN.{get_or-append}
+use Rattle.std.proofs.lemmas.List.{length-replicate}
 use Rattle.words.specs.Words.{at}
 use Rattle.spec_reading.specs.Call.{filled}
 use Rattle.spec_session.specs.File.{File, Limits, Got, got, refused, file}
@@ -15,11 +15,11 @@ pub taken : (l used : List ℕ) (n : ℕ) → n ≡ length used → take n (fill
 taken l used n e = take_at used (replicate (length l - length used) 0) n (sym e)
 
 pub at_front : (l used : List ℕ) (k : ℕ) → k < length used → at (filled l used) k ≡ at used k
-at_front l used k h = get_or_append used (replicate (length l - length used) 0) 0 k h
+at_front l used k h = get_or-append used (replicate (length l - length used) 0) 0 k h
 
 -- Filling in leaves the length.
 pub filled_length : (l used : List ℕ) → length used ≤ length l → length (filled l used) ≡ length l
-filled_length l used h = omega (arith, length_append used (replicate (length l - length used) 0), length_replicate {A = ℕ} (length l - length used) 0)
+filled_length l used h = omega (arith, length-append used (replicate (length l - length used) 0), length-replicate {A = ℕ} (length l - length used) 0)
 
 pub call_is : {C : Type 0} (blank : C) (l : Limits) (measure : List Bool → ℕ) (input : List ℕ) (f : File) (rest : List ℕ) → file l input ≡ got f rest
     → (s : Slices C) (k : ℕ) → k < (session blank l measure input s).answer.steps

@@ -2,7 +2,7 @@
 -- Assumes nothing.
 use Rattle.std.specs.Prelude.{ℕ, ◌+◌, ◌≤◌, ◌≡◌, refl, true, List, [], ◌∷◌, ◌++◌, length}
 use Rattle.std.proofs.Math.Option.{Option, none, some, none-ne-some}
-use Rattle.std.proofs.Common.{arith, length_append}
+use Rattle.std.proofs.Common.{arith, length-append}
 use Rattle.words.specs.BigEndian.{length_big_endian}
 use Rattle.words.specs.Lists.{All}
 use Rattle.atom.specs.Prefix.{mark, prefix, prefix_width, with_prefix, encode}
@@ -31,7 +31,7 @@ atom_few bs = go (prefix_width bs)
   where
     go : (o : Option ℕ) → width_or_0 o ≤ length_or_0 (with_prefix o bs)
     go none = omega arith
-    go (some w) = omega (arith, length_append (prefix w (length bs)) bs, length_big_endian w (mark w + length bs))
+    go (some w) = omega (arith, length-append (prefix w (length bs)) bs, length_big_endian w (mark w + length bs))
 
 pub prefix_few : (i : Item) → item_prefix i ≤ item_size i
 prefix_few cons_item = omega arith
@@ -52,7 +52,7 @@ atom_parts bs b e = go (prefix_width bs) e
   where
     go : (o : Option ℕ) → with_prefix o bs ≡ some b → length_or_0 (with_prefix o bs) ≡ width_or_0 o + length bs
     go none e = absurd (none-ne-some b e)
-    go (some w) e = omega (arith, length_append (prefix w (length bs)) bs, length_big_endian w (mark w + length bs))
+    go (some w) e = omega (arith, length-append (prefix w (length bs)) bs, length_big_endian w (mark w + length bs))
 
 item_parts : (i : Item) → Formed i → item_size i ≡ item_prefix i + other_bytes i
 item_parts cons_item f = refl

@@ -1,7 +1,7 @@
 -- "Entry numbers never pass 4,096, so the parent lists hold them in 16 bits": the bound, for every file that passes questions 2 to 8.
 -- Assumes nothing.
 use Rattle.std.specs.Prelude.{ℕ, ◌≤◌, ◌<◌, ◌≡◌, Bool, List, [], ◌∷◌, ◌++◌, length, take}
-use Rattle.std.proofs.Common.{arith, length_append, length-take}
+use Rattle.std.proofs.Common.{arith, length-append, length-take}
 use Rattle.spec_session.specs.File.{File, Step, add, Limits, got, file, version_1}
 use Rattle.spec_session.specs.FileLaws.{count_most, pairs_long, steps_most, parts_read}
 use Rattle.spec_session.specs.Cache.{Cache}
@@ -56,4 +56,4 @@ pub quote_entry_numbers : (input : List ℕ) (f : File) (rest : List ℕ) → fi
     → k < length f.steps → EntryNumbersFit (cache_within measure space f k handle)
 quote_entry_numbers input f rest passes measure space k h l =
     steps_entry_numbers input f rest passes measure space (take k f.steps ++ add h ∷ [])
-    (omega (arith, length_append (take k f.steps) (add h ∷ []), length-take k f.steps))
+    (omega (arith, length-append (take k f.steps) (add h ∷ []), length-take k f.steps))

@@ -6,7 +6,7 @@ use Rattle.std.proofs.Common.{sym, ◌∙◌, subst, arith, ltb-true, le-leb}
 use Rattle.std.proofs.Math.Path.{ap}
 use Rattle.std.proofs.Math.Option.{none}
 use Rattle.std.proofs.Math.ListN.{take}
-use Rattle.std.proofs.lemmas.List.{length_replicate}
+use Rattle.std.proofs.lemmas.List.{length-replicate}
 use Rattle.words.specs.Choice.{both_true}
 use Rattle.words.specs.BigEndian.{big_endian}
 use Rattle.words.specs.Words.{at}
@@ -91,9 +91,9 @@ module _ (work words checkpoints : ℕ) where
   enough : 524288 ≤ work → 3072 ≤ words → 16 ≤ checkpoints → long_enough version_1 filled_with ≡ true
   enough a b c =
       rw (
-        length_replicate {A = ℕ} work 7,
-        length_replicate {A = ℕ} words 8,
-        length_replicate {A = ℕ} checkpoints 9,
+        length-replicate {A = ℕ} work 7,
+        length-replicate {A = ℕ} words 8,
+        length-replicate {A = ℕ} checkpoints 9,
         le-leb 524288 work a,
         le-leb 3072 words b,
         le-leb 16 checkpoints c,

@@ -2,7 +2,7 @@
 -- Assumes nothing.
 use Prim.Native.Nat.{ℕ, zero, suc, ◌+◌, ◌/◌, ◌%◌, ◌^◌, ◌<◌}
 use Rattle.std.specs.Prelude.{◌≡◌, leb, length, take, drop}
-use Rattle.std.proofs.Common.{subst, arith, length-take, length_drop}
+use Rattle.std.proofs.Common.{subst, arith, length-take, length-drop}
 use mathlib.Core.List.{List, [], ◌∷◌, ◌++◌, map}
 use Rattle.spec_session.specs.FileLaws.{by_first, asked_of, got_value, got_rest, parts_read}
 use Rattle.words.specs.Lists.{All, all_append, all_take, all_drop, all_or, Bytes}
@@ -55,7 +55,7 @@ part_take : (n : ℕ) (s : List ℕ) → Atom s → Atom (take n s)
 part_take n s h = (omega (arith, length-take n s, h.0), all_take (λ (x : ℕ). x < 256) n s h.1)
 
 part_drop : (n : ℕ) (s : List ℕ) → Atom s → Atom (drop n s)
-part_drop n s h = (omega (arith, length_drop n s, h.0), all_drop (λ (x : ℕ). x < 256) n s h.1)
+part_drop n s h = (omega (arith, length-drop n s, h.0), all_drop (λ (x : ℕ). x < 256) n s h.1)
 
 bytes_parts : (n : ℕ) (s b r : List ℕ) → Atom s → bytes_of n s ≡ got b r → Atom b × Atom r
 bytes_parts n s b r h e =

@@ -2,9 +2,9 @@
 -- Assumes nothing.
 use Rattle.std.specs.Prelude.{ℕ, zero, suc, ◌+◌, ◌-◌, ◌≤◌, ◌<◌, ◌≡◌, refl, Bool, true, false, cond, List, [], ◌∷◌, ◌++◌, leb, ltb, eqb, length, take, drop}
 use Rattle.std.proofs.Math.Path.{sym}
-use Rattle.std.proofs.Common.{ap, subst, ◌∙◌, arith, length_append, length-take}
+use Rattle.std.proofs.Common.{ap, subst, ◌∙◌, arith, length-append, length-take}
 use Rattle.std.proofs.Math.Option.{Option, none, some}
-use Rattle.std.proofs.Math.ListN.{length_drop}
+use Rattle.std.proofs.Math.ListN.{length-drop}
 use Rattle.std.proofs.Math.Seq.{drop-drop}
 use borrow.Author.Tests.{leb-true, ltb-true, eqb-true}
 use Rattle.words.specs.Choice.{clash}
@@ -71,7 +71,7 @@ module _ (input : List ℕ) where
   bytes_at at n b r e =
       let q = asked_of 4 (leb n (length (drop at input))) (got (take n (drop at input)) (drop n (drop at input))) b r e in
       record {
-        there = omega (arith, leb-true n (length (drop at input)) q.0, length_drop at input);
+        there = omega (arith, leb-true n (length (drop at input)) q.0, length-drop at input);
         is = sym (got_value (take n (drop at input)) b (drop n (drop at input)) r q.1);
         rest_is = sym (got_rest (take n (drop at input)) b (drop n (drop at input)) r q.1) ∙ drop-drop n at input;
       }
@@ -106,7 +106,7 @@ module _ (input : List ℕ) where
 
   part_size : (p n : ℕ) → n ≤ length input - p → length (part input p n) ≡ n
   unfolding part
-  part_size p n h = simp (length-take, length_drop) (omega arith)
+  part_size p n h = simp (length-take, length-drop) (omega arith)
 
   listed_none : (o : Option ℕ) → listed o ≡ true → o ≡ none
   listed_none none e = refl
@@ -265,7 +265,7 @@ pub pairs_long : (a n : ℕ) (done : List Pair) (s : List ℕ) (ps : List Pair) 
 unfolding pairs
 pairs_long a zero done s ps r e = omega (arith, ap length (got_value done ps s r e))
 pairs_long a (suc n) done s ps r e =
-    by_first (one_pair a (length done) s) _ ps r e (λ q t i j. omega (arith, pairs_long a n (done ++ q ∷ []) t ps r j, length_append done (q ∷ [])))
+    by_first (one_pair a (length done) s) _ ps r e (λ q t i j. omega (arith, pairs_long a n (done ++ q ∷ []) t ps r j, length-append done (q ∷ [])))
 
 pub steps_most : (n a p most : ℕ) (done : List Step) (s : List ℕ) (xs : List Step) (r : List ℕ) → length done ≤ most → steps n a p most done s ≡ got xs r → length xs ≤ most
 unfolding steps
@@ -273,7 +273,7 @@ steps_most zero a p most done s xs r l e = subst (λ (x : List Step). length x �
 steps_most (suc n) a p most done [] xs r l e = subst (λ (x : List Step). length x ≤ most) (got_value done xs [] r e) l
 steps_most (suc n) a p most done (b ∷ s) xs r l e =
     by_first (one_step a p (length done) most (b ∷ s)) _ xs r e (λ x t i j.
-    steps_most n a p most (done ++ x ∷ []) t xs r (omega (arith, (step_at (b ∷ s) a p (length done) most 0 x t i).few, length_append done (x ∷ []))) j)
+    steps_most n a p most (done ++ x ∷ []) t xs r (omega (arith, (step_at (b ∷ s) a p (length done) most 0 x t i).few, length-append done (x ∷ []))) j)
 
 -- ---- what is left of a file of version 1 after each part, from its count of atoms on
 

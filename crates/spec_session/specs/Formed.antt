@@ -1,7 +1,7 @@
 -- The items of a session whose atoms are bytes, fewer than 2^34 each, have bytes.
 -- Assumes nothing.
 use Rattle.std.specs.Prelude.{ℕ, ◌+◌, ◌^◌, ◌≤◌, ◌<◌, ◌≡◌, refl, Bool, true, List, [], ◌∷◌, ◌++◌, length}
-use Rattle.std.proofs.Common.{sym, ap, ◌∙◌, subst, arith, length_append}
+use Rattle.std.proofs.Common.{sym, ap, ◌∙◌, subst, arith, length-append}
 use Rattle.std.proofs.Math.Option.{Option, none, some, none-ne-some, some-injective}
 use Rattle.words.specs.Lists.{All, all_append, Bytes}
 use Rattle.words.specs.BigEndian.{bytes_big_endian}
@@ -51,7 +51,7 @@ count_size (i ∷ items) n f = omega (arith, item_byte i n f.0, count_size items
 
 -- A path of fewer than 2^34 bits.
 path_formed : (path : List Bool) → length path < 2 ^ 34 → length (path_bytes (path ++ true ∷ [])) < 2 ^ 34
-path_formed path h = let l : length (path ++ true ∷ []) ≡ length path + 1 = simp length_append (omega arith) in omega (arith, length_path_bytes (path ++ true ∷ []), l)
+path_formed path h = let l : length (path ++ true ∷ []) ≡ length path + 1 = simp length-append (omega arith) in omega (arith, length_path_bytes (path ++ true ∷ []), l)
 
 module _ (n : ℕ) (few : n ≤ 65535) where
   item_formed : (i : Item) → Fine Atom n i → Formed i

@@ -2,7 +2,7 @@
 -- Assumes nothing.
 use Rattle.std.specs.Prelude.{ℕ, zero, suc, ◌+◌, ◌≤◌, ◌≡◌, Bool, length}
 use Rattle.std.proofs.Math.Path.{refl}
-use Rattle.std.proofs.Common.{sym, subst, arith, length_append}
+use Rattle.std.proofs.Common.{sym, subst, arith, length-append}
 use mathlib.Core.List.{List, [], ◌∷◌, ◌++◌}
 use Rattle.std.proofs.Math.Option.{Option, none, some}
 use Rattle.words.specs.Choice.{clash}
@@ -70,7 +70,7 @@ module _ (P : List ℕ → Type 0) where
     kept_more : (w : Written) (i : Item) → Kept Q w → Fine (length w.items) i → Q (w.items ++ i ∷ [])
         → Kept Q (record { stack = w.stack; marked = w.marked; items = w.items ++ i ∷ [] })
     kept_more w i h f q =
-        let l : length (w.items ++ i ∷ []) ≡ suc (length w.items) = simp length_append (omega arith) in
+        let l : length (w.items ++ i ∷ []) ≡ suc (length w.items) = simp length-append (omega arith) in
         record {
           low = omega (arith, h.low, l);
           fine =
@@ -100,7 +100,7 @@ module _ (P : List ℕ → Type 0) where
         where
           go : (n : ℕ) → room k w.items i ≡ n → KeptBy (and_then (put_if n i w) (λ v. done (push c e v)))
           go zero r =
-              let l : length (w.items ++ i ∷ []) ≡ suc (length w.items) = simp length_append (omega arith) in
+              let l : length (w.items ++ i ∷ []) ≡ suc (length w.items) = simp length-append (omega arith) in
               record { low = omega (arith, h.low, l); fine = (kept_more w i h f (holds k w.items i h.held r)).fine; held = holds k w.items i h.held r }
           go (suc n) r = h
 

@@ -1,7 +1,7 @@
 -- The sizes of items are those of their bytes; one item more.
 -- Assumes nothing.
 use Rattle.std.specs.Prelude.{ℕ, ◌+◌, ◌≡◌, refl, true, List, [], ◌∷◌, ◌++◌, length}
-use Rattle.std.proofs.Common.{ap, ap₂, sym, ◌∙◌, append-nil, append_assoc, arith, length_append}
+use Rattle.std.proofs.Common.{ap, ap₂, sym, ◌∙◌, append-nil, append_assoc, arith, length-append}
 use Rattle.std.proofs.Math.Option.{Option, none, some}
 use Rattle.atom.specs.Prefix.{encode}
 use Rattle.atom.specs.Write.{length_or_0, serialized_length}
@@ -23,7 +23,7 @@ item_size_is (reference_item path) = omega (arith, atom_size (path_bytes (path +
 
 pub output_size : (items : List Item) → size_of items ≡ length (output items)
 output_size [] = refl
-output_size (i ∷ items) = ap₂ (λ (a b : ℕ). a + b) (item_size_is i) (output_size items) ∙ sym (length_append (item_bytes i) (output items))
+output_size (i ∷ items) = ap₂ (λ (a b : ℕ). a + b) (item_size_is i) (output_size items) ∙ sym (length-append (item_bytes i) (output items))
 
 -- One item more.
 pub output_more : (items : List Item) (i : Item) → output (items ++ i ∷ []) ≡ output items ++ item_bytes i

@@ -1,7 +1,7 @@
 -- A scan of the items' bytes finds the items, and so counts what the items count: references, and prefix bytes.
 -- Assumes nothing.
 use Rattle.std.specs.Prelude.{ℕ, zero, suc, ◌+◌, ◌-◌, ◌≡◌, refl, Bool, true, false, cond, List, [], ◌∷◌, ◌++◌, map, eqb, length, drop}
-use Rattle.std.proofs.Common.{sym, ap, ◌∙◌, arith, length-take, length_drop, eqb-true}
+use Rattle.std.proofs.Common.{sym, ap, ◌∙◌, arith, length-take, length-drop, eqb-true}
 use Rattle.std.proofs.Math.Option.{Option, some}
 use Rattle.words.specs.Lists.{All}
 use Rattle.atom.specs.Prefix.{prefix_width, encode}
@@ -28,7 +28,7 @@ atom_parsed a b rest e =
     let i = blob_within (b ++ rest) r.start (length b) r.parsed_is in
     let own : length a ≡ length b - r.start =
     ap length (sym r.blob_is ∙ blob_there (b ++ rest) r.start (length b) i.forward i.inside)
-    ∙ omega (arith, length-take (length b - r.start) (drop r.start (b ++ rest)), length_drop r.start (b ++ rest), i.forward, i.inside) in
+    ∙ omega (arith, length-take (length b - r.start) (drop r.start (b ++ rest)), length-drop r.start (b ++ rest), i.forward, i.inside) in
     let start_is : r.start ≡ width_or_0 (prefix_width a) = omega (arith, own, i.forward, atom_parts a b e, ap length_or_0 e) in
     r.parsed_is ∙ ap (λ (n : ℕ). blob n (length b)) start_is
 

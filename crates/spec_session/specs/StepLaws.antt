@@ -6,7 +6,7 @@ use Rattle.std.proofs.Math.Path.{refl, sym, ap, subst}
 use Rattle.std.proofs.Common.{◌∙◌, inl, inr, arith, length-take, ltb-false, le-ltb}
 use mathlib.Core.List.{List, [], ◌∷◌, ◌++◌, map}
 use Rattle.std.proofs.Math.Option.{Option, none, some, none-ne-some, some-injective}
-use Rattle.std.proofs.Math.ListN.{length, length_append}
+use Rattle.std.proofs.Math.ListN.{length, length-append}
 use Rattle.words.specs.Choice.{by_lt, clash}
 use Rattle.words.specs.Lists.{All}
 use Rattle.words.specs.Words.{at}
@@ -247,7 +247,7 @@ module _ (measure : List Bool → ℕ) (space : ℕ) (f : File) where
           record {
             reached = m.reached;
             few = omega (arith, m.few);
-            three = omega (arith, length_append w (run xs t).words, ap length d.1, m.three);
+            three = omega (arith, length-append w (run xs t).words, ap length d.1, m.three);
             walked = subst (λ (y : Stepped). onto y (walk (take (run xs t).steps xs)) ≡ some m.reached) (sym e) m.walked;
             ends = m.ends;
           }
@@ -390,7 +390,7 @@ module _ (measure : List Bool → ℕ) (space : ℕ) (f : File) where
       go (added s) e = (
         hs ++ g ∷ [],
         record {
-          long = omega (arith, length_append hs (g ∷ []), length_append st.past (st.now ∷ []), h.long);
+          long = omega (arith, length-append hs (g ∷ []), length-append st.past (st.now ∷ []), h.long);
           now_is = one_more hs g st.now (added s) h.now_is e;
           past_are = both_more (λ (l : List ℕ) (u : Session). adds_of l ≡ added u) hs st.past g st.now h.long h.past_are h.now_is;
         },
@@ -458,7 +458,7 @@ module _ (measure : List Bool → ℕ) (space : ℕ) (f : File) where
     where
       go : ltb 15 (length st.past) ≡ false → (a : Added) → Goes Few (after_add a st)
       go q (turned_down n s) = tt
-      go q (added s) = omega (arith, length_append st.past (st.now ∷ []), ltb-false 15 (length st.past) q)
+      go q (added s) = omega (arith, length-append st.past (st.now ∷ []), ltb-false 15 (length st.past) q)
 
   few_step : (x : Step) (st : State) → Few st → Goes Few (step x st)
   few_step (add h) st l = few_add h st
@@ -507,7 +507,7 @@ module _ (measure : List Bool → ℕ) (space : ℕ) (f : File) where
           clash cc
       go (some k) w (added t) q e ih =
           let u : State = record { now = t; past = st.past ++ st.now ∷ []; quoted = none } in
-          let m = ih u e (omega (arith, length_append st.past (st.now ∷ []))) in
+          let m = ih u e (omega (arith, length-append st.past (st.now ∷ []))) in
           subst (λ (y : Stepped). Through (suc (length hs)) s (after_step y (λ v. run (map add hs) v)))
           (sym (add_went h st k t w (le-ltb 15 (length st.past) (omega arith)) q))
           (record { steps_are = ap suc m.steps_are; number_is = m.number_is; last_is = m.last_is })

@@ -8,7 +8,7 @@ use Rattle.std.proofs.Math.Bool.{true, cond}
 use mathlib.Core.List.{List, [], ◌∷◌, ◌++◌}
 use Rattle.std.proofs.Math.Seq.{get_or-append_seam}
 use native.Mathlib.Omega.{arith}
-use Rattle.std.proofs.Math.ListN.{length, get_or, length_append, get_or_append}
+use Rattle.std.proofs.Math.ListN.{length, get_or, length-append, get_or-append}
 use Rattle.allocator.specs.Handle.{Node, pair, listed-atom, small-atom, unknown, node_of, handle_of}
 use Rattle.allocator.specs.HandleLaws.{pair_handle}
 use Rattle.allocator.specs.SmallAtom.{small_bytes}
@@ -27,8 +27,8 @@ module _ (f : File) where
   stays : (ps : List Pair) (earlier : List Unfolded) (i : ℕ) (d : Unfolded) → i < length earlier → get_or (unfold_pairs f ps earlier) i d ≡ get_or earlier i d
   stays [] earlier i d h = refl
   stays (p ∷ ps) earlier i d h =
-      stays ps (earlier ++ row earlier p ∷ []) i d (simp length_append (omega arith))
-      ∙ get_or_append earlier (row earlier p ∷ []) d i h
+      stays ps (earlier ++ row earlier p ∷ []) i d (simp length-append (omega arith))
+      ∙ get_or-append earlier (row earlier p ∷ []) d i h
 
   -- Of a handle that names none but earlier pairs, the pairs to come do not matter.
   agree : (ps : List Pair) (earlier : List Unfolded) (a h : ℕ) → named a (length earlier) (node_of h) ≡ true
@@ -52,7 +52,7 @@ module _ (f : File) where
       let z : length earlier + 0 ≡ length earlier = omega arith in
       let here : get_or table (length earlier) d ≡ row earlier p =
       ap (λ (x : List Unfolded). get_or x (length earlier) d) t
-      ∙ stays ps (earlier ++ row earlier p ∷ []) (length earlier) d (simp length_append (omega arith))
+      ∙ stays ps (earlier ++ row earlier p ∷ []) (length earlier) d (simp length-append (omega arith))
       ∙ get_or-append_seam earlier (row earlier p) [] d in
       let left : unfold_with f earlier p.left ≡ unfold_with f table p.left =
       agree (p ∷ ps) earlier a p.left (rw z at l) ∙ ap (λ (x : List Unfolded). unfold_with f x p.left) (sym t) in
@@ -61,7 +61,7 @@ module _ (f : File) where
       ap (λ (i : ℕ). get_or table i d) z ∙ here
       ∙ (λ k. node ((pair_handle (length earlier) ∙ sym z) k) (left k) (right k))
   unfolds (p ∷ ps) earlier table a (suc j) d t h l r =
-      let n : length (earlier ++ row earlier p ∷ []) + j ≡ length earlier + suc j = simp length_append (omega arith) in
+      let n : length (earlier ++ row earlier p ∷ []) + j ≡ length earlier + suc j = simp length-append (omega arith) in
       rw n at (unfolds ps (earlier ++ row earlier p ∷ []) table a j d t (omega arith) (rw n l) (rw n r))
 
   -- The sentinel's handle is an open place.

@@ -10,8 +10,8 @@ use native.Mathlib.Numerals.{add-one}
 use native.Mathlib.Decide.{dec_lt}
 use lib.Dec.{eqb}
 use borrow.Author.Tests.{eq-eqb, ne_eqb}
-use lib.ListN.{length, get_or, take, drop, set, length-take, length_drop, get_or_append}
-use lib.Seq.{paste, paste-suc, length-paste, length_paste_head, length_take_le, get_or-take, get_or-drop, drop_cons, drop-length, get_or-append-add}
+use lib.ListN.{length, get_or, take, drop, set, length-take, length-drop, get_or-append}
+use lib.Seq.{paste, paste-suc, length-paste, length_paste_head, length-take-le, get_or-take, get_or-drop, drop-cons, drop-length, get_or-append-add}
 use Rattle.words.specs.Lists.{same}
 use Rattle.words.specs.Words.{at}
 
@@ -29,8 +29,8 @@ paste_other d p s n k h l o = go (dec_lt k p)
 
     go : Dec (k < p) → get_or (paste d p s n) k 0 ≡ get_or d k 0
     go (yes q) =
-        get_or_append (take p d ++ take n s) (drop (p + n) d) 0 k (omega (arith, long))
-        ∙ get_or_append (take p d) (take n s) 0 k (simp length-take (omega arith)) ∙ get_or-take p d k 0 q
+        get_or-append (take p d ++ take n s) (drop (p + n) d) 0 k (omega (arith, long))
+        ∙ get_or-append (take p d) (take n s) 0 k (simp length-take (omega arith)) ∙ get_or-take p d k 0 q
     go (no q) =
         let m : p + n ≤ k = o (omega arith) in
         let e : length (take p d ++ take n s) + (k - (p + n)) ≡ k = omega (arith, long) in
@@ -42,7 +42,7 @@ paste_other d p s n k h l o = go (dec_lt k p)
 pub within_more : (d : List ℕ) (from to count i : ℕ) → from + count ≤ length d → to + count ≤ length d → (from < to → from + count ≤ to) → i < count
     → set (paste d to (drop from d) i) (to + i) (get_or (paste d to (drop from d) i) (from + i) 0) ≡ paste d to (drop from d) (i + 1)
 within_more d from to count i h k apart l =
-    let long : length (drop from d) ≡ length d - from = length_drop from d in
+    let long : length (drop from d) ≡ length d - from = length-drop from d in
     ap (λ (v : ℕ). set (paste d to (drop from d) i) (to + i) v)
     (paste_other d to (drop from d) i (from + i) (omega arith) (omega (arith, long)) (λ q. low q (dec_lt from to)) ∙ sym (get_or-drop from d i 0))
     ∙ paste_more d to (drop from d) i (omega arith) (omega (arith, long))
@@ -59,13 +59,13 @@ pub record Copied (w w' : List ℕ) (from to n : ℕ) : Type 0 where
 
 module _ (w : List ℕ) (from to n : ℕ) (f : from + n ≤ length w) (t : to + n ≤ length w) where
   enough : n ≤ length (drop from w)
-  enough = simp length_drop (omega arith)
+  enough = simp length-drop (omega arith)
 
   copied_here : (i : ℕ) → i < n → at (paste w to (drop from w) n) (to + i) ≡ at w (from + i)
   copied_here i l =
-      get_or_append (take to w ++ take n (drop from w)) (drop (to + n) w) 0 (to + i)
+      get_or-append (take to w ++ take n (drop from w)) (drop (to + n) w) 0 (to + i)
       (omega (arith, length_paste_head w to (drop from w) n (omega arith) enough))
-      ∙ ap (λ (k : ℕ). get_or (take to w ++ take n (drop from w)) (k + i) 0) (sym (length_take_le to w (omega arith)))
+      ∙ ap (λ (k : ℕ). get_or (take to w ++ take n (drop from w)) (k + i) 0) (sym (length-take-le to w (omega arith)))
       ∙ get_or-append-add (take to w) (take n (drop from w)) i 0 ∙ get_or-take n (drop from w) i 0 l ∙ get_or-drop from w i 0
 
   pub copied : (w' : List ℕ) → w' ≡ paste w to (drop from w) n → Copied w w' from to n
@@ -91,7 +91,7 @@ same_length (x ∷ a) (y ∷ b) h = rw (same_length a b (λ e. h (ap suc e))) (g
 
 -- what is left decides, where what is passed is the same
 pub same_next : (a b : List ℕ) (i : ℕ) → i < length a → i < length b → same (drop i a) (drop i b) ≡ (eqb (get_or a i 0) (get_or b i 0) && same (drop (suc i) a) (drop (suc i) b))
-same_next a b i h k = rw (drop_cons a i 0 h, drop_cons b i 0 k)
+same_next a b i h k = rw (drop-cons a i 0 h, drop-cons b i 0 k)
 
 pub same_differ : (a b : List ℕ) (i : ℕ) → i < length a → i < length b → (get_or a i 0 ≡ get_or b i 0 → ⊥) → same (drop i a) (drop i b) ≡ false
 same_differ a b i h k d = same_next a b i h k ∙ rw (ne_eqb (get_or a i 0) (get_or b i 0) d)

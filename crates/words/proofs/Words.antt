@@ -7,8 +7,8 @@ use native.Mathlib.Nat.{le_antisymm, not-suc-le-zero, le_of_suc-le-suc}
 use native.Mathlib.Numerals.{add-one}
 use native.Mathlib.Decide.{ℕ_discrete, dec_lt, dec_le}
 use borrow.Rule.Slice.PartMut.{put_mid, same_len_mid}
-use lib.ListN.{length, get_or, take, drop, set, replicate, length_set, length-take, length_drop, drop_of_length-le, get_or_append}
-use lib.Seq.{ext_get_or, get_or-take, get_or-drop, get_or-set_same, get_or-set_other, take-suc, take_at, drop_at, drop-drop, take_all, length_take_le}
+use lib.ListN.{length, get_or, take, drop, set, replicate, length-set, length-take, length-drop, drop_of_length-le, get_or-append}
+use lib.Seq.{ext_get_or, get_or-take, get_or-drop, get_or-set_same, get_or-set_other, take-suc, take_at, drop_at, drop-drop, take_all, length-take-le}
 use Rattle.words.specs.Choice.{by_lt}
 use Rattle.words.specs.Words.{part, tabulate, at}
 
@@ -33,7 +33,7 @@ module _ {A : Type 0} where
   pub tabulate_set : (n : ℕ) (f g : ℕ → A) (e : ℕ) → e < n → ((k : ℕ) → k < n → (k ≡ e → ⊥) → g k ≡ f k)
       → tabulate n g ≡ set (tabulate n f) e (g e)
   tabulate_set n f g e h same =
-      ext_get_or (g 0) _ _ (length_tabulate n g ∙ sym (length_tabulate n f) ∙ sym (length_set (tabulate n f) e (g e)))
+      ext_get_or (g 0) _ _ (length_tabulate n g ∙ sym (length_tabulate n f) ∙ sym (length-set (tabulate n f) e (g e)))
       (λ i l. let p : i < n = rw length_tabulate at l in go i p (ℕ_discrete i e))
     where
       go : (i : ℕ) → i < n → Dec (i ≡ e) → get_or (tabulate n g) i (g 0) ≡ get_or (set (tabulate n f) e (g e)) i (g 0)
@@ -47,7 +47,7 @@ module _ {A : Type 0} where
 -- a part keeps its words where the words at its places are the same
 pub part_length : (w : List ℕ) (off n : ℕ) → off + n ≤ length w → length (part w off n) ≡ n
 unfolding part
-part_length w off n h = simp (length-take, length_drop) (omega arith)
+part_length w off n h = simp (length-take, length-drop) (omega arith)
 
 pub part_at : (w : List ℕ) (off n i : ℕ) → i < n → get_or (part w off n) i 0 ≡ at w (off + i)
 unfolding part
@@ -64,17 +64,17 @@ part_same w w' off n h len same =
 pub part_more : (w : List ℕ) (off n : ℕ) → off + n < length w → part w off (n + 1) ≡ part w off n ++ (at w (off + n) ∷ [])
 unfolding part
 part_more w off n h =
-    let l : n < length (drop off w) = simp length_drop (omega arith) in
+    let l : n < length (drop off w) = simp length-drop (omega arith) in
     ap (λ (k : ℕ). take k (drop off w)) (add-one n) ∙ take-suc (drop off w) n 0 l ∙ ap (λ (x : ℕ). take n (drop off w) ++ (x ∷ [])) (get_or-drop off w n 0)
 
 -- A part that was lent and came back: w with r in the place of its k words from a on.
 module _ (a k : ℕ) (w r : List ℕ) (h : a + k ≤ length w) (len : length r ≡ k) where
   pub put_length : length (put_mid a k w r) ≡ length w
-  put_length = same_len_mid a k w r (len ∙ sym (length_take_le k (drop a w) (simp length_drop (omega arith))))
+  put_length = same_len_mid a k w r (len ∙ sym (length-take-le k (drop a w) (simp length-drop (omega arith))))
 
   pub put_part : part (put_mid a k w r) a k ≡ r
   unfolding part
-  put_part = ap (take k) (drop_at (take a w) _ a (length_take_le a w (omega arith))) ∙ take_at r _ k len
+  put_part = ap (take k) (drop_at (take a w) _ a (length-take-le a w (omega arith))) ∙ take_at r _ k len
 
   pub put_at : (j : ℕ) → j < k → at (put_mid a k w r) (a + j) ≡ at r j
   put_at j l = sym (part_at (put_mid a k w r) a k j l) ∙ ap (λ (x : List ℕ). at x j) put_part
@@ -87,14 +87,14 @@ module _ (a k : ℕ) (w r : List ℕ) (h : a + k ≤ length w) (len : length r �
       rest = r ++ drop k (drop a w)
 
       long : length (take a w) ≡ a
-      long = length_take_le a w (omega arith)
+      long = length-take-le a w (omega arith)
 
       after : drop (a + k) (put_mid a k w r) ≡ drop (a + k) w
       after =
           sym (drop-drop k a (put_mid a k w r)) ∙ ap (drop k) (drop_at (take a w) rest a long) ∙ drop_at r (drop k (drop a w)) k len ∙ drop-drop k a w
 
       go : Dec (i < a) → Dec (a + k ≤ i) → at (put_mid a k w r) i ≡ at w i
-      go (yes l) _ = get_or_append (take a w) rest 0 i (rw long l) ∙ get_or-take a w i 0 l
+      go (yes l) _ = get_or-append (take a w) rest 0 i (rw long l) ∙ get_or-take a w i 0 l
       go (no l) (yes m) =
           let e : a + k + (i - (a + k)) ≡ i = omega arith in
           rw (← e, ← get_or-drop (a + k) (put_mid a k w r) (i - (a + k)) 0, after, get_or-drop)
@@ -116,7 +116,7 @@ Misses k (s ∷ ss) = (k ≡ s.to → ⊥) × Misses k ss
 
 pub length_stores : (ss : List Store) (w : List ℕ) → length (stores w ss) ≡ length w
 length_stores [] w = refl
-length_stores (s ∷ ss) w = length_stores ss (set w s.to s.word) ∙ length_set w s.to s.word
+length_stores (s ∷ ss) w = length_stores ss (set w s.to s.word) ∙ length-set w s.to s.word
 
 pub miss : (ss : List Store) (w : List ℕ) (k : ℕ) → Misses k ss → at (stores w ss) k ≡ at w k
 miss [] w k m = refl
@@ -142,7 +142,7 @@ pub hits : (ss : List Store) (i : ℕ) (w : List ℕ) → i < length ss → (nth
     → at (stores w ss) (nth ss i).to ≡ (nth ss i).word
 hits [] i w h l m = absurd (not-suc-le-zero h)
 hits (s ∷ ss) zero w h l m = hit ss w s.to s.word l m
-hits (s ∷ ss) (suc i) w h l m = hits ss i (set w s.to s.word) (le_of_suc-le-suc h) (rw (length_set w s.to s.word) l) m
+hits (s ∷ ss) (suc i) w h l m = hits ss i (set w s.to s.word) (le_of_suc-le-suc h) (rw (length-set w s.to s.word) l) m
 
 pub tabulate_same : {A : Type 0} (n : ℕ) (f g : ℕ → A) → ((k : ℕ) → k < n → g k ≡ f k) → tabulate n g ≡ tabulate n f
 unfolding tabulate

@@ -1,7 +1,7 @@
 -- Numbers as bytes, the highest first, and back.
 -- Assumes nothing.
 use Rattle.std.specs.Prelude.{ℕ, zero, suc, ◌+◌, ◌*◌, ◌/◌, ◌%◌, ◌^◌, ◌≤◌, ◌<◌, ◌≡◌, refl, List, [], ◌∷◌, ◌++◌, length}
-use Rattle.std.proofs.Common.{sym, ap, ◌∙◌, append_assoc, append-nil, arith, pow-suc, add-zero, add-suc, suc-add, zero-add, mul_assoc, mul-le-mul_right, length_append}
+use Rattle.std.proofs.Common.{sym, ap, ◌∙◌, append_assoc, append-nil, arith, pow-suc, add-zero, add-suc, suc-add, zero-add, mul_assoc, mul-le-mul_right, length-append}
 use Rattle.std.proofs.Math.Nat.{pow-succ'}
 use Rattle.words.specs.Lists.{all_append, Bytes}
 
@@ -22,7 +22,7 @@ number = number_after 0
 pub length_big_endian : (k n : ℕ) → length (big_endian k n) ≡ k
 unfolding big_endian
 length_big_endian zero n = refl
-length_big_endian (suc k) n = simp length_append (omega (arith, length_big_endian k (n / 256)))
+length_big_endian (suc k) n = simp length-append (omega (arith, length_big_endian k (n / 256)))
 
 pub bytes_big_endian : (k n : ℕ) → Bytes (big_endian k n)
 unfolding big_endian

@@ -1,7 +1,7 @@
 -- Numbers of 16 bits, two to a word: its halves, and that setting one half changes no other number.
 -- Assumes nothing.
 use Rattle.std.specs.Prelude.{◌≡◌, ℕ, zero, suc, ◌+◌, ◌-◌, ◌*◌, ◌/◌, ◌%◌, ◌^◌, ◌<◌, ◌≤◌, cond, List, length, set, ◌==◌, ◌≢◌, slice_set, refl}
-use Rattle.std.proofs.Common.{ap, ◌∙◌, arith, length_set, get_or-set_same, get_or-set_other, eq-eqb, ne_eqb}
+use Rattle.std.proofs.Common.{ap, ◌∙◌, arith, length-set, get_or-set_same, get_or-set_other, eq-eqb, ne_eqb}
 use Rattle.std.proofs.Math.Decide.{ℕ_discrete}
 use Rattle.words.specs.Words.{at}
 
@@ -34,7 +34,7 @@ pub record HalfSet (w w' : List ℕ) (k h v : ℕ) : Type 0 where
 -- A store of such a word does that.
 pub half_set : (w : List ℕ) (k h v : ℕ) → k < length w → h < 2 → v < 2 ^ 16 → HalfSet w (slice_set w k (with_half h (at w k) v)) k h v
 half_set w k h v l m n = record {
-  len = simp length_set;
+  len = simp length-set;
   here = ap (half h) same ∙ half_of_set h h (at w k) v m m n ∙ rw (eq-eqb h h refl);
   others = λ j g q d. other j g q d (ℕ_discrete j k);
   words = λ j d. get_or-set_other w k j (with_half h (at w k) v) 0 d;

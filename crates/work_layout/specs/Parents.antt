@@ -1,7 +1,7 @@
 -- What writing one parent leaves: its number, and no other changed. What writing a word of two parents leaves.
 -- Assumes nothing.
 use Rattle.std.specs.Prelude.{◌≡◌, ℕ, ◌+◌, ◌*◌, ◌/◌, ◌%◌, ◌<◌, ◌≤◌, List, length, ◌≢◌, slice_set}
-use Rattle.std.proofs.Common.{ap, arith, length_set, get_or-set_same, get_or-set_other}
+use Rattle.std.proofs.Common.{ap, arith, length-set, get_or-set_same, get_or-set_other}
 use Rattle.words.specs.Words.{at, WORK}
 use Rattle.work_layout.specs.Layout.{MOVED, MAPS, PARENTS, SEEN, ENTRIES, MAX_PARENTS}
 use Rattle.work_layout.specs.Halves.{half, HalfSet}
@@ -49,7 +49,7 @@ pub record LinksSet (w w' : List ℕ) (e c v : ℕ) : Type 0 where
 
 pub links_set : (w : List ℕ) (e c v : ℕ) → WORK ≤ length w → e < ENTRIES → 2 * c < MAX_PARENTS → LinksSet w (slice_set w (PARENTS + c * ENTRIES + e) v) e c v
 links_set w e c v long h l = record {
-  len = length_set w (PARENTS + c * ENTRIES + e) v;
+  len = length-set w (PARENTS + c * ENTRIES + e) v;
   here = get_or-set_same w (PARENTS + c * ENTRIES + e) v 0 (omega arith);
   others = λ d b q n. other (PARENTS + b * ENTRIES + d) (λ x. n (omega arith) (omega arith));
   low = λ k q. other k (omega arith);

@@ -8,7 +8,7 @@ use native.Mathlib.Nat.{mul-le-mul_right, pow-le-pow_right}
 use native.Mathlib.Numerals.{add-one}
 use lib.Bits.{bit_or, or_shifted}
 use lib.ListN.{length, get_or, take}
-use lib.Seq.{take-suc, length_take_le}
+use lib.Seq.{take-suc, length-take-le}
 use Rattle.words.specs.Lists.{Bytes, all_take, all_at}
 use Rattle.words.specs.BigEndian.{number_after, number, number_more, number_bound, number_after_low, number_after_bound}
 
@@ -22,7 +22,7 @@ or_byte a b h k = let e : a * 256 % 2 ^ 32 ≡ a * 256 = omega arith in rw e (or
 pub next_number : (v : List ℕ) (i a : ℕ) → Bytes v → i < length v → length v ≤ 4 → a ≡ number (take i v) → bit_or (a * 256 % 2 ^ 32) (get_or v i 0) ≡ number (take (i + 1) v)
 next_number v i a bytes h k e =
     let b : number (take i v) < 256 ^ length (take i v) = number_bound (take i v) (all_take (λ (x : ℕ). x < 256) i v bytes) in
-    let l : length (take i v) ≡ i = length_take_le i v (omega arith) in
+    let l : length (take i v) ≡ i = length-take-le i v (omega arith) in
     let s : 256 ^ length (take i v) ≤ 256 ^ 3 = three_bytes (length (take i v)) (omega arith) in
     or_byte a (get_or v i 0) (omega arith) (all_at (λ (x : ℕ). x < 256) v 0 i bytes h)
     ∙ rw (e, add-one, take-suc v i 0) (sym (number_more 0 (take i v) (get_or v i 0)))

@@ -7,8 +7,8 @@ use native.Mathlib.Omega.{arith}
 use native.Mathlib.Nat.{add-zero, zero-add, pow-succ', mul_assoc}
 use native.Mathlib.Numerals.{add-one}
 use lib.Pow.{pow_mono}
-use lib.ListN.{length, get_or, take, drop, length_drop}
-use lib.Seq.{drop_cons, drop-drop, get_or-drop}
+use lib.ListN.{length, get_or, take, drop, length-drop}
+use lib.Seq.{drop-cons, drop-drop, get_or-drop}
 use Rattle.words.specs.Words.{part}
 use Rattle.words.proofs.Words.{part_length}
 use Rattle.words.specs.BigEndian.{number, number_after}
@@ -52,7 +52,7 @@ size_read input p (suc k) rest one eight fits r =
     first = omega (arith, pow_mono {i = 8 - suc k} {j = 8} (omega arith))
 
     bytes : take (suc k) (drop p input) ≡ get_or input p 0 ∷ X
-    bytes = unfold part in rw (drop_cons input p 0 (omega arith), add-one p) refl
+    bytes = unfold part in rw (drop-cons input p 0 (omega arith), add-one p) refl
 
     start : number (get_or input p 0 ∷ X) ≡ number_after (get_or input p 0) X
     start = unfold number_after in ap (λ (n : ℕ). number_after n X) (zero-add (get_or input p 0))
@@ -96,11 +96,11 @@ module _ {input : List ℕ} {p w rest : ℕ} (f : First input p w rest) where
   decode_seven q = sym (decode_at input p w f.width_is ∙ size_seven w (drop p input) q)
 
   pub decode_short : w ≤ 6 → length input - p < w → bad_size 14 ≡ decode_size (drop p input)
-  decode_short six q = sym (decode_at input p w f.width_is ∙ size_not_whole w (drop p input) six (omega (arith, length_drop p input)))
+  decode_short six q = sym (decode_at input p w f.width_is ∙ size_not_whole w (drop p input) six (omega (arith, length-drop p input)))
 
 module _ {input : List ℕ} {p w rest n : ℕ} (r : Read input p w rest n) where
   long : w ≤ length (drop p input)
-  long = omega (arith, length_drop p input, r.there)
+  long = omega (arith, length-drop p input, r.there)
 
   carries : n ≡ number (take w (drop p input)) - mark w
   carries = let f = r.first in r.is ∙ size_read input p w rest (decode_one f) f.eight (omega (arith, f.inside, r.there)) f.rest_is

@@ -52,7 +52,7 @@ enum-told-2 c = search rules
 returns-3 : tie.Need-returns-3
 returns-3 c =
     let a = c.before.before.before.before.before.before.before.before.before.args in
-    c.whole-atom.ensures
+    c.whole_atom.ensures
     ∙ parsed_sized a.input.now a.position (omega arith) c.before.before.before.before.before.if2.false
     c.before.before.offset.given.0.0 c.before.before.offset.given.0.1.0
     (sym c.before.before.before.before.decode-size-with-offset.ensures ∙ ap decoded-size c.before.before.offset.given.1)

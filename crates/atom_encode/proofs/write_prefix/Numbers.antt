@@ -6,7 +6,7 @@ use mathlib.Core.List.{List, [], ◌∷◌, ◌++◌, append_assoc}
 use native.Mathlib.Omega.{arith}
 use native.Mathlib.Nat.{add-suc, add-zero, sub-zero}
 use lib.ListN.{length, get_or, take, drop, set}
-use lib.Seq.{paste, paste-zero, take-suc, drop_cons, set_at, length_take_le, take-take, get_or-take, take_at, get_or_at}
+use lib.Seq.{paste, paste-zero, take-suc, drop-cons, set_at, length-take-le, take-take, get_or-take, take_at, get_or_at}
 use Rattle.words.specs.BigEndian.{big_endian, length_big_endian}
 
 -- The bytes b of the number, of which those from `left` on are written and those before are the bytes of `rest`
@@ -25,7 +25,7 @@ module _ (out b : List ℕ) (p width : ℕ) (fits : p + width ≤ length out) (l
   byte_more l h =
       ap (λ (x : List ℕ). set (x ++ take (width - suc l) (drop (suc l) b) ++ drop (p + suc l + (width - suc l)) out) (p + l) (get_or b l 0)) before
       ∙ seam (take (p + l) out) (take (width - suc l) (drop (suc l) b)) (drop (p + suc l + (width - suc l)) out) (get_or out (p + l) 0) (get_or b l 0) (p + l)
-      (length_take_le (p + l) out (omega arith))
+      (length-take-le (p + l) out (omega arith))
       ∙ ap (λ (n : ℕ). take (p + l) out ++ get_or b l 0 ∷ take (width - suc l) (drop (suc l) b) ++ drop n out) place
       ∙ ap (λ (x : List ℕ). take (p + l) out ++ x ++ drop (p + l + (width - l)) out) (sym after)
     where
@@ -39,7 +39,7 @@ module _ (out b : List ℕ) (p width : ℕ) (fits : p + width ≤ length out) (l
       place = omega arith
 
       after : take (width - l) (drop l b) ≡ get_or b l 0 ∷ take (width - suc l) (drop (suc l) b)
-      after = rw (count, drop_cons b l 0 (omega arith)) refl
+      after = rw (count, drop-cons b l 0 (omega arith)) refl
 
   -- the last of the bytes that are left, and those before it
   pub turn : (left rest : ℕ) → 0 < left → left ≤ width → take left b ≡ big_endian left rest

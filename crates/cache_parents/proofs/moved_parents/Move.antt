@@ -6,7 +6,7 @@ use mathlib.Core.Bool.{Bool, false}
 use mathlib.Core.List.{List, [], ◌∷◌, ◌++◌}
 use native.Mathlib.Omega.{arith}
 use native.Mathlib.Decide.{ℕ_discrete, dec_lt}
-use lib.ListN.{length, get_or, set, drop, length_set, length_append, length_drop, get_or_append}
+use lib.ListN.{length, get_or, set, drop, length-set, length-append, length-drop, get_or-append}
 use lib.Seq.{get_or-set_same, get_or-set_other, ext_get_or, get_or-drop, get_or-append-add}
 use Rattle.words.specs.Words.{at, tabulate}
 use Rattle.words.proofs.Words.{length_tabulate, get_d_tabulate, tabulate_same}
@@ -81,7 +81,7 @@ module _ (w w₁ : List ℕ) (e n : ℕ) (s : Sound w) (h : e < at w USED) (hn :
 
   len₂ : length w₂ ≡ length w
   unfolding w₂
-  len₂ = simp length_set sv.len
+  len₂ = simp length-set sv.len
 
   links₂ : (d i : ℕ) → d < ENTRIES → i < MAX_PARENTS → link_at w₂ d i ≡ link_at w d i
   unfolding w₂
@@ -144,7 +144,7 @@ module _ (w w₁ w₂ : List ℕ) (e n m d : ℕ) (s : Sound w) (h : e < at w US
 
   len₃ : length w₃ ≡ length w
   unfolding w₃
-  len₃ = simp length_set (b.len ∙ a.len)
+  len₃ = simp length-set (b.len ∙ a.len)
 
   apart₃ : (k : ℕ) → (k ≡ COUNTS + e → ⊥) → at w₃ k ≡ at w₂ k
   unfolding w₃
@@ -204,14 +204,14 @@ module _ (w w₁ w₂ : List ℕ) (e n m d : ℕ) (s : Sound w) (h : e < at w US
   list : tabulate (n - d + m) now ≡ drop d (X ++ Y)
   unfolding X Y now
   list =
-      let l₂ : length (drop d (X ++ Y)) ≡ n - d + m = simp (length_drop, length_append, length_X, length_Y) (omega arith) in
+      let l₂ : length (drop d (X ++ Y)) ≡ n - d + m = simp (length-drop, length-append, length_X, length_Y) (omega arith) in
       ext_get_or (0, false) _ _ (length_tabulate (n - d + m) now ∙ sym l₂)
       (λ i l. let q : i < n - d + m = rw length_tabulate at l in get_d_tabulate (n - d + m) now i (0, false) q ∙ go i q (dec_lt i (n - d)))
     where
       go : (i : ℕ) → i < n - d + m → Dec (i < n - d) → now i ≡ get_or (drop d (X ++ Y)) i (0, false)
       go i q (yes l) =
           let x : get_or (drop d (X ++ Y)) i (0, false) ≡ parent_of (link_at w e (d + i)) =
-          get_or-drop d (X ++ Y) i (0, false) ∙ get_or_append X Y (0, false) (d + i) (omega (arith, length_X))
+          get_or-drop d (X ++ Y) i (0, false) ∙ get_or-append X Y (0, false) (d + i) (omega (arith, length_X))
           ∙ get_d_tabulate n (λ j. parent_of (link_at w e j)) (d + i) (0, false) (omega arith) in
           ap parent_of (front i l) ∙ sym x
       go i q (no l) =
@@ -226,7 +226,7 @@ module _ (w w₁ w₂ : List ℕ) (e n m d : ℕ) (s : Sound w) (h : e < at w US
   parents : parents_of w₃ e ≡ move_parents (moved_of w m) (parents_of w e)
   unfolding parents_of moved_of X Y now
   parents =
-      let l : length (X ++ Y) - 100 ≡ d = simp (length_append, length_X, length_Y) (omega arith) in
+      let l : length (X ++ Y) - 100 ≡ d = simp (length-append, length_X, length_Y) (omega arith) in
       rw (count, ← hn, list, l)
 
   placed : Placed w w₃ e m

@@ -1,7 +1,7 @@
 -- `cache_stack::push` meets its contract: its three stores leave a stack with the entry on top.
 -- Assumes nothing.
 use native.Mathlib.Omega.{arith}
-use lib.ListN.{length_set}
+use lib.ListN.{length-set}
 use borrow.Author.Rules.{rules}
 use Rattle.cache_stack.proofs.Stacks.{pushed}
 use Rattle.cache_stack.proofs.push.Statement.{statement}
@@ -35,7 +35,7 @@ mul-work-2 : tie.Need-overflow-mul-work-2
 mul-work-2 c = search rules
 
 slice-write-work-2 : tie.Need-slice-write-work-2
-slice-write-work-2 c = simp length_set (omega arith)
+slice-write-work-2 c = simp length-set (omega arith)
 
 add-work-3 : tie.Need-overflow-add-work-3
 add-work-3 c = search rules
@@ -50,7 +50,7 @@ mul-work-3 : tie.Need-overflow-mul-work-3
 mul-work-3 c = search rules
 
 slice-write-work-3 : tie.Need-slice-write-work-3
-slice-write-work-3 c = simp length_set (omega arith)
+slice-write-work-3 c = simp length-set (omega arith)
 
 same_length : tie.Need-same-length
 same_length c = search rules

@@ -5,7 +5,7 @@ use mathlib.Core.Path.{◌≡◌, refl, ap, ◌∙◌}
 use mathlib.Core.List.{List}
 use native.Mathlib.Omega.{arith}
 use native.Mathlib.Decide.{ℕ_discrete}
-use lib.ListN.{length, set, length_set}
+use lib.ListN.{length, set, length-set}
 use lib.Seq.{get_or-set_same, get_or-set_other}
 use Rattle.words.specs.Words.{at, WORK}
 use Rattle.words.proofs.Copies.{Copied}
@@ -22,7 +22,7 @@ list_saved_none w e to = record { len = refl; here = λ i l. absurd (omega arith
 pub list_saved_more : (w w₁ : List ℕ) (e i to v : ℕ) → e < ENTRIES → 2 * (i + 1) < MAX_PARENTS → SEEN ≤ to → to + i < length w → v ≡ links_at w₁ e (i + 1) → ListSaved w w₁ e i to
     → ListSaved w (set w₁ (to + i) v) e (i + 1) to
 list_saved_more w w₁ e i to v h l o room q s = record {
-  len = length_set w₁ (to + i) v ∙ s.len;
+  len = length-set w₁ (to + i) v ∙ s.len;
   here = λ j k. go j k (ℕ_discrete j i);
   low = λ j k. apart j (omega arith) ∙ s.low j k;
   high = λ j k. apart j (omega arith) ∙ s.high j (omega arith);
@@ -73,7 +73,7 @@ module _ (w w₂ w₃ w₄ : List ℕ) (k n m : ℕ) (so : Sound w) (few : all_c
   apart j d = get_or-set_other w (copied_used k) j (at w USED) 0 d
 
   len : length w₄ ≡ length w
-  len = f.len ∙ b.len ∙ a.len ∙ length_set w (copied_used k) (at w USED)
+  len = f.len ∙ b.len ∙ a.len ∙ length-set w (copied_used k) (at w USED)
 
   -- What lies outside of the copy's words is as it was, before the first words too.
   still_before : (j : ℕ) → (copied_used k ≤ j → COPIES + k * COPY + COPY ≤ j) → at w₃ j ≡ at w j

@@ -5,7 +5,7 @@ use mathlib.Core.Path.{◌≡◌, refl, sym, ap, ◌∙◌}
 use mathlib.Core.List.{List, [], ◌∷◌}
 use native.Mathlib.Omega.{arith}
 use native.Mathlib.Decide.{ℕ_discrete}
-use lib.ListN.{length, set, length_set}
+use lib.ListN.{length, set, length-set}
 use lib.Seq.{get_or-set_same, get_or-set_other}
 use Rattle.words.specs.Words.{at, WORK}
 use Rattle.words.proofs.Words.{Store, stores, Misses, miss, hits, length_stores}
@@ -84,7 +84,7 @@ module _ (w w₁ : List ℕ) (from e slot : ℕ) (so : Sound w) (h : e < at w US
 -- At the end only the number of entries is left to store.
 pub taken_off : (w w₁ : List ℕ) (n : ℕ) → WORK ≤ length w → Taking w w₁ n → n ≤ ENTRIES → TakenOff w (set w₁ USED n) n
 taken_off w w₁ n long t few = record {
-  len = length_set w₁ USED n ∙ t.len;
+  len = length-set w₁ USED n ∙ t.len;
   used = get_or-set_same w₁ USED n 0 (omega (arith, t.len));
   heads = λ s l. apart (HEADS + s) (omega arith) ∙ t.heads s l;
   counts = λ d l. apart (COUNTS + d) (omega arith) ∙ t.counts d l;

@@ -2,7 +2,7 @@
 -- Assumes nothing.
 use mathlib.Core.Path.{sym}
 use native.Mathlib.Omega.{arith}
-use lib.Seq.{length_take_le}
+use lib.Seq.{length-take-le}
 use borrow.Author.Rules.{rules}
 use Rattle.words.specs.BigEndian.{big_endian}
 use Rattle.file_parts.proofs.session_file.CheckLaws.{no_mark}
@@ -13,7 +13,7 @@ returns : tie.Need-returns
 returns c = no_mark c.before.before.args.file.now (omega arith)
 
 slice-aggregate-same-bytes : tie.Need-slice-aggregate-same-bytes
-slice-aggregate-same-bytes c = sym (length_take_le 5 c.before.before.before.args.file.now (omega arith))
+slice-aggregate-same-bytes c = sym (length-take-le 5 c.before.before.before.args.file.now (omega arith))
 
 slice-aggregate-same-bytes-2 : tie.Need-slice-aggregate-same-bytes-2
 slice-aggregate-same-bytes-2 c = search rules

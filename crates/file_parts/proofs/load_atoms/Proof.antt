@@ -3,7 +3,7 @@
 use Prim.Native.Nat.{◌-◌, ◌≤◌}
 use mathlib.Core.Path.{◌≡◌, refl}
 use native.Mathlib.Omega.{arith}
-use lib.ListN.{length, length_set}
+use lib.ListN.{length, length-set}
 use Rattle.file_parts.proofs.LoadLaws.{LoadingAtoms, loading_atoms, atom_room, atom_end, atoms_turn, atoms_loaded}
 use Rattle.file_parts.proofs.load_atoms.Statement.{statement}
 use Rattle.file_parts.proofs.load_atoms.Tie as tie
@@ -53,7 +53,7 @@ mul-table-2 : tie.Need-overflow-mul-table-2 invariant-loop decreases-loop
 mul-table-2 c = omega arith
 
 slice-write-table-2 : tie.Need-slice-write-table-2 invariant-loop decreases-loop
-slice-write-table-2 c = simp length_set (omega arith)
+slice-write-table-2 c = simp length-set (omega arith)
 
 add-i : tie.Need-overflow-add-i invariant-loop decreases-loop
 add-i c = omega arith
@@ -65,7 +65,7 @@ loop-again : tie.Need-loop-preserved invariant-loop decreases-loop
 loop-again c =
     let l = c.before.before.loop in (
       omega arith,
-      simp length_set l.invariant.1,
+      simp length-set l.invariant.1,
       atoms_turn l.invariant.2 (omega arith) c.number_at.result c.number_at.ensures (omega arith),
     )
 

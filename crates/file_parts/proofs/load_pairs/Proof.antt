@@ -3,7 +3,7 @@
 use Prim.Native.Nat.{◌-◌, ◌≤◌}
 use mathlib.Core.Path.{◌≡◌, refl}
 use native.Mathlib.Omega.{arith}
-use lib.ListN.{length, length_set}
+use lib.ListN.{length, length-set}
 use Rattle.file_parts.proofs.LoadLaws.{LoadingPairs, loading_pairs, pair_room, pairs_turn, pairs_loaded}
 use Rattle.file_parts.proofs.load_pairs.Statement.{statement}
 use Rattle.file_parts.proofs.load_pairs.Tie as tie
@@ -42,7 +42,7 @@ mul-table-2 : tie.Need-overflow-mul-table-2 invariant-loop decreases-loop
 mul-table-2 c = omega arith
 
 slice-write-table-2 : tie.Need-slice-write-table-2 invariant-loop decreases-loop
-slice-write-table-2 c = simp length_set (omega arith)
+slice-write-table-2 c = simp length-set (omega arith)
 
 add-place : tie.Need-overflow-add-place invariant-loop decreases-loop
 add-place c = omega (arith, pair_room c.before.before.before.loop.invariant.2 (omega arith))
@@ -57,7 +57,7 @@ loop-again : tie.Need-loop-preserved invariant-loop decreases-loop
 loop-again c =
     let l = c.before.before.before.loop in (
       omega arith,
-      simp length_set l.invariant.1,
+      simp length-set l.invariant.1,
       pairs_turn l.invariant.2 (omega arith) c.before.number_at.result c.number-at2.result c.before.number_at.ensures c.number-at2.ensures (omega arith),
     )
 

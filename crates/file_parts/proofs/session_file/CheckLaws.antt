@@ -7,7 +7,7 @@ use mathlib.Core.List.{List, []}
 use mathlib.Core.Option.{Option}
 use native.Mathlib.Omega.{arith}
 use lib.Dec.{leb}
-use lib.ListN.{length, take, drop, length-take, length_drop}
+use lib.ListN.{length, take, drop, length-take, length-drop}
 use borrow.Author.Tests.{le-leb, lt-leb}
 use Rattle.words.specs.Lists.{same, same_eq}
 use Rattle.words.specs.BigEndian.{length_big_endian}
@@ -185,7 +185,7 @@ module _ {input : List ℕ} {g : Got File} {p₁ p₂ p₃ p₄ p₅ : Part} (s 
           s.before.before.before.before.count_is s.before.before.before.atoms_are s.before.before.count_is s.before.pairs_are s.sentinel_is e in
           let qs = pairs_read input (length (xs s)) p₃.value p₃.next [] (ps s) (drop p₄.next input) s.before.pairs_are in
           let us = steps_read input (length (drop p₅.next input)) (length (xs s)) (length (ps s)) 1024 p₅.next [] ss (drop p₆.next input)
-          (omega (arith, length_drop p₅.next input)) e in
+          (omega (arith, length-drop p₅.next input)) e in
           record {
             number_is = refl;
             atoms_are = s.before.before.before.size;

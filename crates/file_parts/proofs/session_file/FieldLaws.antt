@@ -8,7 +8,7 @@ use mathlib.Core.List.{List}
 use mathlib.Core.Option.{Option, none, some}
 use native.Mathlib.Omega.{arith}
 use lib.Dec.{ltb, leb, eqb}
-use lib.ListN.{length, take, drop, length_drop}
+use lib.ListN.{length, take, drop, length-drop}
 use lib.Seq.{drop-drop}
 use borrow.Author.Tests.{lt-ltb, le-ltb, le-leb, lt-leb, eq-eqb, ne_eqb}
 use Rattle.words.specs.Choice.{cond_true, cond_false, clash}
@@ -92,12 +92,12 @@ module _ (input : List ℕ) (p : Part) (at n : ℕ) (h : at ≤ length input) wh
   pub field_short : length input - at < n → p.number ≡ 4 → Answers input itself p (field n (drop at input))
   field_short l q =
       refuses input itself p (field n (drop at input)) 4
-      (ap (λ (g : Got (List ℕ)). and_then g (λ b r. got (number b) r)) (no_asked 4 (leb n (length (drop at input))) _ (lt-leb n (length (drop at input)) (simp length_drop (omega arith)))))
+      (ap (λ (g : Got (List ℕ)). and_then g (λ b r. got (number b) r)) (no_asked 4 (leb n (length (drop at input))) _ (lt-leb n (length (drop at input)) (simp length-drop (omega arith)))))
       q (omega arith) (omega arith)
 
   bytes_there : n ≤ length input - at → bytes_of n (drop at input) ≡ got (part input at n) (drop (at + n) input)
   unfolding part
-  bytes_there l = yes_asked 4 (leb n (length (drop at input))) _ (le-leb n (length (drop at input)) (simp length_drop (omega arith))) ∙ ap (got (take n (drop at input))) (drop-drop n at input)
+  bytes_there l = yes_asked 4 (leb n (length (drop at input))) _ (le-leb n (length (drop at input)) (simp length-drop (omega arith))) ∙ ap (got (take n (drop at input))) (drop-drop n at input)
 
   pub field_there : n ≤ length input - at → p.number ≡ 0 → p.value ≡ number (part input at n) → p.next ≡ at + n → Answers input itself p (field n (drop at input))
   field_there l z v e =
@@ -155,7 +155,7 @@ module _ (input : List ℕ) (q : Part) (start n used : ℕ) (h : start ≤ lengt
   atom_short l e =
       refuses input sized q (atom-of used n (drop start input)) 4
       (ap (λ (g : Got (List ℕ)). and_then g (λ b s. asked 5 (leb (used + n) 32768) (asked 6 (listed (fits_in_small_atom b)) (got b s))))
-      (no_asked 4 (leb n (length (drop start input))) _ (lt-leb n (length (drop start input)) (simp length_drop (omega arith)))))
+      (no_asked 4 (leb n (length (drop start input))) _ (lt-leb n (length (drop start input)) (simp length-drop (omega arith)))))
       e (omega arith) (omega arith)
 
   module _ (l : n ≤ length input - start) where

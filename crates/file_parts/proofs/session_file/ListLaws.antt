@@ -4,8 +4,8 @@ use Prim.Native.Nat.{ℕ, zero, suc, ◌+◌, ◌-◌, ◌≤◌, ◌<◌}
 use mathlib.Core.Path.{◌≡◌, refl, sym, ap, subst, ◌∙◌}
 use mathlib.Core.List.{List, [], ◌∷◌, ◌++◌}
 use native.Mathlib.Omega.{arith}
-use lib.ListN.{length, drop, length_drop, length_append, drop_of_length-le}
-use lib.Seq.{drop_cons}
+use lib.ListN.{length, drop, length-drop, length-append, drop_of_length-le}
+use lib.Seq.{drop-cons}
 use Rattle.file_parts.specs.PlaceLaws.{size_low}
 use Rattle.file_parts.specs.declared.session_file.Part.{Part}
 use Rattle.spec_session.specs.File.{Got, got, and_then, version_1, atom, atoms, Pair, one_pair, pairs, Step, one_step, steps}
@@ -24,7 +24,7 @@ none_left : (count done : ℕ) → count ≤ done → count - done ≡ 0
 none_left count done h = omega arith
 
 one_longer : {A : Type 0} (xs : List A) (x : A) (n : ℕ) → length xs ≡ n → length (xs ++ x ∷ []) ≡ n + 1
-one_longer xs x n e = length_append xs (x ∷ []) ∙ ap (λ (k : ℕ). k + 1) e
+one_longer xs x n e = length-append xs (x ∷ []) ∙ ap (λ (k : ℕ). k + 1) e
 
 -- ---- atoms
 
@@ -131,7 +131,7 @@ pub record StepsSoFar (input : List ℕ) (at na np next done : ℕ) : Type 0 whe
   pub same : steps (length (drop at input)) na np 1024 [] (drop at input) ≡ steps fuel na np 1024 read (drop next input)
 
 pub steps_start : (input : List ℕ) (at na np : ℕ) → StepsSoFar input at na np at 0
-steps_start input at na np = record { fuel = length (drop at input); enough = omega (arith, length_drop at input); read = []; long = refl; same = refl }
+steps_start input at na np = record { fuel = length (drop at input); enough = omega (arith, length-drop at input); read = []; long = refl; same = refl }
 
 -- At the end no step is left; before it one more is read.
 steps_none : (n na np most : ℕ) (done : List Step) (rest : List ℕ) → rest ≡ [] → steps n na np most done rest ≡ got done rest
@@ -145,7 +145,7 @@ unfolding steps
 steps_more zero na np most done input at h l = absurd (omega arith)
 steps_more (suc n) na np most done input at h l =
     let p : suc n - 1 ≡ n = omega arith in
-    rw (p, drop_cons input at 0 h) refl
+    rw (p, drop-cons input at 0 h) refl
 
 module _ {input : List ℕ} {at na np next done : ℕ} (s : StepsSoFar input at na np next done) where
   pub steps_end : (p : Part) → length input ≤ next → next ≤ length input → p.number ≡ 0 → p.value ≡ done → p.next ≡ next
@@ -175,7 +175,7 @@ module _ {input : List ℕ} {at na np next done : ℕ} (s : StepsSoFar input at 
       pub steps_on : next < p.next
       steps_on =
           let x = step_at input na np done 1024 next step_taken.value (drop p.next input) step_taken.is in
-          omega (arith, simp length_drop at (ap length x.rest_is), size_low step_taken.value, step_taken.inside)
+          omega (arith, simp length-drop at (ap length x.rest_is), size_low step_taken.value, step_taken.inside)
 
       pub steps_few : done + 1 ≤ 1024
       steps_few = omega (arith, (step_at input na np done 1024 next step_taken.value (drop p.next input) step_taken.is).few)

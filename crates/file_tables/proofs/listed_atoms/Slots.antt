@@ -1,6 +1,6 @@
 -- Laws of an atom's bytes, slot and length.
 -- Assumes nothing.
-use Rattle.std.proofs.Common.{◌≡◌, ℕ, ◌+◌, ◌-◌, ◌%◌, ◌^◌, ◌<◌, ◌≤◌, List, [], ◌∷◌, length, get_or, take, drop, refl, add-one, arith, drop_of_length-le, length-take, drop_cons}
+use Rattle.std.proofs.Common.{◌≡◌, ℕ, ◌+◌, ◌-◌, ◌%◌, ◌^◌, ◌<◌, ◌≤◌, List, [], ◌∷◌, length, get_or, take, drop, refl, add-one, arith, drop_of_length-le, length-take, drop-cons}
 use mathlib.Core.Option.{Option, none, some}
 use Rattle.atom.specs.Prefix.{prefix_width}
 use Rattle.atom.specs.PrefixLaws.{prefixed}
@@ -38,7 +38,7 @@ slot_low x = omega arith
 -- The sum of the bytes that are left, from the sum of those that are passed.
 pub sum_more : (xs : List ℕ) (s i : ℕ) → i < length xs → wrapped_sum s (drop i xs) ≡ wrapped_sum (((s + s) % 2 ^ 32 + get_or xs i 0) % 2 ^ 32) (drop (i + 1) xs)
 unfolding wrapped_sum
-sum_more xs s i h = rw (drop_cons xs i 0 h, add-one i)
+sum_more xs s i h = rw (drop-cons xs i 0 h, add-one i)
 
 pub sum_end : (xs : List ℕ) (s i : ℕ) → length xs ≤ i → wrapped_sum s (drop i xs) ≡ s
 unfolding wrapped_sum

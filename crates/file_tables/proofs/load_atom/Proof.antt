@@ -1,6 +1,6 @@
 -- `load_atom` meets its contract: two stores for an atom whose bytes are known, four for one that is the first of its bytes.
 -- Assumes nothing.
-use Rattle.std.proofs.Common.{arith, length_set, rules}
+use Rattle.std.proofs.Common.{arith, length-set, rules}
 use Rattle.work_layout.specs.Rows.{atom_bytes}
 use Rattle.file_tables.proofs.First.{first_of_le}
 use Rattle.file_tables.proofs.listed_atoms.Slots.{slot_low}
@@ -54,7 +54,7 @@ mul-work-2 : tie.Need-overflow-mul-work-2
 mul-work-2 c = search rules
 
 slice-write-work-2 : tie.Need-slice-write-work-2
-slice-write-work-2 c = simp length_set (omega arith)
+slice-write-work-2 c = simp length-set (omega arith)
 
 same_length : tie.Need-same-length
 same_length c = search rules
@@ -72,7 +72,7 @@ mul-work-3 : tie.Need-overflow-mul-work-3
 mul-work-3 c = search rules
 
 slice-write-work-3 : tie.Need-slice-write-work-3
-slice-write-work-3 c = simp length_set (omega arith)
+slice-write-work-3 c = simp length-set (omega arith)
 
 add-work-4 : tie.Need-overflow-add-work-4
 add-work-4 c = search rules
@@ -94,7 +94,7 @@ slice-write-work-4 : tie.Need-slice-write-work-4
 slice-write-work-4 c =
     let s = c.before.before.before.before.before.before.before.before.before.before in
     let a = s.args in
-    simp length_set
+    simp length-set
     (omega (arith, slot_low (atom_bytes a.file.now a.work.now a.i), c.before.before.before.before.before.before.slot_at.ensures, s.requires.2.long))
 
 same-length-2 : tie.Need-same-length-2

@@ -8,7 +8,7 @@ use mathlib.Core.Option.{some, none-ne-some, some-injective}
 use native.Mathlib.Omega.{arith}
 use native.Mathlib.Nat.{pow-suc}
 use lib.Pow.{pow_pos}
-use lib.ListN.{length, get_or, drop, length_append, length_drop, get_or_append}
+use lib.ListN.{length, get_or, drop, length-append, length-drop, get_or-append}
 use lib.Seq.{get_or-append-add}
 use Rattle.words.specs.Choice.{by_lt}
 use Rattle.words.specs.Lists.{Bytes, all_at}
@@ -74,9 +74,9 @@ module _ (bs : List ℕ) (b : Bytes bs) (h : zeros_in_front bs < length bs) wher
   length_rest =
       omega (
         arith,
-        length_append (all_bits (drop (zeros_in_front bs + 1) bs)) (below_top 7 (get_or bs (zeros_in_front bs) 0)),
+        length-append (all_bits (drop (zeros_in_front bs + 1) bs)) (below_top 7 (get_or bs (zeros_in_front bs) 0)),
         length_all_bits (drop (zeros_in_front bs + 1) bs),
-        length_drop (zeros_in_front bs + 1) bs,
+        length-drop (zeros_in_front bs + 1) bs,
         ap length (first_top bs b h).bits,
         length_low_bits (first_top bs b h).place (get_or bs (zeros_in_front bs) 0),
       )
@@ -117,7 +117,7 @@ all_bits_high b bs i l h =
 all_bits_low : (b : ℕ) (bs : List ℕ) (i : ℕ) → i < 8 * length bs → get_or (all_bits bs) i false ≡ odd (get_or bs (length bs - 1 - i / 8) 0 / 2 ^ (i % 8))
     → get_or (all_bits bs ++ low_bits 8 b) i false ≡ odd (get_or (b ∷ bs) (suc (length bs) - 1 - i / 8) 0 / 2 ^ (i % 8))
 all_bits_low b bs i l e =
-    get_or_append (all_bits bs) (low_bits 8 b) false i (omega (arith, length_all_bits bs))
+    get_or-append (all_bits bs) (low_bits 8 b) false i (omega (arith, length_all_bits bs))
     ∙ e
     ∙ ap (λ (k : ℕ). odd (get_or (b ∷ bs) k 0 / 2 ^ (i % 8))) next
   where
@@ -141,7 +141,7 @@ lowest_first b bs p l =
     record {
       short = omega (arith, long, t.small);
       same = λ i h. by_lt i (length (all_bits bs))
-          (λ s. get_or_append (all_bits bs) (below_top 7 b) false i s ∙ sym (get_or_append (all_bits bs) (low_bits 8 b) false i s))
+          (λ s. get_or-append (all_bits bs) (below_top 7 b) false i s ∙ sym (get_or-append (all_bits bs) (low_bits 8 b) false i s))
           (λ s. high i s h);
     }
   where
@@ -149,7 +149,7 @@ lowest_first b bs p l =
     t = top_byte b p l
 
     long : length (all_bits bs ++ below_top 7 b) ≡ 8 * length bs + t.place
-    long = omega (arith, length_append (all_bits bs) (below_top 7 b), length_all_bits bs, ap length t.bits, length_low_bits t.place b)
+    long = omega (arith, length-append (all_bits bs) (below_top 7 b), length_all_bits bs, ap length t.bits, length_low_bits t.place b)
 
     seam : (i : ℕ) (ys : List Bool) → length (all_bits bs) ≤ i → get_or (all_bits bs ++ ys) i false ≡ get_or ys (i - length (all_bits bs)) false
     seam i ys s = ap (λ (n : ℕ). get_or (all_bits bs ++ ys) n false) split ∙ get_or-append-add (all_bits bs) ys (i - length (all_bits bs)) false
@@ -172,7 +172,7 @@ lowest (zero ∷ bs) bits b e =
     let p : Lowest bs bits = lowest bs bits b.1 e in
     record {
       short = omega (arith, p.short);
-      same = λ i l. p.same i l ∙ sym (get_or_append (all_bits bs) (low_bits 8 0) false i (omega (arith, length_all_bits bs, p.short)));
+      same = λ i l. p.same i l ∙ sym (get_or-append (all_bits bs) (low_bits 8 0) false i (omega (arith, length_all_bits bs, p.short)));
     }
 lowest (suc x ∷ bs) bits b e =
     rw (← some-injective (all_bits bs ++ below_top 7 (suc x)) bits e) (lowest_first (suc x) bs (omega arith) b.0)

@@ -7,8 +7,8 @@ use mathlib.Core.List.{List, [], ◌∷◌, ◌++◌, append_assoc, append-nil}
 use native.Mathlib.Omega.{arith}
 use native.Mathlib.Nat.{mul_comm, mul-mod_left}
 use native.Mathlib.Numerals.{add-one}
-use lib.ListN.{length, get_or, take, drop, set, length_set, drop_of_length-le}
-use lib.Seq.{take-suc, take-nil, take-set-le, take-set-lt, drop-set-lt, drop_cons, length_take_le, take-take, get_or-set_same}
+use lib.ListN.{length, get_or, take, drop, set, length-set, drop_of_length-le}
+use lib.Seq.{take-suc, take-nil, take-set-le, take-set-lt, drop-set-lt, drop-cons, length-take-le, take-take, get_or-set_same}
 use lib.Pow.{mod-pow-add, shl-shr}
 use Rattle.path.specs.Bytes.{value, octets, all_bits}
 use Rattle.path.specs.BytesLaws.{octets_suc, value_bound, value_shifted, drop_shifted, value_last}
@@ -76,7 +76,7 @@ module _ (s₀ : List ℕ) (n r : ℕ) (long : n ≤ length s₀) (h : r < 8) wh
     within = omega arith;
     len = refl;
     same = refl;
-    ahead = sym (ap (λ (l : List ℕ). octets n (drop r (all_bits (take n s₀))) ++ l) (drop_of_length-le (take n s₀) {i = n} (omega (arith, length_take_le n s₀ long))) ∙ append-nil _);
+    ahead = sym (ap (λ (l : List ℕ). octets n (drop r (all_bits (take n s₀))) ++ l) (drop_of_length-le (take n s₀) {i = n} (omega (arith, length-take-le n s₀ long))) ∙ append-nil _);
     rest = refl;
   }
 
@@ -84,7 +84,7 @@ module _ (s₀ : List ℕ) (n r : ℕ) (long : n ≤ length s₀) (h : r < 8) wh
   step s i b m e =
       record {
         within = omega (arith, m.within);
-        len = length_set s i b ∙ m.len;
+        len = length-set s i b ∙ m.len;
         same =
             take-set-le i s i b (omega arith)
             ∙ sym (take-take i (suc i) s (omega arith)) ∙ ap (take i) m.same ∙ take-take i (suc i) s₀ (omega arith);
@@ -108,11 +108,11 @@ module _ (s₀ : List ℕ) (n r : ℕ) (long : n ≤ length s₀) (h : r < 8) wh
           ∙ drop_shifted r (take i s₀) (get_or s₀ i 0) (omega arith)
 
       inside : i < length (take n s)
-      inside = omega (arith, m.within, m.len, length_take_le n s (omega (arith, m.len)))
+      inside = omega (arith, m.within, m.len, length-take-le n s (omega (arith, m.len)))
 
       there : drop i (take n (set s i b)) ≡ b ∷ drop (suc i) (take n s)
       there =
-          ap (drop i) (take-set-lt n s i b m.within) ∙ drop_cons (set (take n s) i b) i 0 (rw length_set inside)
+          ap (drop i) (take-set-lt n s i b m.within) ∙ drop-cons (set (take n s) i b) i 0 (rw length-set inside)
           ∙ ap₂ {C = List ℕ} (λ (x : ℕ) (l : List ℕ). x ∷ l) (get_or-set_same (take n s) i b 0 inside) (drop-set-lt (suc i) (take n s) i b (omega arith))
 
   pub align_more : (s : List ℕ) (j b : ℕ) → Aligning s₀ n r s j → 0 < j → b ≡ value (take 8 (drop r (all_bits (take (j - 1 + 1) s)))) → Aligning s₀ n r (set s (j - 1) b) (j - 1)

@@ -5,7 +5,7 @@ use mathlib.Core.Path.{◌≡◌, refl, sym, ap, subst, ◌∙◌}
 use mathlib.Core.List.{List, ◌∷◌}
 use mathlib.Core.Option.{Option, none, some}
 use native.Mathlib.Omega.{arith}
-use lib.ListN.{length, take, drop, length_drop}
+use lib.ListN.{length, take, drop, length-drop}
 use lib.Seq.{drop-drop}
 use Rattle.words.specs.Choice.{clash}
 use Rattle.atom.specs.Parse.{Parse, blob, refused, parse, moved_by, parse_at, blob_of}
@@ -39,7 +39,7 @@ pub record Found (input : List ℕ) (p start end : ℕ) : Type 0 where
 
 same_blob : (input : List ℕ) (p s e : ℕ) → p ≤ length input → Within (drop p input) s e → blob_of input (blob (p + s) (p + e)) ≡ blob_of (drop p input) (blob s e)
 same_blob input p s e h k =
-    blob_there input (p + s) (p + e) (omega (arith, k.forward)) (omega (arith, k.inside, length_drop p input)) ∙ ap (λ (n : ℕ). take n (drop (p + s) input)) count
+    blob_there input (p + s) (p + e) (omega (arith, k.forward)) (omega (arith, k.inside, length-drop p input)) ∙ ap (λ (n : ℕ). take n (drop (p + s) input)) count
     ∙ ap (take (e - s)) (sym (drop-drop s p input)) ∙ sym (blob_there (drop p input) s e k.forward k.inside)
   where
     count : p + e - (p + s) ≡ e - s
@@ -108,7 +108,7 @@ module _ (input w p a b : List ℕ) (r : Reader) (h : Stands input w p a b r) (s
   short_blob = rw f.bytes_are (length_blob (drop r.position input) f.from f.size f.within)
 
   inside_end : end ≤ length input
-  inside_end = omega (arith, f.end_is, f.within.inside, length_drop r.position input, h.lent.inside)
+  inside_end = omega (arith, f.end_is, f.within.inside, length-drop r.position input, h.lent.inside)
 
   pub atom_room : AtomRoom w a b r atom_bytes
   atom_room =

@@ -5,7 +5,7 @@ use mathlib.Core.Path.{◌≡◌, refl, sym, ap, subst, ◌∙◌}
 use mathlib.Core.List.{List, [], ◌∷◌}
 use native.Mathlib.Omega.{arith}
 use lib.ListN.{length, take, drop, replicate}
-use lib.Seq.{drop-drop, length_take_le}
+use lib.Seq.{drop-drop, length-take-le}
 use Rattle.spec_reading.specs.Format.{ParseOp, SExp, Step, go, whole}
 use Rattle.spec_reading.specs.Store.{Stored}
 use Rattle.spec_reading.specs.Sound.{Sound}
@@ -56,7 +56,7 @@ pub counts : (input w p a b : List ℕ) (r : Reader) (ops : List ParseOp) (used 
 counts input w p a b r ops used h few s =
     let n : length (take (2 * r.pairs) p) / 2 ≡ r.pairs = half p (take (2 * r.pairs) p) r.pairs h.pairs_in refl in
     let m : length (take (2 * r.atoms) a) / 2 ≡ r.atoms = half a (take (2 * r.atoms) a) r.atoms h.atoms_in refl in
-    let k : length (take r.bytes b) ≡ r.bytes = length_take_le r.bytes b h.bytes_in in
+    let k : length (take r.bytes b) ≡ r.bytes = length-take-le r.bytes b h.bytes_in in
     record {
       values = omega (arith, s.values_bound, length_values w r.values);
       pairs = omega (arith, s.pairs_bound);

@@ -7,8 +7,8 @@ use mathlib.Core.List.{List, [], ◌∷◌}
 use mathlib.Core.Option.{Option, none, some}
 use native.Mathlib.Omega.{arith}
 use native.Mathlib.Decide.{ℕ_discrete}
-use lib.ListN.{length, take, drop, length_drop}
-use lib.Seq.{drop-drop, get_or-take, length_take_le}
+use lib.ListN.{length, take, drop, length-drop}
+use lib.Seq.{drop-drop, get_or-take, length-take-le}
 use Rattle.words.specs.Words.{at}
 use Rattle.words.specs.Lists.{All, all_at}
 use Rattle.atom.specs.Parse.{Parse, blob, refused, parse_at, blob_of}
@@ -108,7 +108,7 @@ module _ (input w p : List ℕ) (r : Reader) (h : BeforePath input w p r) where
             (subst (λ (x : ℕ). KnownHandle r.pairs (length h.atoms / 2) x) (get_or-take (2 * r.pairs) p k 0 l)
             (subst (λ (n : ℕ). KnownHandle n (length h.atoms / 2) (at (take (2 * r.pairs) p) k)) count
             (all_at (KnownHandle (length (take (2 * r.pairs) p) / 2) (length h.atoms / 2)) (take (2 * r.pairs) p) 0 k h.sound.holds.words_known
-            (omega (arith, length_take_le (2 * r.pairs) p h.pairs_in)))));
+            (omega (arith, length-take-le (2 * r.pairs) p h.pairs_in)))));
       }
 
   pub few_values : r.values < 131072
@@ -130,7 +130,7 @@ module _ (input w p : List ℕ) (r : Reader) (h : BeforePath input w p r) where
     bytes_there = ap (blob_of input) f.found ∙ at_path.bytes_are
 
     end_inside : end ≤ length input
-    end_inside = omega (arith, at_path.end_is, at_path.within.inside, length_drop (r.position + 1) input, h.inside)
+    end_inside = omega (arith, at_path.end_is, at_path.within.inside, length-drop (r.position + 1) input, h.inside)
 
     pub path_short : length path_bytes ≤ 65535
     path_short =

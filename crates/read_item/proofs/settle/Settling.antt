@@ -5,7 +5,7 @@ use mathlib.Core.Path.{◌≡◌, refl, sym, ap, subst, ◌∙◌}
 use mathlib.Core.List.{List, [], ◌∷◌}
 use native.Mathlib.Omega.{arith}
 use lib.ListN.{length, drop, drop_of_length-le}
-use lib.Seq.{drop_cons}
+use lib.Seq.{drop-cons}
 use Rattle.spec_reading.specs.Format.{ParseOp, SExp, Cons, go, at_end, settle}
 use Rattle.spec_reading.specs.Store.{store_values}
 use Rattle.spec_reading.specs.Sound.{Sound}
@@ -47,7 +47,7 @@ module _ (input w p : List ℕ) (r : Reader) (w' p' : List ℕ) (s : Reader) (h 
       record {
         same = λ a b.
             h.onward.same rest a b ∙ ap (λ (ops : List ParseOp). settle store_values rest ops (stored_with w' p' a b s)) (no_ops w' s.ops e)
-            ∙ ap (λ (l : List ℕ). at_end store_values l (stored_with w' p' a b s)) (drop_cons input r.position 0 (omega (arith, same_place)));
+            ∙ ap (λ (l : List ℕ). at_end store_values l (stored_with w' p' a b s)) (drop-cons input r.position 0 (omega (arith, same_place)));
         follows = tt;
       }
 

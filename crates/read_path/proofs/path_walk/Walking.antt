@@ -8,7 +8,7 @@ use mathlib.Core.Option.{none, some}
 use native.Mathlib.Omega.{arith}
 use native.Mathlib.Numerals.{add-one}
 use lib.ListN.{length, get_or, take, drop, drop_of_length-le}
-use lib.Seq.{drop_cons, get_or-take}
+use lib.Seq.{drop-cons, get_or-take}
 use Rattle.words.specs.Choice.{clash}
 use Rattle.words.specs.Words.{at}
 use Rattle.allocator.specs.Handle.{Node, pair, listed-atom, small-atom, unknown, node_of, index_of, is_pair}
@@ -65,12 +65,12 @@ down_over bits depth i d h =
 pub down_stop : (bits : List Bool) (depth i : ℕ) → Down bits depth i → i < length bits → get_or bits i false ≡ false → i ≡ down bits depth
 down_stop bits depth i d h e =
     sym
-    (d ∙ ap (λ (l : List Bool). i + down l (depth - i)) (drop_cons bits i false h)
+    (d ∙ ap (λ (l : List Bool). i + down l (depth - i)) (drop-cons bits i false h)
     ∙ ap (λ (n : ℕ). i + n) (down_clear (get_or bits i false) (drop (suc i) bits) (depth - i) e) ∙ omega arith)
 
 pub down_more : (bits : List Bool) (depth i : ℕ) → Down bits depth i → i < length bits → i < depth → get_or bits i false ≡ true → Down bits depth (i + 1)
 down_more bits depth i d h l e =
-    d ∙ ap (λ (l : List Bool). i + down l (depth - i)) (drop_cons bits i false h)
+    d ∙ ap (λ (l : List Bool). i + down l (depth - i)) (drop-cons bits i false h)
     ∙ ap (λ (n : ℕ). i + n) (down_set (get_or bits i false) (drop (suc i) bits) (depth - i) e (omega arith))
     ∙ ap (λ (n : ℕ). i + (1 + down (drop (suc i) bits) n)) less
     ∙ ap (λ (n : ℕ). i + (1 + down (drop n bits) (depth - (i + 1)))) (sym (add-one i)) ∙ omega arith
@@ -119,13 +119,13 @@ module _ (p : List ℕ) (used : ℕ) (bits : List Bool) (from h i g : ℕ) (o : 
 
   pub onward_atom : i < length bits → is_pair (node_of g) ≡ false → (s : Store) → s.pairs ≡ take (2 * used) p → none ≡ walk s (drop from bits) (node_of h)
   onward_atom l a s e =
-      sym (o s e ∙ ap (λ (b : List Bool). walk s b (node_of g)) (drop_cons bits i false l) ∙ walk_into s (get_or bits i false) (drop (suc i) bits) (node_of g) a)
+      sym (o s e ∙ ap (λ (b : List Bool). walk s b (node_of g)) (drop-cons bits i false l) ∙ walk_into s (get_or bits i false) (drop (suc i) bits) (node_of g) a)
 
   onward_more : i < length bits → is_pair (node_of g) ≡ true → index_of (node_of g) < used → (b : Bool) → get_or bits i false ≡ b
       → Onward p used bits from h (i + 1) (at p (2 * index_of (node_of g) + pick_word b))
   onward_more l a w b q s e =
       o s e
-      ∙ ap (λ (r : List Bool). walk s r (node_of g)) (drop_cons bits i false l)
+      ∙ ap (λ (r : List Bool). walk s r (node_of g)) (drop-cons bits i false l)
       ∙ walk_down s (get_or bits i false) (drop (suc i) bits) (node_of g) a
       ∙ ap (λ (c : Bool). walk s (drop (suc i) bits) (node_of (at s.pairs (2 * index_of (node_of g) + pick_word c)))) q
       ∙ ap (λ (l : List ℕ). walk s (drop (suc i) bits) (node_of (at l (2 * index_of (node_of g) + pick_word b)))) e

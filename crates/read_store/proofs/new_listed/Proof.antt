@@ -2,7 +2,7 @@
 -- Assumes nothing.
 use mathlib.Core.Path.{refl}
 use native.Mathlib.Omega.{arith}
-use lib.ListN.{length_set}
+use lib.ListN.{length-set}
 use borrow.Author.Rules.{rules}
 use Rattle.read_store.proofs.Stored.{two_stores}
 use Rattle.read_store.proofs.new_listed.Statement.{statement}
@@ -39,7 +39,7 @@ mul-atoms-4 : tie.Need-overflow-mul-atoms-4
 mul-atoms-4 c = search rules
 
 slice-write-atoms-2 : tie.Need-slice-write-atoms-2
-slice-write-atoms-2 c = simp length_set (omega arith)
+slice-write-atoms-2 c = simp length-set (omega arith)
 
 cast-bytes : tie.Need-overflow-cast-bytes
 cast-bytes c = search rules

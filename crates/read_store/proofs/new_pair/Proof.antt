@@ -1,7 +1,7 @@
 -- `read_store::new_pair` meets its contract: its two stores are the paste of the two handles.
 -- Assumes nothing.
 use native.Mathlib.Omega.{arith}
-use lib.ListN.{length_set}
+use lib.ListN.{length-set}
 use borrow.Author.Rules.{rules}
 use Rattle.read_store.proofs.Stored.{two_stores}
 use Rattle.read_store.proofs.new_pair.Statement.{statement}
@@ -26,7 +26,7 @@ mul-pairs-4 : tie.Need-overflow-mul-pairs-4
 mul-pairs-4 c = search rules
 
 slice-write-pairs-2 : tie.Need-slice-write-pairs-2
-slice-write-pairs-2 c = simp length_set (omega arith)
+slice-write-pairs-2 c = simp length-set (omega arith)
 
 cast-pair : tie.Need-overflow-cast-pair
 cast-pair c = search rules

@@ -5,7 +5,7 @@ use mathlib.Core.Path.{◌≡◌, refl, ap, ◌∙◌}
 use mathlib.Core.List.{List, [], ◌∷◌}
 use native.Mathlib.Omega.{arith}
 use native.Mathlib.Numerals.{add-one}
-use lib.ListN.{length, drop, set, length_set}
+use lib.ListN.{length, drop, set, length-set}
 use Rattle.words.specs.Words.{at}
 use Rattle.words.proofs.Words.{Store, stores, miss, hit}
 use Rattle.spec_reading.specs.Format.{ParseOp, SExp, Cons}
@@ -87,7 +87,7 @@ module _ (w : List ℕ) (n v : ℕ) (room : VALUES + 2 * n + 1 < length w) where
   value_list : at value_pushed (VALUES + 2 * n + 1) ≡ 0
   unfolding value_pushed value_stores
   value_list =
-      let l : VALUES + 2 * n + 1 < length (set w (VALUES + 2 * n) v) = simp length_set (omega arith) in
+      let l : VALUES + 2 * n + 1 < length (set w (VALUES + 2 * n) v) = simp length-set (omega arith) in
       hit [] (set w (VALUES + 2 * n) v) (VALUES + 2 * n + 1) 0 l tt
 
   pub pushed_value : PushedValue w (set (set w (VALUES + 2 * n) v) (VALUES + 2 * n + 1) 0) n v
@@ -117,7 +117,7 @@ module _ (w : List ℕ) (n : ℕ) (room : n + 2 ≤ VALUES) (long : VALUES ≤ l
   pair_read : at pair_pushed (OPS + n + 1) ≡ 0
   unfolding pair_pushed pair_stores
   pair_read =
-      let l : OPS + n + 1 < length (set w (OPS + n) 1) = simp length_set (omega arith) in
+      let l : OPS + n + 1 < length (set w (OPS + n) 1) = simp length-set (omega arith) in
       hit [] (set w (OPS + n) 1) (OPS + n + 1) 0 l tt
 
   pair_ops : ops_of pair_pushed (n + 2) ≡ SExp ∷ Cons ∷ ops_of w n

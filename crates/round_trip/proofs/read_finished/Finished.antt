@@ -5,13 +5,13 @@ use mathlib.Core.Path.{◌≡◌, sym, ap, ◌∙◌}
 use mathlib.Core.List.{List}
 use native.Mathlib.Omega.{arith}
 use lib.ListN.{length, take}
-use lib.Seq.{length_take_le}
+use lib.Seq.{length-take-le}
 use Rattle.words.proofs.Words.{take_lesser}
 use Rattle.spec_reading.specs.Call as read
 
 -- The count of bytes that are lent.
 pub lesser_many : (m n : ℕ) (l : List ℕ) → m ≡ min n (length l) → m ≡ length (take m l)
-lesser_many m n l e = sym (length_take_le m l (omega arith))
+lesser_many m n l e = sym (length-take-le m l (omega arith))
 
 -- What the reading call gives of the lesser count of bytes is what it gives of the size.
 pub first_read : (m n : ℕ) (o : List ℕ) → m ≡ min n (length o) → (lent : read.Slices) (r : read.Result) → r ≡ read.reading (take m o) lent

@@ -48,7 +48,7 @@ use Rattle.session_state.specs.contracts.checkpoints.Checkpoint as T
 use Rattle.path.specs.Measure.{counted}
 use Rattle.spec_reading.specs.Call.{reading}
 use Rattle.read_answer.specs.declared.ReadAnswer.{ReadAnswer}
-use Rattle.read_answer.specs.Answer.{slices as store-slices}
+use Rattle.read_answer.specs.Answer.{slices as store_slices}
 use Rattle.read_answer.specs.contracts.ReadAnswer as Q
 use Rattle.read_answer.proofs.ReadAnswer.TheLaws as Q'
 use Rattle.read_call.specs.Outcome.{read_result_of}
@@ -206,7 +206,7 @@ module _ {M : Type 1} {𝓤 : Ura M} (𝓛 : Logic 𝓤) (mem : Memory → SProp
     Back s w w₂ cs o = ReadsBack counted x₀.now (result_of s w w₂ cs o)
 
     abbrev WasRead : SessionAnswer → (w o : List ℕ) → ReadAnswer → (w₁ ps ns bs : List ℕ) → Type 0
-    WasRead s w o r w₁ ps ns bs = read_result_of r w₁ ps ns bs ≡ reading (take s.size o) (store-slices w x₅.now x₆.now x₇.now)
+    WasRead s w o r w₁ ps ns bs = read_result_of r w₁ ps ns bs ≡ reading (take s.size o) (store_slices w x₅.now x₆.now x₇.now)
 
     abbrev Ends : (w₁ w₂ : List ℕ) (cs : List Checkpoint) (o ps ns bs : List ℕ) → List (Item 𝓤)
     Ends w₁ w₂ cs o ps ns bs = ‵ ((ShrSlice (named 0) κ₀ u8).own_val x₀ (v₀ ∷ [])) ∷ ‵ (flft κ₀ q₀) ∷ ‵ (flft κ₁ q₁) ∷ ‵ (flft κ₂ q₂) ∷ ‵ (flft κ₃ q₃)

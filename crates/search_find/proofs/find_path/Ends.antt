@@ -5,7 +5,7 @@ use mathlib.Core.Bool.{Bool, true, cond}
 use mathlib.Core.List.{List, [], ◌∷◌, ◌++◌}
 use Prim.Native.Nat.{ℕ, ◌+◌, ◌/◌, ◌%◌, ◌^◌, ◌≤◌, ◌<◌}
 use native.Mathlib.Omega.{arith}
-use lib.ListN.{length, length_append}
+use lib.ListN.{length, length-append}
 use lib.Dec.{ltb, eqb}
 use borrow.Author.Tests.{lt-ltb, le-ltb, eq-eqb, ne_eqb}
 use Rattle.words.specs.Choice.{by_lt, cond_true, cond_false}
@@ -43,7 +43,7 @@ documented_bits n one =
 
 documented_same : (bits : List Bool) → Ends bits → length bits ≤ 8192 → documented_bytes (eqb (length bits % 8) 0) ((length bits + 7) / 8) ≡ documented bits
 documented_same bits h few =
-    let one : 1 ≤ length bits = omega (arith, ap length h.ends, length_append h.steps (true ∷ [])) in
+    let one : 1 ≤ length bits = omega (arith, ap length h.ends, length-append h.steps (true ∷ [])) in
     documented_bits (length bits) one
     ∙ ap (λ (k : ℕ). cond (ltb (length bits) 8) 1 (documented_prefix k + k)) (sym (length_path_bytes bits))
     ∙ sym (subst (λ (b : List Bool). documented b ≡ cond (ltb (length b) 8) 1 (documented_prefix (length (path_bytes b)) + length (path_bytes b))) (sym h.ends)

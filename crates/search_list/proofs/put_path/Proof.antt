@@ -1,7 +1,7 @@
 -- `search_list::put_path` meets its contract: the three words are stored, and no other.
 -- Assumes nothing.
 use Rattle.search_list.proofs.Trails.{stored}
-use lib.ListN.{length_set}
+use lib.ListN.{length-set}
 use native.Mathlib.Omega.{arith}
 use borrow.Author.Rules.{rules}
 use Rattle.search_list.proofs.put_path.Statement.{statement}
@@ -32,7 +32,7 @@ mul-work-4 : tie.Need-overflow-mul-work-4
 mul-work-4 c = search rules
 
 slice-write-work-2 : tie.Need-slice-write-work-2
-slice-write-work-2 c = simp length_set (omega arith)
+slice-write-work-2 c = simp length-set (omega arith)
 
 mul-work-5 : tie.Need-overflow-mul-work-5
 mul-work-5 c = search rules
@@ -47,10 +47,10 @@ mul-work-6 : tie.Need-overflow-mul-work-6
 mul-work-6 c = search rules
 
 slice-write-work-3 : tie.Need-slice-write-work-3
-slice-write-work-3 c = simp length_set (omega arith)
+slice-write-work-3 c = simp length-set (omega arith)
 
 same_length : tie.Need-same-length
-same_length c = simp length_set
+same_length c = simp length-set
 
 returns : tie.Need-returns
 returns c = stored c.args.work.now c.args.i c.args.a c.args.v c.args.x c.requires.0 c.requires.1

@@ -1,7 +1,7 @@
 -- `search_passes::start` meets its contract: no node, no entry seen, and one path.
 -- Assumes nothing.
 use Rattle.search_passes.proofs.PassLaws.{started}
-use lib.ListN.{length_set}
+use lib.ListN.{length-set}
 use mathlib.Core.Path.{◌∙◌}
 use native.Mathlib.Omega.{arith}
 use borrow.Author.Rules.{rules}
@@ -20,10 +20,10 @@ new-requires c κs = search rules
 put-at-entry-requires : tie.Need-put-at-entry-requires
 put-at-entry-requires c κs =
     let k = c.before.before.before.before in
-    (simp length_set (omega (arith, k.clear-seen.auto.0, k.before.before.before.requires.0)), omega arith)
+    (simp length-set (omega (arith, k.clear-seen.auto.0, k.before.before.before.requires.0)), omega arith)
 
 same_length : tie.Need-same-length
-same_length c = c.before.before.put-at-entry.auto.0 ∙ simp length_set c.before.before.before.before.before.before.before.clear-seen.auto.0
+same_length c = c.before.before.put-at-entry.auto.0 ∙ simp length-set c.before.before.before.before.before.before.before.clear-seen.auto.0
 
 returns : tie.Need-returns
 returns c =

@@ -3,7 +3,7 @@
 use Prim.Native.Nat.{◌≤◌}
 use mathlib.Core.Path.{refl}
 use native.Mathlib.Omega.{arith}
-use lib.ListN.{length, length_set}
+use lib.ListN.{length, length-set}
 use borrow.Author.Rules.{rules}
 use Rattle.words.specs.Words.{WORK}
 use Rattle.file_parts.specs.Checked.{Passed}
@@ -35,13 +35,13 @@ slice-write-work : tie.Need-slice-write-work
 slice-write-work c = search rules
 
 slice-write-work-2 : tie.Need-slice-write-work-2
-slice-write-work-2 c = simp length_set (omega (arith, c.before.before.load-firsts.auto.0, long (to-places c)))
+slice-write-work-2 c = simp length-set (omega (arith, c.before.before.load-firsts.auto.0, long (to-places c)))
 
 slice-write-work-3 : tie.Need-slice-write-work-3
-slice-write-work-3 c = simp length_set (omega (arith, c.before.before.load-firsts.auto.0, long (to-places c)))
+slice-write-work-3 c = simp length-set (omega (arith, c.before.before.load-firsts.auto.0, long (to-places c)))
 
 same_length : tie.Need-same-length
-same_length c = simp length_set (omega (arith, c.before.before.load-firsts.auto.0, (to-places c).load-places.auto.1.0))
+same_length c = simp length-set (omega (arith, c.before.before.load-firsts.auto.0, (to-places c).load-places.auto.1.0))
 
 returns : tie.Need-returns
 returns c =

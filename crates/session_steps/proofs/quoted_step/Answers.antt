@@ -8,7 +8,7 @@ use mathlib.Core.Logic.{◌≢◌}
 use mathlib.Core.Option.{none, some-injective}
 use native.Mathlib.Omega.{arith}
 use lib.Dec.{ltb}
-use lib.ListN.{length, get_or, set, take, length_append}
+use lib.ListN.{length, get_or, set, take, length-append}
 use lib.Seq.{take_at, set-get_or}
 use borrow.Author.Tests.{lt-ltb}
 use Rattle.words.specs.Choice.{cond_true, clash}
@@ -45,7 +45,7 @@ module _ {measure : Measure} {input : List ℕ} {f : File} {w words : List ℕ} 
 
   -- The quote's add is the last one.
   adds-are : p.adds ≡ length u.state.past + 1
-  adds-are = sym u.history.long ∙ ap length shown.1 ∙ length_append u.state.past (u.state.now ∷ [])
+  adds-are = sym u.history.long ∙ ap length shown.1 ∙ length-append u.state.past (u.state.now ∷ [])
 
   slot : slot_for p.quoted u.left p.adds ≡ p.adds - 1
   slot =

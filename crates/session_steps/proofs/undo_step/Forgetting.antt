@@ -6,7 +6,7 @@ use mathlib.Core.Path.{◌≡◌, refl, sym, ap, ◌∙◌}
 use mathlib.Core.List.{List, ◌∷◌, ◌++◌, map}
 use lib.Seq.{get_or-set_same, get_or-set_other}
 use native.Mathlib.Omega.{arith}
-use lib.ListN.{length, length_append, length_map}
+use lib.ListN.{length, length-append, length-map}
 use Rattle.words.specs.Choice.{by_lt}
 use Rattle.words.specs.Words.{at, tabulate, WORK}
 use Rattle.words.proofs.Words.{tabulate_same}
@@ -53,14 +53,14 @@ module _ (f : File) (v w : List ℕ) (a c : Cache) (hv : Holds f v a) (hw : Hold
   pub used_more : at v USED ≤ at w USED
   used_more =
       let l = ap length bare_rows in
-      let m = length_append (map bare (map (entry_of f) (rows_of v))) x.more in
+      let m = length-append (map bare (map (entry_of f) (rows_of v))) x.more in
       omega (
         arith,
-        length_map (map (entry_of f) (rows_of w)) bare,
-        length_map (rows_of w) (entry_of f),
+        length-map (map (entry_of f) (rows_of w)) bare,
+        length-map (rows_of w) (entry_of f),
         length_rows w,
-        length_map (map (entry_of f) (rows_of v)) bare,
-        length_map (rows_of v) (entry_of f),
+        length-map (map (entry_of f) (rows_of v)) bare,
+        length-map (rows_of v) (entry_of f),
         length_rows v,
       )
 

@@ -2,7 +2,7 @@
 -- Assumes nothing.
 use Prim.Native.Nat.{◌-◌, ◌≤◌}
 use mathlib.Core.Path.{◌≡◌}
-use lib.ListN.{length, length_set}
+use lib.ListN.{length, length-set}
 use native.Mathlib.Omega.{arith}
 use borrow.Author.Rules.{rules}
 use Rattle.text.proofs.spell.Statement.{statement}
@@ -39,7 +39,7 @@ add-text : tie.Need-overflow-add-text invariant-loop decreases-loop
 add-text c = search rules
 
 slice-write-text-2 : tie.Need-slice-write-text-2 invariant-loop decreases-loop
-slice-write-text-2 c = simp length_set (omega arith)
+slice-write-text-2 c = simp length-set (omega arith)
 
 add-i : tie.Need-overflow-add-i invariant-loop decreases-loop
 add-i c = search rules

@@ -6,9 +6,9 @@ use mathlib.Core.List.{List, [], ◌∷◌, ◌++◌, append_assoc}
 use mathlib.Core.Option.{Option, some}
 use mathlib.Core.Bool.{Bool, true}
 use native.Mathlib.Omega.{arith}
-use lib.ListN.{length, take, drop, set, length_drop}
+use lib.ListN.{length, take, drop, set, length-drop}
 use borrow.Rule.Slice.PartMut.{put_mid}
-use lib.Seq.{paste, take_all, drop-drop, length_take_le}
+use lib.Seq.{paste, take_all, drop-drop, length-take-le}
 use Rattle.words.specs.BigEndian.{length_big_endian}
 use Rattle.atom.specs.Prefix.{mark, prefix, prefix_width, encode}
 use Rattle.atom.specs.Write.{next, full, put}
@@ -80,7 +80,7 @@ module _ (w : List ℕ) (slot : ℕ) (out : List ℕ) (start count : ℕ) (e : c
   -- The part of the output that is lent is as long as the path.
   pub part_long : length (take (start + count - start) (drop start out)) ≡ length (path_bytes (path_at w slot))
   part_long =
-      ap (λ (k : ℕ). length (take k (drop start out))) same ∙ length_take_le count (drop start out) (simp length_drop (omega arith))
+      ap (λ (k : ℕ). length (take k (drop start out))) same ∙ length-take-le count (drop start out) (simp length-drop (omega arith))
       ∙ omega (arith, length_path_bytes (path_at w slot))
 
   -- It came back with the path's bytes.

@@ -5,7 +5,7 @@ use mathlib.Core.Path.{◌≡◌, refl, sym, ap, ◌∙◌}
 use mathlib.Core.Bool.{true, false, false≢true}
 use mathlib.Core.List.{List}
 use native.Mathlib.Omega.{arith}
-use lib.ListN.{length, take, drop, length-take, length_drop}
+use lib.ListN.{length, take, drop, length-take, length-drop}
 use Rattle.words.specs.Words.{at}
 use Rattle.allocator.specs.Handle.{Node, pair, listed-atom, small-atom, unknown, node_of, index_of, is_atom, is_pair}
 use Rattle.allocator.specs.SmallAtom.{small_bytes}
@@ -32,7 +32,7 @@ named_atom a p (unknown k i) q b = absurd (false≢true q)
 
 -- A part of a short file is short.
 pub part_short : (file : List ℕ) (a n : ℕ) → length file ≤ 65535 → length (take n (drop a file)) < 2 ^ 34
-part_short file a n h = simp (length-take, length_drop) (omega arith)
+part_short file a n h = simp (length-take, length-drop) (omega arith)
 
 -- The part that starts and ends where the words say.
 pub part_is : (file w : List ℕ) (i a b : ℕ) → a ≡ start_of w i → b ≡ end_of w i → take (b - a) (drop a file) ≡ atom_bytes file w i

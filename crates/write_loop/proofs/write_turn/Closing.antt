@@ -4,7 +4,7 @@ use Prim.Native.Nat.{ℕ, suc, ◌+◌, ◌-◌, ◌*◌, ◌/◌, ◌%◌, ◌�
 use mathlib.Core.Path.{◌≡◌, refl, sym, ap, ◌∙◌, subst}
 use mathlib.Core.List.{List, ◌∷◌}
 use native.Mathlib.Omega.{arith}
-use lib.ListN.{length, set, length_set}
+use lib.ListN.{length, set, length-set}
 use Rattle.words.specs.Words.{at}
 use Rattle.path.specs.declared.Measure.{Measure}
 use Rattle.path.specs.Measure.{measure_of}
@@ -115,7 +115,7 @@ module _ (w : List ℕ) (p : Place) (st : Standing w p.opens p.depth 1) (n : ℕ
     right_names =
         let wh = st.whole in
         let o = store_only w n (v - 1) few wh in
-        let len = length_set w (OPEN + n) (v - 1) in
+        let len = length-set w (OPEN + n) (v - 1) in
         names_stay w w' len o wh (at w PAIR_COUNT) (at w' PAIR_COUNT) right.0 (pairs_stay w w' len o wh)
         (names_grow w (v / 2) (at w PAIR_COUNT) right.0 (omega (arith, innermost_low))
         (subst (λ (x : ℕ). Names w (v / 2) x) (sym there) (wh.handles.rights (v / 2) innermost_low)))

@@ -6,7 +6,7 @@ use mathlib.Core.Bool.{false}
 use mathlib.Core.List.{List, [], ◌∷◌, ◌++◌}
 use native.Mathlib.Omega.{arith}
 use lib.ListN.{length, take}
-use lib.Seq.{take-take, take_at, take-length, take-paste, length_take_le, length-paste}
+use lib.Seq.{take-take, take_at, take-length, take-paste, length-take-le, length-paste}
 use borrow.Author.Tests.{lt-ltb, le-ltb}
 use Rattle.spec_session.specs.Items.{Item, cons_item, atom_item, reference_item, item_size, size_of, item_bytes, output}
 use Rattle.spec_session.specs.Output.{item_size_is, output_more}
@@ -37,7 +37,7 @@ module _ {out out' : List ℕ} {c : Counts} {i : Item} {m : Counts} (a : ItemPut
   taken_before =
       let q = put_there in
       sym (take-take c.size m.size out' (omega (arith, q.end))) ∙ ap (take c.size) taken_all
-      ∙ take_at (take c.size out) (item_bytes i) c.size (length_take_le c.size out (omega (arith, q.fits)))
+      ∙ take_at (take c.size out) (item_bytes i) c.size (length-take-le c.size out (omega (arith, q.fits)))
 
   length_stays : length out' ≡ length out
   length_stays = let q = put_there in ap length q.is ∙ length-paste out c.size (item_bytes i) (length (item_bytes i)) q.fits (omega arith)

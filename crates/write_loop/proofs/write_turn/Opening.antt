@@ -6,7 +6,7 @@ use mathlib.Core.Bool.{true, false}
 use mathlib.Core.List.{List, [], ◌∷◌, ◌++◌}
 use native.Mathlib.Omega.{arith}
 use native.Mathlib.Numerals.{add-one}
-use lib.ListN.{length, set, length_set}
+use lib.ListN.{length, set, length-set}
 use lib.Dec.{eqb}
 use borrow.Author.Tests.{lt-ltb, le-ltb}
 use Rattle.allocator.specs.HandleLaws.{is_pair_handle, pair_of_index}
@@ -191,7 +191,7 @@ module _ {w out : List ℕ} {p : Place} (h : NodePtr) {e : ℕ} (fo : Found w ou
       left_names =
           let wh = fo.running.stands.whole in
           let o = store_only w p.opens (number * 2 + 1) shallow wh in
-          let len = length_set w (OPEN + p.opens) (number * 2 + 1) in
+          let len = length-set w (OPEN + p.opens) (number * 2 + 1) in
           names_stay w w' len o wh (at w PAIR_COUNT) (at w' PAIR_COUNT) l.0 (pairs_stay w w' len o wh)
           (names_grow w (index_of (node_of h.0)) (at w PAIR_COUNT) l.0 (omega (arith, number_low))
           (subst (λ (x : ℕ). Names w (index_of (node_of h.0)) x) (sym left) (wh.handles.lefts (index_of (node_of h.0)) number_low)))

@@ -5,7 +5,7 @@ use mathlib.Core.Path.{◌≡◌, refl, sym, ap, ◌∙◌}
 use mathlib.Core.List.{List, [], ◌∷◌}
 use native.Mathlib.Omega.{arith}
 use native.Mathlib.Decide.{ℕ_discrete}
-use lib.ListN.{length, set, length_set}
+use lib.ListN.{length, set, length-set}
 use lib.Seq.{get_or-set_same, get_or-set_other}
 use borrow.Author.Tests.{eq-eqb, ne_eqb}
 use Rattle.words.specs.Words.{at}
@@ -52,7 +52,7 @@ module _ (w : List ℕ) (n v : ℕ) (few : n < 4096) (wh : Whole w) where
   store_here = get_or-set_same w (OPEN + n) v 0 (omega (arith, wh.sound.long))
 
   store_length : length stored ≡ length w
-  store_length = length_set w (OPEN + n) v
+  store_length = length-set w (OPEN + n) v
 
   pub store_only : WriterOnly w stored
   store_only =

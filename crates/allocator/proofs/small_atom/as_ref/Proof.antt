@@ -3,7 +3,7 @@
 use borrow.Author.Rules.{rules}
 use native.Mathlib.Omega.{arith}
 use Prim.Native.Nat.{ℕ, ◌-◌}
-use lib.ListN.{length, drop, length_drop}
+use lib.ListN.{length, drop, length-drop}
 use lib.Seq.{take_all}
 use Rattle.allocator.proofs.small_atom.as_ref.Statement.{statement}
 use Rattle.allocator.proofs.small_atom.as_ref.Tie as tie
@@ -23,7 +23,7 @@ part-result-end c = search rules
 returns : tie.Need-returns
 returns c =
     let s : ℕ = 4 - c.before.before.args.len in
-    take_all (length c.before.before.args.bytes.now - s) (drop s c.before.before.args.bytes.now) (omega (arith, length_drop s c.before.before.args.bytes.now))
+    take_all (length c.before.before.args.bytes.now - s) (drop s c.before.before.args.bytes.now) (omega (arith, length-drop s c.before.before.args.bytes.now))
 
 pub as_ref_spec : {M : Type 1} → statement M
 as_ref_spec = tie.close (tie.spec sub-start sub-result part-result-start part-result-end returns)

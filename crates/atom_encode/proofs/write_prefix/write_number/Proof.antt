@@ -4,7 +4,7 @@ use Prim.Native.Nat.{ℕ, ◌≤◌, ◌-◌, ◌+◌, ◌%◌}
 use mathlib.Core.List.{List}
 use mathlib.Core.Path.{◌≡◌, refl, ◌∙◌, ap}
 use native.Mathlib.Omega.{arith}
-use lib.ListN.{length, take, set, length_set}
+use lib.ListN.{length, take, set, length-set}
 use lib.Seq.{take_all}
 use Rattle.words.specs.BigEndian.{big_endian, length_big_endian}
 use Rattle.atom_encode.proofs.write_prefix.Numbers as numbers
@@ -47,7 +47,7 @@ loop-again c =
     let b = big_endian a.width a.number in
     let t = numbers.turn a.output.now b a.position a.width c.before.before.requires (length_big_endian a.width a.number)
     l.left l.rest c.loop-test.true l.invariant.0 l.invariant.2 in
-    (omega arith, simp length_set l.invariant.1, t.1, ap (λ (x : List ℕ). set x (a.position + (l.left - 1)) (l.rest % 256)) l.invariant.3 ∙ t.0)
+    (omega arith, simp length-set l.invariant.1, t.1, ap (λ (x : List ℕ). set x (a.position + (l.left - 1)) (l.rest % 256)) l.invariant.3 ∙ t.0)
 
 same_length : tie.Need-same-length invariant-loop decreases-loop
 same_length c = c.before.loop.invariant.1

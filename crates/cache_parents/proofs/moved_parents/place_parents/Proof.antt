@@ -3,7 +3,7 @@
 use Prim.Native.Nat.{◌+◌}
 use mathlib.Core.Path.{◌∙◌}
 use native.Mathlib.Omega.{arith}
-use lib.ListN.{length_set}
+use lib.ListN.{length-set}
 use borrow.Author.Rules.{rules}
 use Rattle.cache_parents.proofs.Parents.{count_asks}
 use Rattle.cache_parents.proofs.moved_parents.Move.{still_there, place_list}
@@ -66,7 +66,7 @@ same_length : tie.Need-same-length
 same_length c =
     let m₂ = c.before.before.before in
     let m₁ = m₂.before.before.before.before in
-    simp length_set (m₂.append-moved.ensures.len ∙ m₁.drop-parents.ensures.len)
+    simp length-set (m₂.append-moved.ensures.len ∙ m₁.drop-parents.ensures.len)
 
 returns : tie.Need-returns
 returns c =

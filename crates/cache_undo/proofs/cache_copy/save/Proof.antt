@@ -2,7 +2,7 @@
 -- Assumes nothing.
 use mathlib.Core.Path.{◌≡◌, ◌∙◌}
 use native.Mathlib.Omega.{arith}
-use lib.ListN.{length, set, length_set}
+use lib.ListN.{length, set, length-set}
 use borrow.Author.Rules.{rules}
 use Rattle.words.specs.Words.{at}
 use Rattle.work_layout.specs.Layout.{MAPS, USED, COUNTS, PARENTS}
@@ -34,12 +34,12 @@ maps-copied c =
     let s = start c in
     let w = s.args.work.now in
     let u = set w (copied_used s.args.k) (at w USED) in
-    let l : length u ≡ length w = length_set w (copied_used s.args.k) (at w USED) in
+    let l : length u ≡ length w = length-set w (copied_used s.args.k) (at w USED) in
     let m = c.before.before.wide2 in
     copied u MAPS (copied_maps s.args.k) m.result (omega (arith, s.pre.0.long, s.pre.2, m.ensures)) (omega (arith, s.pre.0.long, s.pre.2, m.ensures)) _ c.copy_within.ensures
 
 maps-length : (c : tie.After-copy-within) → length c.copy_within.new.0 ≡ length (start c).args.work.now
-maps-length c = let s = start c in (maps-copied c).len ∙ length_set s.args.work.now (copied_used s.args.k) (at s.args.work.now USED)
+maps-length c = let s = start c in (maps-copied c).len ∙ length-set s.args.work.now (copied_used s.args.k) (at s.args.work.now USED)
 
 -- And how many parents each entry has.
 counts-copied : (c : tie.After-copy-within2) →
@@ -97,7 +97,7 @@ add-copy-within : tie.Need-overflow-add-copy-within
 add-copy-within c = search rules
 
 copy-within-requires : tie.Need-copy-within-requires
-copy-within-requires c κs = simp length_set (omega arith, omega arith, λ q. omega arith)
+copy-within-requires c κs = simp length-set (omega arith, omega arith, λ q. omega arith)
 
 add-copy-within-2 : tie.Need-overflow-add-copy-within-2
 add-copy-within-2 c = search rules

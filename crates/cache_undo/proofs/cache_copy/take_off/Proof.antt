@@ -3,7 +3,7 @@
 use Prim.Native.Nat.{ℕ, ◌-◌, ◌≤◌}
 use mathlib.Core.Path.{◌≡◌, subst}
 use native.Mathlib.Omega.{arith}
-use lib.ListN.{length_set}
+use lib.ListN.{length-set}
 use borrow.Author.Rules.{rules}
 use Rattle.words.specs.Words.{at}
 use Rattle.work_layout.specs.Layout.{USED}
@@ -82,7 +82,7 @@ mul-work-3 : tie.Need-overflow-mul-work-3 invariant-loop decreases-loop
 mul-work-3 c = search rules
 
 slice-write-work-2 : tie.Need-slice-write-work-2 invariant-loop decreases-loop
-slice-write-work-2 c = simp length_set (omega arith)
+slice-write-work-2 c = simp length-set (omega arith)
 
 loop-less : tie.Need-loop-smaller invariant-loop decreases-loop
 loop-less c = omega arith
@@ -105,7 +105,7 @@ slice-write-work-3 : tie.Need-slice-write-work-3 invariant-loop decreases-loop
 slice-write-work-3 c = search rules
 
 same_length : tie.Need-same-length invariant-loop decreases-loop
-same_length c = simp length_set c.before.loop.invariant.2.len
+same_length c = simp length-set c.before.loop.invariant.2.len
 
 returns : tie.Need-returns invariant-loop decreases-loop
 returns c =

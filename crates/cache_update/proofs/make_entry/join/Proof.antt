@@ -1,7 +1,7 @@
 -- `cache_update::make_entry::join` meets its contract: an entry, two parents and a word of the map.
 -- Assumes nothing.
 use mathlib.Core.Path.{◌∙◌}
-use lib.ListN.{length_set}
+use lib.ListN.{length-set}
 use borrow.Author.Rules.{rules}
 use Rattle.cache_entries.proofs.Joining.{joins}
 use Rattle.cache_update.proofs.make_entry.join.Statement.{statement}
@@ -32,7 +32,7 @@ same_length : tie.Need-same-length
 same_length c =
     let right = c.before.before.before in
     let left = right.before.before.before.before in
-    simp length_set (right.add-parent2.auto.0 ∙ left.add_parent.auto.0 ∙ left.before.before.before.before.enter-pair.auto.0)
+    simp length-set (right.add-parent2.auto.0 ∙ left.add_parent.auto.0 ∙ left.before.before.before.before.enter-pair.auto.0)
 
 returns : tie.Need-returns
 returns c =

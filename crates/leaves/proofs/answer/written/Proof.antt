@@ -2,7 +2,7 @@
 -- Assumes nothing.
 use Prim.Native.Nat.{ℕ}
 use mathlib.Core.Path.{sym}
-use lib.ListN.{length_replicate}
+use lib.ListN.{length-replicate}
 use borrow.Author.Rules.{rules}
 use Rattle.text.proofs.Counted.{counted}
 use Rattle.leaves.proofs.Within.{written_within}
@@ -10,7 +10,7 @@ use Rattle.leaves.proofs.answer.written.Statement.{statement}
 use Rattle.leaves.proofs.answer.written.Tie as tie
 
 slice-aggregate-write-atom : tie.Need-slice-aggregate-write-atom
-slice-aggregate-write-atom c = sym (length_replicate {A = ℕ} 65538 0)
+slice-aggregate-write-atom c = sym (length-replicate {A = ℕ} 65538 0)
 
 write-atom-requires : tie.Need-write-atom-requires
 write-atom-requires c κs = search rules

@@ -1,7 +1,7 @@
 -- `read_store::reader_stacks::push_pair` meets its contract: its two stores go past the operations that are there, and below the values.
 -- Assumes nothing.
 use native.Mathlib.Omega.{arith}
-use lib.ListN.{length_set}
+use lib.ListN.{length-set}
 use borrow.Author.Rules.{rules}
 use Rattle.read_store.proofs.reader_stacks.Stacks.{pushed_pair}
 use Rattle.read_store.proofs.reader_stacks.push_pair.Statement.{statement}
@@ -26,10 +26,10 @@ mul-work-2 : tie.Need-overflow-mul-work-2
 mul-work-2 c = search rules
 
 slice-write-work-2 : tie.Need-slice-write-work-2
-slice-write-work-2 c = simp length_set (omega arith)
+slice-write-work-2 c = simp length-set (omega arith)
 
 same_length : tie.Need-same-length
-same_length c = simp length_set
+same_length c = simp length-set
 
 returns : tie.Need-returns
 returns c = pushed_pair c.args.work.now c.args.used (omega arith) (omega arith)

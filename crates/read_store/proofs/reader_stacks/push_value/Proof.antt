@@ -1,7 +1,7 @@
 -- `read_store::reader_stacks::push_value` meets its contract: its two stores go past the values that are there, and above the operations.
 -- Assumes nothing.
 use native.Mathlib.Omega.{arith}
-use lib.ListN.{length_set}
+use lib.ListN.{length-set}
 use borrow.Author.Rules.{rules}
 use Rattle.read_store.proofs.reader_stacks.Stacks.{pushed_value}
 use Rattle.read_store.proofs.reader_stacks.push_value.Statement.{statement}
@@ -32,10 +32,10 @@ mul-work-4 : tie.Need-overflow-mul-work-4
 mul-work-4 c = search rules
 
 slice-write-work-2 : tie.Need-slice-write-work-2
-slice-write-work-2 c = simp length_set (omega arith)
+slice-write-work-2 c = simp length-set (omega arith)
 
 same_length : tie.Need-same-length
-same_length c = simp length_set
+same_length c = simp length-set
 
 returns : tie.Need-returns
 returns c = pushed_value c.args.work.now c.args.used c.args.node.0 (omega arith)

@@ -3,7 +3,7 @@
 use Rattle.spec_search.specs.Search.{most_visits}
 use Rattle.search_list.proofs.Copies.{node_added}
 use Rattle.words.specs.Words.{at}
-use lib.ListN.{length_set}
+use lib.ListN.{length-set}
 use Prim.Native.Nat.{ℕ, ◌+◌, ◌≤◌}
 use mathlib.Core.Path.{ap, ◌∙◌}
 use native.Mathlib.Omega.{arith}
@@ -51,7 +51,7 @@ mul-work-2 : tie.Need-overflow-mul-work-2
 mul-work-2 c = search rules
 
 slice-write-work-2 : tie.Need-slice-write-work-2
-slice-write-work-2 c = simp length_set (omega arith)
+slice-write-work-2 c = simp length-set (omega arith)
 
 add-work-3 : tie.Need-overflow-add-work-3
 add-work-3 c = omega (arith, short c)
@@ -66,7 +66,7 @@ mul-work-3 : tie.Need-overflow-mul-work-3
 mul-work-3 c = search rules
 
 slice-write-work-3 : tie.Need-slice-write-work-3
-slice-write-work-3 c = simp length_set (omega arith)
+slice-write-work-3 c = simp length-set (omega arith)
 
 entry-requires : tie.Need-entry-requires
 entry-requires c κs = search rules
@@ -74,11 +74,11 @@ entry-requires c κs = search rules
 mark-seen-requires : tie.Need-mark-seen-requires
 mark-seen-requires c κs =
     let s = c.before.before.before.before.before.before.before.before.before.before in
-    (simp length_set s.requires.0.0, omega (arith, s.requires.1.1, c.entry.ensures, c.before.before.before.before.before.parent_of.ensures))
+    (simp length-set s.requires.0.0, omega (arith, s.requires.1.1, c.entry.ensures, c.before.before.before.before.before.parent_of.ensures))
 
 same_length : tie.Need-same-length
 same_length c =
-    c.before.before.mark-seen.auto.0 ∙ simp length_set
+    c.before.before.mark-seen.auto.0 ∙ simp length-set
 
 returns : tie.Need-returns
 returns c =

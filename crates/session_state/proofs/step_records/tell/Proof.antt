@@ -4,7 +4,7 @@ use Prim.Native.Nat.{ℕ, suc, ◌+◌, ◌≤◌}
 use mathlib.Core.List.{List, [], ◌∷◌}
 use mathlib.Core.Path.{◌≡◌, ap, ◌∙◌}
 use native.Mathlib.Omega.{arith}
-use lib.ListN.{length, set, length_set}
+use lib.ListN.{length, set, length-set}
 use lib.Seq.{paste, sets-eq}
 use borrow.Author.Rules.{rules}
 use Rattle.session_state.proofs.step_records.tell.Statement.{statement}
@@ -37,7 +37,7 @@ mul-words-2 c = search rules
 slice-write-words-2 : tie.Need-slice-write-words-2
 slice-write-words-2 c =
     let a = c.before.before.before.args in
-    omega (arith, length_set a.words.now a.at c.before.word_of.result)
+    omega (arith, length-set a.words.now a.at c.before.word_of.result)
 
 cast-words-2 : tie.Need-overflow-cast-words-2
 cast-words-2 c = search rules
@@ -53,8 +53,8 @@ slice-write-words-3 c =
     let a = c.before.before.before.before.args in
     omega (
       arith,
-      length_set (set a.words.now a.at c.before.before.word_of.result) (a.at + 1) a.counts.references,
-      length_set a.words.now a.at c.before.before.word_of.result,
+      length-set (set a.words.now a.at c.before.before.word_of.result) (a.at + 1) a.counts.references,
+      length-set a.words.now a.at c.before.before.word_of.result,
     )
 
 same_length : tie.Need-same-length

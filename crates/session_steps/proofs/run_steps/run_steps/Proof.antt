@@ -11,7 +11,7 @@ use mathlib.Core.WellFounded.InvImage
 use mathlib.Core.WellFounded.{WellFounded}
 use lib.WfN.{lt-wf_rel}
 use lib.Dec.{T as Holds}
-use lib.ListN.{length, get_or, take, length_set}
+use lib.ListN.{length, get_or, take, length-set}
 use seplogic.Ra.Ura.{Ura}
 use seplogic.Ra.TreeShare.{full_share}
 use mir.Syntax.{Ty, Lifetime, named, erased, imm, mut, w64, ty_int, ty_bool, ty_ptr, ty_ref}
@@ -258,7 +258,7 @@ module _ {M : Type 1} {𝓤 : Ura M} (𝓛 : Logic 𝓤) (mem : Memory → SProp
         → length z₁ ≡ length i.0.work → length z₂ ≡ length i.0.words → length z₃ ≡ length i.0.out → Is S.the_row r.state (mach r.state ∷ [])
         → Facts (after_step i.0 k r z₁ z₂ z₃)
     next i go k r z₁ z₂ z₃ ek e e₁ e₂ e₃ t-is = record {
-      rows-len = length_set i.0.rows k r.saved ∙ i.1.rows-len;
+      rows-len = length-set i.0.rows k r.saved ∙ i.1.rows-len;
       work-len = e₁ ∙ i.1.work-len;
       words-len = e₂ ∙ i.1.words-len;
       out-len = e₃ ∙ i.1.out-len;

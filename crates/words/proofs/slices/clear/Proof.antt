@@ -4,7 +4,7 @@ use mathlib.Core.Path.{◌≡◌, refl, ◌∙◌, ap}
 use mathlib.Core.List.{List, ◌++◌}
 use Prim.Native.Nat.{ℕ, ◌≤◌, ◌-◌}
 use native.Mathlib.Omega.{arith}
-use lib.ListN.{length, replicate, drop, set, length_set}
+use lib.ListN.{length, replicate, drop, set, length-set}
 use borrow.Author.Rules.{rules}
 use borrow.Author.Fill.{fill_none, fill_more}
 use Rattle.words.proofs.Words.{filled}
@@ -35,7 +35,7 @@ loop-less c = omega arith
 loop-again : tie.Need-loop-preserved invariant-loop decreases-loop
 loop-again c =
     let w = c.before.loop.invariant in
-    (omega arith, simp length_set (omega arith), ap (λ (l : List ℕ). set l c.before.loop.i 0) w.2 ∙ fill_more c.before.loop.i 0 c.before.before.args.words.now (omega arith))
+    (omega arith, simp length-set (omega arith), ap (λ (l : List ℕ). set l c.before.loop.i 0) w.2 ∙ fill_more c.before.loop.i 0 c.before.before.args.words.now (omega arith))
 
 same_length : tie.Need-same-length invariant-loop decreases-loop
 same_length c = c.before.loop.invariant.1

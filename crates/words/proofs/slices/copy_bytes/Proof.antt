@@ -4,7 +4,7 @@ use mathlib.Core.Path.{◌≡◌, refl, ◌∙◌, ap}
 use mathlib.Core.List.{List}
 use Prim.Native.Nat.{ℕ, ◌≤◌, ◌-◌, ◌+◌}
 use native.Mathlib.Omega.{arith}
-use lib.ListN.{length, set, get_or, length_set}
+use lib.ListN.{length, set, get_or, length-set}
 use lib.Seq.{paste, paste-zero}
 use Rattle.words.proofs.Copies.{paste_more}
 use Rattle.words.proofs.slices.copy_bytes.Statement.{statement}
@@ -39,7 +39,7 @@ loop-again c =
     let l = c.before.before.loop in
     let a = c.before.before.before.args in (
       omega arith,
-      simp length_set (omega arith),
+      simp length-set (omega arith),
       ap (λ (x : List ℕ). set x (a.position + l.copied) (get_or a.from.now l.copied 0)) l.invariant.2
           ∙ paste_more a.to.now a.position a.from.now l.copied (omega arith) (omega arith),
     )

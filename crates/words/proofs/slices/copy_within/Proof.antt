@@ -4,7 +4,7 @@ use mathlib.Core.Path.{◌≡◌, refl, ◌∙◌, ap}
 use mathlib.Core.List.{List}
 use Prim.Native.Nat.{ℕ, ◌≤◌, ◌-◌, ◌+◌}
 use native.Mathlib.Omega.{arith}
-use lib.ListN.{length, set, get_or, drop, length_set}
+use lib.ListN.{length, set, get_or, drop, length-set}
 use lib.Seq.{paste, paste-zero}
 use borrow.Author.Rules.{rules}
 use Rattle.words.proofs.Copies.{within_more}
@@ -50,7 +50,7 @@ loop-again c =
     let a = c.before.before.before.args in
     let p = c.before.before.before.requires in (
       omega arith,
-      simp length_set (omega arith),
+      simp length-set (omega arith),
       ap (λ (x : List ℕ). set x (a.to + l.moved) (get_or x (a.from + l.moved) 0)) l.invariant.2
           ∙ within_more a.words.now a.from a.to a.count l.moved p.0 p.1 p.2 (omega arith),
     )

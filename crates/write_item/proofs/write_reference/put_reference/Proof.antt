@@ -5,7 +5,7 @@ use mathlib.Core.List.{List}
 use mathlib.Core.Path.{ap, ◌∙◌}
 use native.Mathlib.Omega.{arith}
 use lib.Seq.{paste}
-use lib.ListN.{length_set}
+use lib.ListN.{length-set}
 use borrow.Author.Rules.{rules}
 use Rattle.path.specs.Bytes.{path_bytes}
 use Rattle.search_list.specs.State.{path_at}
@@ -21,7 +21,7 @@ add-write-prefix c = search rules
 write-prefix-requires : tie.Need-write-prefix-requires
 write-prefix-requires c κs =
     let s = c.before.before.before in
-    (s.requires.1.0, omega (arith, s.requires.0.3), omega (arith, length_set s.args.output.now s.args.size 0xfe, s.requires.1.1))
+    (s.requires.1.0, omega (arith, s.requires.0.3), omega (arith, length-set s.args.output.now s.args.size 0xfe, s.requires.1.1))
 
 add-put-path : tie.Need-overflow-add-put-path
 add-put-path c = search rules
@@ -34,13 +34,13 @@ put-path-requires c κs =
     let w = c.before.before.before in
     let s = w.before.before.before.before in
     let p = s.requires.0 in
-    (p.0, p.1, p.2, omega (arith, w.write-prefix.auto.0, length_set s.args.output.now s.args.size 0xfe, s.requires.1.1))
+    (p.0, p.1, p.2, omega (arith, w.write-prefix.auto.0, length-set s.args.output.now s.args.size 0xfe, s.requires.1.1))
 
 same_length : tie.Need-same-length
 same_length c =
     let w = c.before.before.before.before.before.before in
     let s = w.before.before.before.before in
-    c.before.before.put_path.auto.1.1.0 ∙ w.write-prefix.auto.0 ∙ length_set s.args.output.now s.args.size 0xfe
+    c.before.before.put_path.auto.1.1.0 ∙ w.write-prefix.auto.0 ∙ length-set s.args.output.now s.args.size 0xfe
 
 returns : tie.Need-returns
 returns c =

@@ -2,7 +2,7 @@
 -- Assumes nothing.
 use mathlib.Core.Path.{refl}
 use native.Mathlib.Omega.{arith}
-use lib.ListN.{length_set}
+use lib.ListN.{length-set}
 use borrow.Author.Rules.{rules}
 use Rattle.words.specs.Words.{at}
 use Rattle.work_layout.specs.Layout.{USED}
@@ -47,7 +47,7 @@ mul-work-2 : tie.Need-overflow-mul-work-2
 mul-work-2 c = search rules
 
 slice-write-work-2 : tie.Need-slice-write-work-2
-slice-write-work-2 c = simp length_set (omega arith)
+slice-write-work-2 c = simp length-set (omega arith)
 
 cast-work : tie.Need-overflow-cast-work
 cast-work c = search rules
@@ -59,7 +59,7 @@ mul-work-3 : tie.Need-overflow-mul-work-3
 mul-work-3 c = search rules
 
 slice-write-work-3 : tie.Need-slice-write-work-3
-slice-write-work-3 c = simp length_set (omega arith)
+slice-write-work-3 c = simp length-set (omega arith)
 
 cast-work-2 : tie.Need-overflow-cast-work-2
 cast-work-2 c = search rules
@@ -71,7 +71,7 @@ mul-work-4 : tie.Need-overflow-mul-work-4
 mul-work-4 c = search rules
 
 slice-write-work-4 : tie.Need-slice-write-work-4
-slice-write-work-4 c = simp length_set (omega arith)
+slice-write-work-4 c = simp length-set (omega arith)
 
 add-work-5 : tie.Need-overflow-add-work-5
 add-work-5 c = search rules
@@ -80,7 +80,7 @@ mul-work-5 : tie.Need-overflow-mul-work-5
 mul-work-5 c = search rules
 
 slice-write-work-5 : tie.Need-slice-write-work-5
-slice-write-work-5 c = simp length_set (omega arith)
+slice-write-work-5 c = simp length-set (omega arith)
 
 add-work-6 : tie.Need-overflow-add-work-6
 add-work-6 c = search rules
@@ -92,16 +92,16 @@ mul-work-6 : tie.Need-overflow-mul-work-6
 mul-work-6 c = search rules
 
 slice-write-work-6 : tie.Need-slice-write-work-6
-slice-write-work-6 c = simp length_set (omega arith)
+slice-write-work-6 c = simp length-set (omega arith)
 
 add-work-8 : tie.Need-overflow-add-work-8
 add-work-8 c = search rules
 
 slice-write-work-7 : tie.Need-slice-write-work-7
-slice-write-work-7 c = simp length_set (omega arith)
+slice-write-work-7 c = simp length-set (omega arith)
 
 same_length : tie.Need-same-length
-same_length c = simp length_set
+same_length c = simp length-set
 
 returns : tie.Need-returns
 returns c =
