@@ -1,4 +1,6 @@
 // Handles.
+#![tactic(auto)]
+
 pub mod fits_in_small_atom;
 pub mod small_atom;
 
@@ -6,10 +8,10 @@ ghost use Rattle.std.specs.Prelude.{◌≡◌, ◌+◌, ◌*◌, ◌^◌, ◌<�
 ghost use Rattle.allocator.specs.Handle.{node_of, handle_of, pair, listed-atom, small-atom, index_of, object_type_of, is_pair, is_atom};
 
 // A node's handle: a kind in bits 26 up, and 26 bits of index or small value.
-#[derive(Drop)]
+#[derive(Clone, Copy)]
 pub struct NodePtr(pub u32);
 
-#[derive(Drop)]
+#[derive(Clone, Copy)]
 pub enum ObjectType {
     // The low bits form an index into the pairs.
     Pair,
@@ -111,7 +113,7 @@ impl NodePtr {
 }
 
 // Whether an atom's bytes are those of a small atom.
-#[derive(Drop)]
+#[derive(Clone, Copy)]
 pub enum FitsInSmallAtom {
     // They are, and this is its value.
     Small(u32),

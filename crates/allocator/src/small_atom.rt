@@ -23,7 +23,7 @@ pub fn len_for_value(val: u32) -> usize
 }
 
 // A small atom's bytes: the last `len` of four.
-#[derive(Drop)]
+#[derive(Clone, Copy)]
 pub struct SmallAtom {
     pub bytes: [u8; 4],
     pub len: usize,

@@ -1,5 +1,7 @@
 // The format of an atom in a serialized tree: definitions and laws; the prefix table and the marks, which reader and writer share.
 // `atom_decode` reads an atom, `atom_encode` writes one.
+#![tactic(auto)]
+
 ghost use Rattle.std.specs.Prelude.{◌≡◌, ◌^◌, ◌≤◌, ◌<◌};
 ghost use Rattle.std.proofs.Math.Option.{some};
 ghost use Rattle.atom.specs.Prefix.{least, width, single, prefix_width};
@@ -17,7 +19,7 @@ pub const BACK_REFERENCE: u8 = 0xfe;
 pub const SIZE_LIMIT: u64 = 0x400000000;
 
 // The width of an atom's prefix, 0 where it has none; or that no prefix holds its size.
-#[derive(Drop)]
+#[derive(Clone, Copy)]
 pub enum PrefixWidth {
     Width(usize),
     TooLong,

@@ -6,7 +6,7 @@ ghost use Rattle.atom_decode.specs.decode_size.Answers.{decoded-size};
 use atom::{SIZE_LIMIT, least_size};
 
 // A prefix: how many bytes it takes and the size that it carries, or why it is refused.
-#[derive(Drop)]
+#[derive(Clone, Copy)]
 pub enum DecodeSize {
     Size { offset: usize, size: u64 },
     SerializationError,
@@ -14,7 +14,7 @@ pub enum DecodeSize {
 }
 
 // The leading ones of a byte, and what is left of it below them.
-#[derive(Drop)]
+#[derive(Clone, Copy)]
 struct Ones {
     width: usize,
     rest: u8,

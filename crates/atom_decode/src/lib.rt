@@ -1,4 +1,6 @@
 // Reading an atom or a path. It is handed on as a part of the input.
+#![tactic(auto)]
+
 mod decode_size;
 
 ghost use Rattle.std.specs.Prelude.{◌≡◌, ◌+◌, ◌≤◌, cond, ltb, length};
@@ -10,7 +12,7 @@ use decode_size::DecodeSize;
 const MAX_SINGLE_BYTE: u8 = 0x7f;
 
 // An atom: its bytes are those from `start` up to `end`, or why it is refused.
-#[derive(Drop)]
+#[derive(Clone, Copy)]
 pub enum ParseAtom {
     Blob { start: usize, end: usize },
     SerializationError,

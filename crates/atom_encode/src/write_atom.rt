@@ -9,7 +9,7 @@ use atom::PrefixWidth;
 use words::slices;
 
 // Where the next byte goes, and the width of the prefix; that the output ends too early; that no prefix holds the atom's size.
-#[derive(Drop)]
+#[derive(Clone, Copy)]
 pub enum WriteAtom {
     Next(usize, usize),
     Full,

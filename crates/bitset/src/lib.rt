@@ -1,4 +1,6 @@
 // A set of numbers, one bit for each, in a lent part of words. `clear` is `words::slices::clear`.
+#![tactic(auto)]
+
 ghost use Rattle.std.specs.Prelude.{◌≡◌, true, false, ◌*◌, ◌<◌, length, get_or, set};
 ghost use Rattle.bitset.specs.BitSet.{bits_of};
 

@@ -18,7 +18,7 @@ use Rattle.allocator.specs.SmallAtom.{small_bytes}
 use Rattle.spec_session.specs.File.{named}
 use Rattle.work_layout.specs.Layout.{FIRST, ATOM_LENGTHS, ATOM_COUNT, PAIR_COUNT}
 use Rattle.cache_entries.specs.Meaning.{bytes_named, first_same, Names, FirstOf, Whole}
-use Rattle.cache_entries.specs.Contracts.{is_listed, Stands, Measured}
+use Rattle.cache_entries.specs.Effects.{is_listed, Stands, Measured}
 
 -- ---- which kind of atom
 

@@ -19,7 +19,7 @@ use Rattle.spec_session.specs.Cache.{Cache, lookup, atom_key, find_or_add, meet_
 use Rattle.work_layout.specs.Layout.{PAIRS, ATOM_COUNT, PAIR_COUNT, SENTINEL, MAPS, USED, ENTRIES}
 use Rattle.spec_session.specs.Sentinel.{sentinel_word}
 use Rattle.cache_entries.specs.Meaning.{bytes_named, no_pair, Tables, Names, entry_or_none, unmapped, Whole, Holds}
-use Rattle.cache_entries.specs.Contracts.{Action, sentinel_action, atom_action, join_action, enter_action, Acts, Made, Joined, span, Bounded, Entered, Room}
+use Rattle.cache_entries.specs.Effects.{Action, sentinel_action, atom_action, join_action, enter_action, Acts, Made, Joined, span, Bounded, Entered, Room}
 use Rattle.cache_entries.proofs.table.Rows.{word_some}
 use Rattle.cache_entries.proofs.Frames.{tables_kept, unmapped_same, unmapped_above, unmapped_more, unmapped_none, unmapped_grows}
 

@@ -10,9 +10,9 @@ use Rattle.spec_session.specs.File.{File}
 use Rattle.spec_session.specs.Cache.{Cache, atom_key, pair_key, pair_length, length_at, find_or_add}
 use Rattle.work_layout.specs.Layout.{USED}
 use Rattle.work_layout.specs.Rows.{length_of}
-use Rattle.cache_entries.specs.table.Contracts.{Interned}
+use Rattle.cache_entries.specs.table.Effects.{Interned}
 use Rattle.cache_entries.specs.Meaning.{ATOM_KEY, bytes_named, atom_words, pair_words, Whole, Holds}
-use Rattle.cache_entries.specs.Contracts.{Stands, Measured, atom_action, pair_action, Made}
+use Rattle.cache_entries.specs.Effects.{Stands, Measured, atom_action, pair_action, Made}
 use Rattle.cache_entries.proofs.Keys.{key_atom, key_pair, find_atom, find_pair}
 use Rattle.cache_entries.proofs.Lift.{length_of_rows}
 use Rattle.cache_entries.proofs.Making.{interned_made}

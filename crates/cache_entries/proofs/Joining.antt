@@ -18,9 +18,9 @@ use Rattle.spec_session.specs.File.{File}
 use Rattle.spec_session.specs.Cache.{Cache, lookup, adjust, add_parent, with_entries, link_pair}
 use Rattle.work_layout.specs.Layout.{PAIR_COUNT, MAPS, SENTINEL_ENTRY, USED, LEFT, RIGHT, SEEN, ENTRIES}
 use Rattle.work_layout.specs.Rows.{Row}
-use Rattle.cache_entries.specs.table.Contracts.{ParentAdded}
+use Rattle.cache_entries.specs.table.Effects.{ParentAdded}
 use Rattle.cache_entries.specs.Meaning.{entry_of, Tables, entry_or_none, Whole, Holds}
-use Rattle.cache_entries.specs.Contracts.{pair_action, join_action, Acts, Made, Joined}
+use Rattle.cache_entries.specs.Effects.{pair_action, join_action, Acts, Made, Joined}
 use Rattle.cache_entries.proofs.Frames.{tables_kept}
 use Rattle.cache_entries.proofs.Entries.{sound_kept, rows_kept, counts_kept}
 use Rattle.cache_entries.proofs.Making.{whole_of, adjusted_whole, adjusted_holds}

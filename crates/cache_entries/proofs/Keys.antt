@@ -19,7 +19,7 @@ use Rattle.spec_session.specs.File.{File}
 use Rattle.spec_session.specs.Cache.{Key, sentinel_key, atom_key, pair_key, same_key, find_key}
 use Rattle.work_layout.specs.Layout.{USED, LEFT, RIGHT, ENTRIES}
 use Rattle.work_layout.specs.Rows.{Row, row_of, rows_of}
-use Rattle.cache_entries.specs.table.Contracts.{find_row}
+use Rattle.cache_entries.specs.table.Effects.{find_row}
 use Rattle.cache_entries.specs.Meaning.{ATOM_KEY, SENTINEL_KEY, bytes_named, key_of, entry_of, first_same, Tables, FirstOf, KeyOK, sentinel_words, atom_words, pair_words, Whole}
 use Rattle.cache_entries.proofs.Lift.{no_row, length_rows, row_at}
 

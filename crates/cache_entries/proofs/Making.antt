@@ -13,9 +13,9 @@ use Rattle.spec_session.specs.File.{File}
 use Rattle.spec_session.specs.Cache.{Key, Parent, Entry, Cache, lookup, find_key, adjust, new_entry, with_entries, keep_or_add, find_or_add}
 use Rattle.work_layout.specs.Layout.{PAIR_COUNT, OPEN, MAPS, SENTINEL_ENTRY, USED, LEFT, RIGHT}
 use Rattle.work_layout.specs.Rows.{Row, rows_of, new_row, adjust_row, Sound}
-use Rattle.cache_entries.specs.table.Contracts.{find_row, found_or_added, Interned}
+use Rattle.cache_entries.specs.table.Effects.{find_row, found_or_added, Interned}
 use Rattle.cache_entries.specs.Meaning.{key_of, entry_of, Tables, KeyOK, entry_or_none, Whole, Holds}
-use Rattle.cache_entries.specs.Contracts.{Action, Acts, Made}
+use Rattle.cache_entries.specs.Effects.{Action, Acts, Made}
 use Rattle.cache_entries.proofs.Lift.{no_row, map_adjust, key_adjust, length_rows, left_at, right_at, getD_end, getD_before}
 use Rattle.cache_entries.proofs.Frames.{handles_kept, key_kept}
 

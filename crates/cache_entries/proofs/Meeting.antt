@@ -13,9 +13,9 @@ use Rattle.spec_session.specs.File.{File}
 use Rattle.spec_session.specs.Cache.{sentinel_key, Entry, Cache, find_key, find_or_add, keep_or_add}
 use Rattle.work_layout.specs.Layout.{MAPS, SENTINEL_ENTRY, USED, LEFT, RIGHT, SEEN, ENTRIES}
 use Rattle.work_layout.specs.Rows.{Row, rows_of}
-use Rattle.cache_entries.specs.table.Contracts.{Inserted, found_or_added, Interned}
+use Rattle.cache_entries.specs.table.Effects.{Inserted, found_or_added, Interned}
 use Rattle.cache_entries.specs.Meaning.{SENTINEL_KEY, entry_of, Tables, sentinel_words, entry_or_none, Whole, Holds}
-use Rattle.cache_entries.specs.Contracts.{Action, sentinel_action, Acts, Made}
+use Rattle.cache_entries.specs.Effects.{Action, sentinel_action, Acts, Made}
 use Rattle.cache_entries.proofs.Lift.{length_rows}
 use Rattle.cache_entries.proofs.Entries.{sound_kept, rows_kept, counts_kept}
 use Rattle.cache_entries.proofs.Keys.{no_sentinel, key_sentinel}

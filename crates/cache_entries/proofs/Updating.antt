@@ -15,9 +15,9 @@ use Rattle.spec_session.specs.Cache.{Parent, Cache, parents_at, no_parents, move
 use Rattle.work_layout.specs.Layout.{ATOM_COUNT, PAIR_COUNT, MOVED, MAPS, SENTINEL_ENTRY, USED, ENTRIES}
 use Rattle.work_layout.specs.Rows.{parent_of, moved_at, moved_of}
 use Rattle.work_layout.specs.Parents.{moved_same}
-use Rattle.cache_entries.specs.table.Contracts.{Taken, Placed, MovedLinks}
+use Rattle.cache_entries.specs.table.Effects.{Taken, Placed, MovedLinks}
 use Rattle.cache_entries.specs.Meaning.{Tables, Names, entry_or_none, unmapped, Whole, Holds}
-use Rattle.cache_entries.specs.Contracts.{enter_action, Acts, span, Bounded, Entered, Room, Cleared, Updated}
+use Rattle.cache_entries.specs.Effects.{enter_action, Acts, span, Bounded, Entered, Room, Cleared, Updated}
 use Rattle.cache_entries.proofs.table.Rows.{word_some}
 use Rattle.cache_entries.proofs.Lift.{parents_of_rows}
 use Rattle.cache_entries.proofs.Frames.{tables_kept, unmapped_same, unmapped_grows}

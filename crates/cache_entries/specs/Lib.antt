@@ -1,4 +1,4 @@
 pub mod Meaning
-pub mod Contracts
+pub mod Effects
 pub mod lookup
 pub mod table

@@ -1,4 +1,6 @@
 // The words of the tree cache: pairs and their entries, the keys and lengths of atoms, and the length of a pair.
+#![tactic(auto)]
+
 pub mod lookup;
 pub mod table;
 
@@ -10,8 +12,8 @@ ghost use Rattle.allocator.specs.SmallAtom.{small_bytes};
 ghost use Rattle.spec_session.specs.Cache.{pair_length};
 ghost use Rattle.work_layout.specs.Layout.{PAIRS, FIRST, ATOM_LENGTHS, PAIR_COUNT, SENTINEL, MAPS, SENTINEL_ENTRY};
 ghost use Rattle.cache_entries.specs.Meaning.{entry_or_none, Names, Whole};
-ghost use Rattle.cache_entries.specs.Contracts.{is_listed, Stands, Measured};
-ghost use Rattle.cache_entries.specs.table.Contracts.{option_of};
+ghost use Rattle.cache_entries.specs.Effects.{is_listed, Stands, Measured};
+ghost use Rattle.cache_entries.specs.table.Effects.{option_of};
 
 use allocator::{NodePtr, ObjectType, small_atom};
 pub use table::Found;

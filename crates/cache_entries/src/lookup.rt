@@ -4,7 +4,7 @@ ghost use Rattle.words.specs.Words.{at};
 ghost use Rattle.allocator.specs.Handle.{node_of, is_atom};
 ghost use Rattle.work_layout.specs.Layout.{PAIR_COUNT};
 ghost use Rattle.cache_entries.specs.Meaning.{Names, Whole};
-ghost use Rattle.cache_entries.specs.lookup.Contracts.{PairEntry, AtomEntry, EntryOf};
+ghost use Rattle.cache_entries.specs.lookup.Effects.{PairEntry, AtomEntry, EntryOf};
 
 use crate::table;
 use crate::table::{Found, Key};

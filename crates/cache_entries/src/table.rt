@@ -6,7 +6,7 @@ ghost use Rattle.words.specs.Words.{at};
 ghost use Rattle.work_layout.specs.Layout.{USED};
 ghost use Rattle.work_layout.specs.Rows.{length_of, rows_of, Sound};
 ghost use Rattle.cache_entries.specs.Meaning.{entry_or_none};
-ghost use Rattle.cache_entries.specs.table.Contracts.{first_word, second_word, find_row, option_of};
+ghost use Rattle.cache_entries.specs.table.Effects.{first_word, second_word, find_row, option_of};
 
 use allocator::NodePtr;
 use words::wide;
@@ -24,7 +24,7 @@ pub fn length_of(work: &[u32], e: EntryIndex) -> u64
 }
 
 // A key: the entries of a pair's sides; the handle of an atom; a sentinel's own entry.
-#[derive(Drop)]
+#[derive(Clone, Copy)]
 pub enum Key {
     Pair(EntryIndex, EntryIndex),
     Atom(NodePtr),
@@ -32,7 +32,7 @@ pub enum Key {
 }
 
 // The two words that stand for a key in work.
-#[derive(Drop)]
+#[derive(Clone, Copy)]
 struct KeyWords {
     left: u32,
     right: u32,
@@ -65,7 +65,7 @@ fn words_of(key: Key) -> KeyWords
 }
 
 // What a lookup gives.
-#[derive(Drop)]
+#[derive(Clone, Copy)]
 pub enum Found {
     At(EntryIndex),
     Nothing,

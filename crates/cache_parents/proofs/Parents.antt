@@ -16,7 +16,7 @@ use Rattle.spec_session.specs.Cache.{add_parent}
 use Rattle.work_layout.specs.Layout.{USED, COUNTS, ENTRIES, MAX_PARENTS}
 use Rattle.work_layout.specs.Rows.{link_at, parent_of, parents_of, Sound}
 use Rattle.work_layout.specs.Parents.{link_same, ParentSet}
-use Rattle.cache_entries.specs.table.Contracts.{ParentAdded}
+use Rattle.cache_entries.specs.table.Effects.{ParentAdded}
 use Rattle.cache_entries.proofs.table.Single.{RowOnly, row_used, row_sound, row_rows, row_keys, row_counts}
 
 -- What the count of an entry's parents asks for.

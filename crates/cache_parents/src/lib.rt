@@ -1,11 +1,13 @@
 // The parents of the entries of the tree cache, in work: one added.
+#![tactic(auto)]
+
 pub mod moved_parents;
 
 ghost use Rattle.std.specs.Prelude.{◌<◌};
 ghost use Rattle.words.specs.Words.{at};
 ghost use Rattle.work_layout.specs.Layout.{USED};
 ghost use Rattle.work_layout.specs.Rows.{Sound};
-ghost use Rattle.cache_entries.specs.table.Contracts.{ParentAdded};
+ghost use Rattle.cache_entries.specs.table.Effects.{ParentAdded};
 
 use work_layout::parents::Parent;
 use work_layout::{EntryIndex, MAX_PARENTS, parents};

@@ -3,7 +3,7 @@ ghost use Rattle.std.specs.Prelude.{◌≡◌, ℕ, ◌+◌, ◌-◌, ◌*◌, �
 ghost use Rattle.words.specs.Words.{at, WORK};
 ghost use Rattle.work_layout.specs.Layout.{USED, ENTRIES, MAX_PARENTS};
 ghost use Rattle.work_layout.specs.Rows.{link_at, moved_at, Sound};
-ghost use Rattle.cache_entries.specs.table.Contracts.{Taken, MovedLinks, Placed};
+ghost use Rattle.cache_entries.specs.table.Effects.{Taken, MovedLinks, Placed};
 ghost use Rattle.cache_parents.specs.Lists.{Saved, Filled};
 
 use work_layout::{EntryIndex, MAX_PARENTS, parents};

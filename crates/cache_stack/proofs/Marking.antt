@@ -8,9 +8,9 @@ use native.Mathlib.Omega.{arith}
 use lib.Dec.{eqb}
 use borrow.Author.Tests.{lt-ltb, le-ltb}
 use Rattle.work_layout.specs.Layout.{STACK, WRITTEN}
-use Rattle.cache_stack.specs.marks.Contracts.{Marked}
+use Rattle.cache_stack.specs.marks.Effects.{Marked}
 use Rattle.cache_stack.proofs.marks.Bits.{marked_same}
-use Rattle.cache_stack.specs.Contracts.{Pushed, PushedMarked}
+use Rattle.cache_stack.specs.Effects.{Pushed, PushedMarked}
 use Rattle.cache_stack.proofs.Stacks.{stacked_same, stack_same}
 
 module _ {w v : List ℕ} {d e len : ℕ} (p : Pushed w v d e) where

@@ -11,7 +11,7 @@ use Rattle.words.specs.Words.{at, WORK}
 use Rattle.words.proofs.Words.{Store, stores, miss, hits}
 use Rattle.work_layout.specs.Layout.{STACK, BELOW, TOPS, WRITTEN, ENTRIES, DEPTH}
 use Rattle.work_layout.specs.Rows.{prev, stack_of, Tops}
-use Rattle.cache_stack.specs.Contracts.{Stacked, StackOnly, Pushed}
+use Rattle.cache_stack.specs.Effects.{Stacked, StackOnly, Pushed}
 use Rattle.work_layout.specs.Prev.{prev_le, prev_same, prev_here, prev_past, prev_holds, prev_above}
 
 -- What the search asks of TOPS.

@@ -1,2 +1,2 @@
-pub mod Contracts
+pub mod Effects
 pub mod marks

@@ -1,11 +1,13 @@
 // The stack of tree_cache.rs, in work: an entry pushed, and pushed and marked.
+#![tactic(auto)]
+
 pub mod marks;
 pub mod stack_pop;
 
 ghost use Rattle.std.specs.Prelude.{◌≤◌, ◌<◌, length};
 ghost use Rattle.words.specs.Words.{WORK};
 ghost use Rattle.work_layout.specs.Layout.{ENTRIES, DEPTH};
-ghost use Rattle.cache_stack.specs.Contracts.{Stacked, Pushed, PushedMarked};
+ghost use Rattle.cache_stack.specs.Effects.{Stacked, Pushed, PushedMarked};
 
 use words::wide;
 use work_layout::{BELOW, EntryIndex, STACK, TOPS};

@@ -2,7 +2,7 @@
 ghost use Rattle.std.specs.Prelude.{◌≡◌, ◌≤◌, ◌<◌, length};
 ghost use Rattle.words.specs.Words.{WORK};
 ghost use Rattle.work_layout.specs.Layout.{WRITTEN, ENTRIES};
-ghost use Rattle.cache_stack.specs.marks.Contracts.{marked_at, Marked};
+ghost use Rattle.cache_stack.specs.marks.Effects.{marked_at, Marked};
 
 use words::wide;
 use work_layout::{EntryIndex, MOVED, WRITTEN};

@@ -2,7 +2,7 @@
 ghost use Rattle.std.specs.Prelude.{◌≡◌, ◌+◌, ◌≤◌, ◌<◌, length};
 ghost use Rattle.words.specs.Words.{at, WORK};
 ghost use Rattle.work_layout.specs.Layout.{STACK, ENTRIES};
-ghost use Rattle.cache_stack.specs.Contracts.{Stacked, Popped, PoppedTwo};
+ghost use Rattle.cache_stack.specs.Effects.{Stacked, Popped, PoppedTwo};
 
 use work_layout::{BELOW, EntryIndex, STACK, TOPS};
 

@@ -8,8 +8,8 @@ use Rattle.words.specs.Words.{at}
 use Rattle.words.proofs.Copies.{Copied}
 use Rattle.work_layout.specs.Layout.{OPEN, STACK, WRITTEN, MOVED, COPIES, ENTRIES}
 use Rattle.cache_stack.proofs.Stacks.{stacked_same}
-use Rattle.cache_undo.specs.undo_state.Contracts.{copied_open, copied_stack, copied_marks}
-use Rattle.cache_undo.specs.Contracts.{PoppedAll, PushedAll, Restored}
+use Rattle.cache_undo.specs.undo_state.Effects.{copied_open, copied_stack, copied_marks}
+use Rattle.cache_undo.specs.Effects.{PoppedAll, PushedAll, Restored}
 
 -- The present stack goes, the copy's is pushed, and open pairs and marks are copied back.
 module _ {w t u v w' : List ℕ} (k : ℕ) {opens d : ℕ} (short : opens ≤ 4096)

@@ -7,9 +7,9 @@ use native.Mathlib.Omega.{arith}
 use native.Mathlib.Decide.{ℕ_discrete}
 use Rattle.words.specs.Words.{at}
 use Rattle.work_layout.specs.Layout.{STACK, WRITTEN}
-use Rattle.cache_stack.specs.Contracts.{Stacked, Pushed}
+use Rattle.cache_stack.specs.Effects.{Stacked, Pushed}
 use Rattle.cache_stack.proofs.Stacks.{only_same, only_both}
-use Rattle.cache_undo.specs.Contracts.{PushedAll}
+use Rattle.cache_undo.specs.Effects.{PushedAll}
 
 -- A turn of a loop that pushes what stands from `from` on.
 module _ (w : List ℕ) (from : ℕ) (apart : WRITTEN ≤ from) where

@@ -3,8 +3,8 @@ ghost use Rattle.std.specs.Prelude.{◌≡◌, ℕ, ◌+◌, ◌*◌, ◌≤◌,
 ghost use Rattle.words.specs.Words.{at, WORK};
 ghost use Rattle.work_layout.specs.Layout.{PAIR_COUNT, COUNTS, SEEN, COPIES, USED, ENTRIES, MAX_PARENTS};
 ghost use Rattle.work_layout.specs.Rows.{Sound, all_counts, further, all_further};
-ghost use Rattle.cache_undo.specs.cache_copy.Contracts.{ListSaved, ListsSaved, CacheSaved};
-ghost use Rattle.cache_undo.specs.cache_copy.Contracts.{TakenOff, ListBrought, ListsBrought, Bringable, CacheBrought};
+ghost use Rattle.cache_undo.specs.cache_copy.Effects.{ListSaved, ListsSaved, CacheSaved};
+ghost use Rattle.cache_undo.specs.cache_copy.Effects.{TakenOff, ListBrought, ListsBrought, Bringable, CacheBrought};
 
 use words::{slices, wide};
 use work_layout::{COPIES, COPY, COUNTS, EntryIndex, MAPS, PAIR_COUNT, USED, parents};

@@ -1,13 +1,15 @@
 // incremental.rs: a copy of undo in work, restored.
+#![tactic(auto)]
+
 pub mod cache_copy;
 pub mod undo_state;
 
 ghost use Rattle.std.specs.Prelude.{ℕ, ◌+◌, ◌≤◌, ◌<◌, length};
 ghost use Rattle.words.specs.Words.{at, WORK};
 ghost use Rattle.work_layout.specs.Layout.{WRITTEN, ENTRIES, DEPTH};
-ghost use Rattle.cache_stack.specs.Contracts.{Stacked};
-ghost use Rattle.cache_undo.specs.undo_state.Contracts.{copied_stack};
-ghost use Rattle.cache_undo.specs.Contracts.{PoppedAll, PushedAll, Restored};
+ghost use Rattle.cache_stack.specs.Effects.{Stacked};
+ghost use Rattle.cache_undo.specs.undo_state.Effects.{copied_stack};
+ghost use Rattle.cache_undo.specs.Effects.{PoppedAll, PushedAll, Restored};
 
 use cache_stack::stack_pop;
 use undo_state::{COPIED_MARKS, COPIED_STACK, MARKS};

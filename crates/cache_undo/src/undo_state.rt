@@ -2,7 +2,7 @@
 ghost use Rattle.std.specs.Prelude.{◌≤◌, ◌<◌, length};
 ghost use Rattle.words.specs.Words.{WORK};
 ghost use Rattle.work_layout.specs.Layout.{DEPTH};
-ghost use Rattle.cache_undo.specs.undo_state.Contracts.{Saved};
+ghost use Rattle.cache_undo.specs.undo_state.Effects.{Saved};
 
 use words::slices;
 use work_layout::{COPIES, COPY, OPEN, STACK, WRITTEN};

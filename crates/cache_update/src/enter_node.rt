@@ -4,9 +4,9 @@ ghost use Rattle.words.specs.Words.{at};
 ghost use Rattle.allocator.specs.Handle.{node_of, is_atom};
 ghost use Rattle.work_layout.specs.Layout.{PAIR_COUNT, USED, ENTRIES};
 ghost use Rattle.work_layout.specs.Rows.{Sound};
-ghost use Rattle.cache_entries.specs.table.Contracts.{first_word, second_word, Interned};
+ghost use Rattle.cache_entries.specs.table.Effects.{first_word, second_word, Interned};
 ghost use Rattle.cache_entries.specs.Meaning.{Names, Whole};
-ghost use Rattle.cache_entries.specs.Contracts.{atom_action, pair_action, Made};
+ghost use Rattle.cache_entries.specs.Effects.{atom_action, pair_action, Made};
 
 use allocator::NodePtr;
 use cache_entries::table::{Key, insert_entry};

@@ -2,7 +2,7 @@
 ghost use Rattle.words.specs.Words.{at};
 ghost use Rattle.work_layout.specs.Layout.{PAIR_COUNT};
 ghost use Rattle.cache_entries.specs.Meaning.{Names, Whole};
-ghost use Rattle.cache_entries.specs.Contracts.{Entered, Room};
+ghost use Rattle.cache_entries.specs.Effects.{Entered, Room};
 
 use crate::{enter_node, make_entry, meet_sentinel};
 use allocator::NodePtr;

@@ -1,4 +1,6 @@
 // update of tree_cache.rs, over the entries in work: a tree entered, and the present sentinel entry's parents moved to its root.
+#![tactic(auto)]
+
 mod enter_node;
 mod enter_tree;
 mod make_entry;
@@ -8,7 +10,7 @@ ghost use Rattle.std.specs.Prelude.{◌+◌, ◌*◌, ◌<◌};
 ghost use Rattle.words.specs.Words.{at};
 ghost use Rattle.work_layout.specs.Layout.{PAIR_COUNT, USED, ENTRIES};
 ghost use Rattle.cache_entries.specs.Meaning.{Names, Whole, unmapped};
-ghost use Rattle.cache_entries.specs.Contracts.{Cleared, Updated};
+ghost use Rattle.cache_entries.specs.Effects.{Cleared, Updated};
 
 use allocator::NodePtr;
 use cache_entries::Found;

@@ -3,7 +3,7 @@ ghost use Rattle.std.specs.Prelude.{◌≡◌, ◌+◌, ◌<◌};
 ghost use Rattle.words.specs.Words.{at};
 ghost use Rattle.work_layout.specs.Layout.{PAIR_COUNT, MAPS, USED, ENTRIES};
 ghost use Rattle.cache_entries.specs.Meaning.{Whole};
-ghost use Rattle.cache_entries.specs.Contracts.{Joined};
+ghost use Rattle.cache_entries.specs.Effects.{Joined};
 
 use crate::enter_node;
 use work_layout::EntryIndex;

@@ -3,7 +3,7 @@ ghost use Rattle.std.specs.Prelude.{◌<◌};
 ghost use Rattle.words.specs.Words.{at};
 ghost use Rattle.work_layout.specs.Layout.{USED, ENTRIES};
 ghost use Rattle.cache_entries.specs.Meaning.{Whole};
-ghost use Rattle.cache_entries.specs.Contracts.{sentinel_action, Made};
+ghost use Rattle.cache_entries.specs.Effects.{sentinel_action, Made};
 
 use cache_entries::table::{Key, insert_entry};
 use work_layout::EntryIndex;

@@ -1,4 +1,6 @@
 // The check of the session file: questions 2 to 8.
+#![tactic(auto)]
+
 mod file_atoms;
 mod file_handles;
 

@@ -1,4 +1,6 @@
 // The session file: its atoms, pairs and steps, read from a file that passed.
+#![tactic(auto)]
+
 pub mod session_file;
 
 ghost use Rattle.std.specs.Prelude.{◌≡◌, List, ℕ, ◌*◌, ◌≤◌, length};

@@ -1,4 +1,6 @@
 // The tables of the listed atoms in work: for each atom the first one with the same bytes, and its serialized length.
+#![tactic(auto)]
+
 pub mod listed_atoms;
 
 ghost use Rattle.std.specs.Prelude.{◌≡◌, ℕ, ◌+◌, ◌<◌, ◌≤◌, length};

@@ -1,5 +1,7 @@
 // Answers a file of leaf cases: the leaf functions on each record of standard input, one line of standard output for each.
 // A record is an op, the length of a payload in two bytes, the higher first, and the payload.
+#![tactic(auto)]
+
 mod answer;
 mod bits;
 mod print;

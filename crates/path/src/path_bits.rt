@@ -5,7 +5,7 @@ ghost use Rattle.path.specs.Bytes.{read_path};
 ghost use Rattle.path.specs.Answers.{counted};
 
 // How many bits a path has below its most significant set bit; none are set in the path of nil.
-#[derive(Drop)]
+#[derive(Clone, Copy)]
 pub enum PathBits {
     Nil,
     Bits(usize),

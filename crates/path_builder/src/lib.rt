@@ -1,5 +1,7 @@
 // Builds a path backwards, from the target. The bytes are big-endian, the left-most at index 0, and the path is built from left to right, since
 // it is followed from right to left. The store is lent.
+#![tactic(auto)]
+
 mod path_length;
 mod push_bit;
 mod right_align;
@@ -13,13 +15,13 @@ use path_length::counted_bytes;
 pub use path_length::measured_bytes;
 use words::wide;
 
-#[derive(Drop)]
+#[derive(Clone, Copy)]
 pub enum ChildPos {
     Left,
     Right,
 }
 
-#[derive(Drop)]
+#[derive(Clone, Copy)]
 pub struct PathBuilder {
     pub in_use: u32,
     // the place that the next bit goes to (counts down)

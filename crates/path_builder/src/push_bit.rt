@@ -5,7 +5,7 @@ ghost use Rattle.path_builder.specs.Put.{Put};
 use words::wide;
 
 // Where the next bit goes: the bytes in use, and the place.
-#[derive(Drop)]
+#[derive(Clone, Copy)]
 pub struct BitPlace {
     pub in_use: u32,
     pub bit_pos: u8,

@@ -1,4 +1,6 @@
 // Reads serialized trees: the files that its arguments name, or standard input.
+#![tactic(auto)]
+
 mod print;
 
 use libc::STDIN_FILENO;

@@ -40,7 +40,7 @@ fn atom(start: u32, end: u32) {
 }
 
 // What two words of the store stand for.
-#[derive(Drop)]
+#[derive(Clone, Copy)]
 pub enum Row {
     Pair,
     Atom,

@@ -1,4 +1,6 @@
 // The reading call's answer, and its question 1.
+#![tactic(auto)]
+
 pub mod clear_slices;
 
 ghost use Rattle.std.specs.Prelude.{◌≡◌};
@@ -10,7 +12,7 @@ use read_store::reader_stacks;
 
 // The number, 0 for none; the root, and how many pairs, listed atoms, atom bytes and ghost pairs there are.
 #[repr(C)]
-#[derive(Drop)]
+#[derive(Clone, Copy)]
 pub struct ReadAnswer {
     pub number: u32,
     pub root: u32,

@@ -1,4 +1,6 @@
 // de_br.rs: a serialized tree with references is read into a store.
+#![tactic(auto)]
+
 mod read_items;
 
 ghost use Rattle.std.specs.Prelude.{◌≡◌, true, ◌≤◌, length};

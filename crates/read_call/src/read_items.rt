@@ -6,7 +6,7 @@ ghost use Rattle.read_call.specs.read_items.Verdict.{start, ReadAll};
 use read_item::{Item, Reader};
 
 // What reading gives.
-#[derive(Drop)]
+#[derive(Clone, Copy)]
 pub enum Verdict {
     Accepted(Reader),
     Refused(u32),

@@ -1,4 +1,6 @@
 // de_br.rs: the reader's Cursor, the input and a position in it; what stands at a place of the input.
+#![tactic(auto)]
+
 ghost use Rattle.std.specs.Prelude.{◌≡◌, ◌+◌, ◌<◌, ◌^◌};
 ghost use Rattle.read_cursor.specs.Heads.{«byte_at», mark_width, parsed, «head_at», there_of};
 
@@ -6,21 +8,21 @@ use atom::{BACK_REFERENCE, CONS_BOX_MARKER};
 use atom_decode::ParseAtom;
 
 // A place of the input. A struct that holds a reference is proved by hand, so what is over it is thin and goes straight on.
-#[derive(Drop)]
+#[derive(Clone, Copy)]
 pub struct Cursor<'a> {
     pub input: &'a [u8],
     pub position: usize,
 }
 
 // The byte at a place, or that there is none.
-#[derive(Drop)]
+#[derive(Clone, Copy)]
 pub enum First {
     Byte(u8),
     End,
 }
 
 // What stands at a place: nothing, a pair's mark, a reference with its path, or an atom.
-#[derive(Drop)]
+#[derive(Clone, Copy)]
 pub enum Head {
     End,
     Pair,

@@ -1,4 +1,6 @@
 // One item of a serialized tree: a pair's mark, an atom, or a reference.
+#![tactic(auto)]
+
 mod read_value;
 mod settle;
 

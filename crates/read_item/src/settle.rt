@@ -9,7 +9,7 @@ use read_store::join_values;
 use read_store::reader_stacks::OPS;
 
 // Where the reader stands: the next byte, and how much of each stack and of the store is in use. The lowest `listed` values are known to have a list.
-#[derive(Drop)]
+#[derive(Clone, Copy)]
 pub struct Reader {
     pub position: usize,
     pub ops: usize,
@@ -22,7 +22,7 @@ pub struct Reader {
 }
 
 // After an item: read on, everything is read, or a refusal with its number.
-#[derive(Drop)]
+#[derive(Clone, Copy)]
 pub enum Item {
     Go(Reader),
     Whole(Reader),

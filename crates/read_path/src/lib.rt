@@ -1,4 +1,6 @@
 // `traverse_path_with_vec` of de_br.rs: what a reference's path leads to, from the stack of values.
+#![tactic(auto)]
+
 mod path_walk;
 pub mod stack_list;
 
@@ -15,7 +17,7 @@ use read_store::reader_stacks::VALUES;
 pub use stack_list::{Built, Counts};
 
 // What a path leads to: a node, with the counts then; or that it steps into an atom.
-#[derive(Drop)]
+#[derive(Clone, Copy)]
 pub enum Traversed {
     Node(Built),
     IntoAtom,

@@ -29,7 +29,7 @@ pub fn stack_steps(path: &[u8], count: usize, depth: usize) -> usize
 }
 
 // The node that a path leads to in the store, or that it steps into an atom.
-#[derive(Drop)]
+#[derive(Clone, Copy)]
 pub enum Walked {
     Node(NodePtr),
     IntoAtom,

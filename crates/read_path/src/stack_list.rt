@@ -9,7 +9,7 @@ use allocator::NodePtr;
 use read_store::reader_stacks::VALUES;
 
 // How many values there are, how many of the lowest are known to have a list, and how many pairs and ghost pairs there are.
-#[derive(Drop)]
+#[derive(Clone, Copy)]
 pub struct Counts {
     pub values: usize,
     pub listed: usize,
@@ -18,7 +18,7 @@ pub struct Counts {
 }
 
 // A list of the stack, how many pairs and ghost pairs there are then, and how many of the lowest values are known to have a list.
-#[derive(Drop)]
+#[derive(Clone, Copy)]
 pub struct Built {
     pub node: NodePtr,
     pub pairs: usize,

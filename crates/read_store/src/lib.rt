@@ -1,4 +1,6 @@
 // The reader's store of allocator.rs: pairs and atoms in lent slices.
+#![tactic(auto)]
+
 pub mod join_values;
 pub mod reader_stacks;
 
@@ -21,7 +23,7 @@ pub fn new_pair(pairs: &mut [u32], used: usize, left: NodePtr, right: NodePtr) -
 }
 
 // An atom's node, and how many listed atoms and atom bytes there are then.
-#[derive(Drop)]
+#[derive(Clone, Copy)]
 pub struct NewAtom {
     pub node: NodePtr,
     pub atoms: usize,

@@ -1,4 +1,6 @@
 // A session file is run, and the finished bytes are read.
+#![tactic(auto)]
+
 mod read_finished;
 
 ghost use Rattle.round_trip.specs.RoundTrip.{lists, Trip};
@@ -8,7 +10,7 @@ use session_answer::SessionAnswer;
 use session_state::Checkpoint;
 
 // What the session gives, and what the reading of its bytes gives.
-#[derive(Drop)]
+#[derive(Clone, Copy)]
 pub struct RoundTrip {
     pub session: SessionAnswer,
     pub read: ReadAnswer,

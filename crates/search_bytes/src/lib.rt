@@ -1,4 +1,6 @@
 // The bytes of a path that was found, made by `PathBuilder` where they belong: its bits are pushed, the first one first, and then right-aligned.
+#![tactic(auto)]
+
 mod node_bits;
 mod push_number;
 mod stack_bits;

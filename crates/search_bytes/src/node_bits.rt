@@ -11,7 +11,7 @@ use path_builder::PathBuilder;
 use words::wide;
 
 // The latest bits of a node as a number, the first of them lowest, and the node that has those before them.
-#[derive(Drop)]
+#[derive(Clone, Copy)]
 pub struct TakenBits {
     pub number: u64,
     pub before: usize,

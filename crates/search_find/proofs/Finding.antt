@@ -22,8 +22,8 @@ use Rattle.search_list.specs.State.{parents_of_all, path_at}
 use Rattle.search_list.specs.Steps.{Kept}
 use Rattle.search_find.specs.Answers.{path-of, FoundPath}
 use Rattle.search_find.specs.Answers as found
-use Rattle.cache_stack.specs.marks.Contracts.{marked_at}
-use Rattle.search_find.specs.Contracts.{LengthOf, steps_of, Ready, FindsIn}
+use Rattle.cache_stack.specs.marks.Effects.{marked_at}
+use Rattle.search_find.specs.Effects.{LengthOf, steps_of, Ready, FindsIn}
 use Rattle.search_find.proofs.Lookup.{parents_all}
 
 kept_same : (w : List ℕ) → Kept w w

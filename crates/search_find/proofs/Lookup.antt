@@ -18,7 +18,7 @@ use Rattle.work_layout.specs.Rows.{rows_of, parents_of, length_of, Sound}
 use Rattle.search_list.specs.State.{parents_of_all}
 use Rattle.cache_entries.specs.Meaning.{entry_of, Holds}
 use Rattle.cache_entries.proofs.Lift.{length_rows, length_of_rows, parents_of_rows}
-use Rattle.search_find.specs.Contracts.{LengthOf}
+use Rattle.search_find.specs.Effects.{LengthOf}
 
 -- ---- beyond the last entry
 

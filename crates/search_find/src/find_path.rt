@@ -20,7 +20,7 @@ fn measured_bits(measure: Measure, n: usize) -> u64
 }
 
 // The slot of the path that is used, or that none is.
-#[derive(Drop)]
+#[derive(Clone, Copy)]
 pub enum Path {
     At(usize),
     NoPath,

@@ -1,4 +1,6 @@
 // find_path of tree_cache.rs with its exceptions: the length of an entry, and the path that is written for a node, if there is one.
+#![tactic(auto)]
+
 mod find_path;
 
 ghost use Rattle.std.specs.Prelude.{◌≡◌, false, ℕ, ◌≤◌, ◌<◌, eqb, length};
@@ -6,9 +8,9 @@ ghost use Rattle.words.specs.Words.{at, WORK};
 ghost use Rattle.allocator.specs.Handle.{nil, handle_of};
 ghost use Rattle.work_layout.specs.Layout.{USED, ENTRIES};
 ghost use Rattle.work_layout.specs.Rows.{all_counts};
-ghost use Rattle.cache_stack.specs.Contracts.{Stacked};
+ghost use Rattle.cache_stack.specs.Effects.{Stacked};
 ghost use Rattle.cache_entries.specs.Meaning.{Whole};
-ghost use Rattle.search_find.specs.Contracts.{LengthOf, FindsIn};
+ghost use Rattle.search_find.specs.Effects.{LengthOf, FindsIn};
 
 use allocator::NodePtr;
 use cache_entries::table;

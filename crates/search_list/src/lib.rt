@@ -1,5 +1,7 @@
 // The words of a search: the paths under way, the nodes that hold their bits, the entries seen. Each visit makes one node: the node before it, the
 // entry visited with the position bit, and how many bits that makes. A path is three words: its node, its place, and its bits after the node's.
+#![tactic(auto)]
+
 pub mod search_copies;
 pub mod search_moves;
 
@@ -15,7 +17,7 @@ use work_layout::parents::Parent;
 use work_layout::{EntryIndex, PREVS, SEEN};
 
 // A search under way: how many paths there are, how many nodes, and how many entries on the stack.
-#[derive(Drop)]
+#[derive(Clone, Copy)]
 pub struct Search {
     pub paths: usize,
     pub nodes: usize,
@@ -23,7 +25,7 @@ pub struct Search {
 }
 
 // After a turn: the slot of the next path, and the search; the slot of the path that is the result; visit 1,025.
-#[derive(Drop)]
+#[derive(Clone, Copy)]
 pub enum Turned {
     On(usize, Search),
     Result(usize),

@@ -13,7 +13,7 @@ use work_layout::{EntryIndex, parents};
 
 // The first parent of an entry that is not seen: its place in the list, the parent, and how many the list has. Where each is seen the place is that
 // number.
-#[derive(Drop)]
+#[derive(Clone, Copy)]
 pub struct Unseen {
     pub place: usize,
     pub parent: Parent,

@@ -1,4 +1,6 @@
 // The search of find_path of tree_cache.rs, over work: its passes.
+#![tactic(auto)]
+
 mod search_limit;
 mod search_step;
 mod search_visit;
@@ -19,7 +21,7 @@ use work_layout::parents::Parent;
 use work_layout::{EntryIndex, SEEN};
 
 // After a pass: the slot of the path that is the result; visit 1,025; the search for the next pass.
-#[derive(Drop)]
+#[derive(Clone, Copy)]
 pub enum Passing {
     Ended(usize),
     Over,
@@ -71,7 +73,7 @@ fn start(work: &mut [u32], e: EntryIndex)
 }
 
 // The slot of the path that was found, or that there is none.
-#[derive(Drop)]
+#[derive(Clone, Copy)]
 pub enum Way {
     By(usize),
     Nothing,

@@ -1,12 +1,14 @@
 // Runs session files: those that its arguments name, or standard input. After the argument --items the output is printed item by item, after --counts each
 // step's references and prefix bytes too; after --documented found paths are measured as the documentation has it.
+#![tactic(auto)]
+
 use libc::STDIN_FILENO;
 use session_answer::SessionAnswer;
 use session_state::Checkpoint;
 use text::session_text::{items, print};
 
 // What the arguments ask for: the output item by item, each step's counts, the documentation's measure.
-#[derive(Drop)]
+#[derive(Clone, Copy)]
 pub struct Options {
     pub items: bool,
     pub counts: bool,

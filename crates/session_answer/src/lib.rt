@@ -1,4 +1,6 @@
 // The end of a session call: what is left is cleared, and the answer.
+#![tactic(auto)]
+
 ghost use Rattle.std.specs.Prelude.{◌≡◌, ◌*◌, ◌≤◌, length};
 ghost use Rattle.session_answer.specs.Answer.{answer_of, answer_at, Cleared};
 
@@ -7,7 +9,7 @@ use words::slices;
 
 // The number, 0 for none; the count of finished steps; and the bytes written.
 #[repr(C)]
-#[derive(Drop)]
+#[derive(Clone, Copy)]
 pub struct SessionAnswer {
     pub number: u32,
     pub steps: u32,

@@ -23,7 +23,7 @@ use Rattle.path.specs.Measure.{measure_of}
 use Rattle.spec_session.specs.Steps.{at_start, Run, run_steps}
 use Rattle.work_layout.specs.Layout.{TOPS, WRITTEN, MAPS, PARENTS, ENTRIES}
 use Rattle.work_layout.specs.Rows.{stack_of}
-use Rattle.cache_stack.specs.marks.Contracts.{marked_at}
+use Rattle.cache_stack.specs.marks.Effects.{marked_at}
 use Rattle.cache_stack.proofs.Stacks.{stacked_none}
 use Rattle.cache_entries.specs.Meaning.{Handles}
 use Rattle.cache_entries.proofs.Fresh.{Sorted, tables_handles, fresh_whole, fresh_holds, fresh_room, fresh_counts}

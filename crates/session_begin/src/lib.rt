@@ -1,4 +1,6 @@
 // The start of a session call: questions 1 to 8, and the tables of a file that passes.
+#![tactic(auto)]
+
 mod session_lengths;
 
 ghost use Rattle.std.specs.Prelude.{◌≡◌, ◌≤◌, length};
@@ -15,7 +17,7 @@ use session_state::progress::Progress;
 use words::slices;
 
 // Where the run starts, and how many checkpoint records are to be cleared after it. With 1 to 8 the run is over before it starts, and no record is cleared.
-#[derive(Drop)]
+#[derive(Clone, Copy)]
 pub struct Begun {
     pub start: Progress,
     pub records: usize,

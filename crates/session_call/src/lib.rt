@@ -1,4 +1,6 @@
 // The session calls: a session file is checked, its tables are loaded, and its steps are run. They differ in the measure of a found path.
+#![tactic(auto)]
+
 mod run_session;
 
 ghost use Rattle.std.specs.Prelude.{◌≡◌};

@@ -29,8 +29,8 @@ use Rattle.file_parts.specs.Loaded.{forgets}
 use Rattle.work_layout.specs.Layout.{OPEN, COPIES, COPY, ENTRIES}
 use Rattle.work_layout.specs.Rows.{all_counts, all_further}
 use Rattle.work_layout.specs.Counts.{further_within, further_few}
-use Rattle.cache_undo.specs.undo_state.Contracts.{copied_open, copied_stack, copied_marks}
-use Rattle.cache_undo.specs.cache_copy.Contracts.{copied_used, copied_maps, copied_counts, copied_firsts, copied_furthers, CacheCopied}
+use Rattle.cache_undo.specs.undo_state.Effects.{copied_open, copied_stack, copied_marks}
+use Rattle.cache_undo.specs.cache_copy.Effects.{copied_used, copied_maps, copied_counts, copied_firsts, copied_furthers, CacheCopied}
 use Rattle.cache_entries.specs.Meaning.{Whole}
 use Rattle.write_counts.specs.declared.Counts.{Counts}
 use Rattle.write_place.specs.State.{todo_of}

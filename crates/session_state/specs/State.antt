@@ -18,8 +18,8 @@ use Rattle.spec_session.specs.Extends.{Extends}
 use Rattle.file_parts.specs.Loaded.{forgets}
 use Rattle.work_layout.specs.Layout.{PAIR_COUNT, OPEN, STACK, WRITTEN, SENTINEL_ENTRY, USED, ENTRIES}
 use Rattle.work_layout.specs.Rows.{all_counts}
-use Rattle.cache_undo.specs.undo_state.Contracts.{copied_open, copied_stack, copied_marks}
-use Rattle.cache_undo.specs.cache_copy.Contracts.{CacheCopied}
+use Rattle.cache_undo.specs.undo_state.Effects.{copied_open, copied_stack, copied_marks}
+use Rattle.cache_undo.specs.cache_copy.Effects.{CacheCopied}
 use Rattle.cache_entries.specs.Meaning.{Tables, unmapped}
 use Rattle.write_counts.specs.declared.Counts.{Counts}
 use Rattle.write_place.specs.State.{AtomPlaces, AtomsThere, todo_of, Running, Writes}

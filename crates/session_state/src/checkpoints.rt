@@ -5,7 +5,7 @@ ghost use Rattle.session_state.specs.Records.{blank};
 // The state before an add: the open pairs, the depth of the stack, what was counted of the items written, and one more than the sentinel's entry, or 0: the
 // word of work, since the caller lends these records.
 #[repr(C)]
-#[derive(Drop)]
+#[derive(Clone, Copy)]
 pub struct Checkpoint {
     pub opens: u32,
     pub depth: u32,

@@ -1,4 +1,6 @@
 // The state of a session between two steps, and the checkpoint record that a step takes.
+#![tactic(auto)]
+
 pub mod checkpoints;
 pub mod progress;
 pub mod step_records;

@@ -12,7 +12,7 @@ use write_place::{Outcome, Place};
 // what is counted of the items written, and whether the session is finished. The run is done at the end of the file, with number 0, or where a question
 // gets no. `forgets` says whether a step of the file is a forget or a quote: then each add saves the tree cache too. While a quote is open (`quoted`) its
 // add stands as the last one of the history, until it is taken or dropped. `measure` is that of the call, and stays.
-#[derive(Drop)]
+#[derive(Clone, Copy)]
 pub struct Progress {
     pub at: usize,
     pub steps: usize,
@@ -29,7 +29,7 @@ pub struct Progress {
 }
 
 // After a step: where the session stands, and the checkpoint record to store.
-#[derive(Drop)]
+#[derive(Clone, Copy)]
 pub struct StepAnswer {
     pub state: Progress,
     pub saved: Checkpoint,

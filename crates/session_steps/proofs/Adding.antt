@@ -29,15 +29,15 @@ use Rattle.file_parts.specs.Loaded.{forgets}
 use Rattle.spec_session.specs.FindPath.{find_in}
 use Rattle.work_layout.specs.Layout.{ATOM_COUNT, PAIR_COUNT, OPEN, STACK, WRITTEN, MOVED, MAPS, SENTINEL_ENTRY, USED, SEEN, COPIES, ENTRIES}
 use Rattle.work_layout.specs.Rows.{all_counts}
-use Rattle.cache_undo.specs.undo_state.Contracts.{copied_open, copied_stack, copied_marks}
+use Rattle.cache_undo.specs.undo_state.Effects.{copied_open, copied_stack, copied_marks}
 use Rattle.cache_stack.proofs.Stacks.{stack_same, stacked_same}
 use Rattle.cache_stack.proofs.marks.Bits.{marked_same}
 use Rattle.cache_entries.proofs.Frames.{tables_kept}
 use Rattle.cache_entries.specs.Meaning.{Tables, Names, Whole, Holds, entry_or_none, unmapped}
-use Rattle.cache_entries.specs.Contracts.{Updated}
+use Rattle.cache_entries.specs.Effects.{Updated}
 use Rattle.write_place.specs.State.{AtomPlaces, AtomsThere, todo_of, Running, Writes}
 use Rattle.write_loop.specs.declared.write_turn.Next.TheVariants as next_turn
-use Rattle.write_loop.specs.Contracts.{place_of, Fine, goes_on, comes_to, Leads, Turns, ended}
+use Rattle.write_loop.specs.Effects.{place_of, Fine, goes_on, comes_to, Leads, Turns, ended}
 use Rattle.write_loop.proofs.write_turn.Frames.{todo_same, rights_same, pairs_few}
 use Rattle.write_place.specs.declared.Place.{Place}
 use Rattle.write_place.specs.declared.Outcome.{Outcome}
@@ -47,7 +47,7 @@ use Rattle.path.specs.Bytes.{bit}
 use Rattle.session_state.specs.Stored.{noted_words, record_of}
 use Rattle.session_state.specs.Moves.{noted_at, moved_to, with_quote, after_outcome, refusal_of}
 use Rattle.session_state.specs.State.{standing, whole_run, after_words, waits, At, Before, History, Stocked, Underway, Ended, slot_for, add_of}
-use Rattle.session_steps.specs.Contracts.{StateSaved, Adding, Added, place_at}
+use Rattle.session_steps.specs.Effects.{StateSaved, Adding, Added, place_at}
 use Rattle.write_place.proofs.Sizes.{size_written}
 use Rattle.write_place.proofs.Frames.{places_kept, atoms_kept, whole_kept, holds_kept, unmapped_kept, all_counts_kept}
 use Rattle.session_state.proofs.Runs.{after_tried, tried, tried_went, add_settles, run_add, shows_tried, words_ended}

@@ -18,7 +18,7 @@ use Rattle.file_parts.specs.Loaded.{FirstStep}
 use Rattle.file_parts.specs.declared.session_file.NextStep.TheVariants as next_step
 use Rattle.spec_session.specs.Steps.{run_steps}
 use Rattle.write_place.specs.State.{todo_of}
-use Rattle.write_loop.specs.Contracts.{Fine, ended as ended_at}
+use Rattle.write_loop.specs.Effects.{Fine, ended as ended_at}
 use Rattle.write_place.specs.declared.Outcome.{Outcome}
 use Rattle.write_place.specs.declared.Outcome.TheVariants as outcome
 use Rattle.session_state.specs.declared.progress.Progress.{Progress}
@@ -30,7 +30,7 @@ use Rattle.session_state.specs.Moves.{noted_at, with_quote, after_outcome, refus
 use Rattle.session_state.specs.Questions.{question_of}
 use Rattle.session_state.specs.State.{standing, waits, Underway, slot_for, add_of}
 use Rattle.session_state.specs.Steps.{Comes, Ready, Onward}
-use Rattle.session_steps.specs.Contracts.{told_add, Adding, Added}
+use Rattle.session_steps.specs.Effects.{told_add, Adding, Added}
 use Rattle.session_state.proofs.Runs.{run_ends, run_none_open, run_finished, run_full}
 use Rattle.session_steps.proofs.Adding.{adding, added_on, added_off}
 use Rattle.session_state.proofs.Answers.{stands_on, stands-off, stops}

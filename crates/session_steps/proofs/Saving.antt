@@ -11,12 +11,12 @@ use Rattle.words.specs.Words.{at}
 use Rattle.work_layout.specs.Layout.{PAIR_COUNT, USED, COUNTS, PARENTS, COPIES, MAPS, ENTRIES}
 use Rattle.work_layout.specs.Rows.{Sound, all_counts}
 use Rattle.work_layout.specs.Counts.{further_same}
-use Rattle.cache_undo.specs.undo_state.Contracts.{copied_open, copied_stack, copied_marks, Saved}
-use Rattle.cache_undo.specs.cache_copy.Contracts.{copied_furthers, CacheSaved}
+use Rattle.cache_undo.specs.undo_state.Effects.{copied_open, copied_stack, copied_marks, Saved}
+use Rattle.cache_undo.specs.cache_copy.Effects.{copied_furthers, CacheSaved}
 use Rattle.cache_entries.proofs.Entries.{sound_kept, counts_kept}
 use Rattle.write_place.specs.State.{Standing}
 use Rattle.session_state.specs.declared.progress.Progress.{Progress}
-use Rattle.session_steps.specs.Contracts.{StateSaved}
+use Rattle.session_steps.specs.Effects.{StateSaved}
 
 module _ {w w₁ : List ℕ} (p : Progress) (st : Standing w p.opens p.depth 0) (len : length w₁ ≡ length w) (sv : Saved w w₁ p.adds p.opens p.depth) where
   -- The words below the copies stay.

@@ -1,3 +1,3 @@
-pub mod Contracts
+pub mod Effects
 pub mod undo_step
 pub mod Driven

@@ -1,4 +1,6 @@
 // incremental.rs and the session file: the steps of a session.
+#![tactic(auto)]
+
 mod quoted_step;
 pub mod run_steps;
 mod undo_step;
@@ -7,7 +9,7 @@ ghost use Rattle.std.specs.Prelude.{◌≡◌, false, ◌<◌, take};
 ghost use Rattle.session_state.specs.State.{the_file};
 ghost use Rattle.session_state.specs.Steps.{Comes, Ready, Onward};
 ghost use Rattle.write_place.specs.State.{Standing};
-ghost use Rattle.session_steps.specs.Contracts.{told_add, StateSaved, Adding, Added};
+ghost use Rattle.session_steps.specs.Effects.{told_add, StateSaved, Adding, Added};
 
 use allocator::NodePtr;
 use cache_undo::{cache_copy, undo_state};

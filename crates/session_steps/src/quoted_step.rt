@@ -4,7 +4,7 @@ ghost use Rattle.session_state.specs.Moves.{noted_at, with_quote, undone_at};
 ghost use Rattle.session_state.specs.Stored.{Noting, noted_words};
 ghost use Rattle.session_state.specs.State.{the_file};
 ghost use Rattle.session_state.specs.Steps.{Ready, Onward};
-ghost use Rattle.session_steps.specs.undo_step.Contracts.{Undoing, Undone};
+ghost use Rattle.session_steps.specs.undo_step.Effects.{Undoing, Undone};
 
 use crate::undo_step;
 use file_parts::NextStep;

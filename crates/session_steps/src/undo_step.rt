@@ -3,7 +3,7 @@ ghost use Rattle.std.specs.Prelude.{◌≡◌, false, ◌≤◌, length};
 ghost use Rattle.words.specs.Words.{WORK};
 ghost use Rattle.session_state.specs.State.{the_file};
 ghost use Rattle.session_state.specs.Steps.{Comes, told_undo, Ready, Onward};
-ghost use Rattle.session_steps.specs.undo_step.Contracts.{Brings, CacheBack, Undoing, Undone};
+ghost use Rattle.session_steps.specs.undo_step.Effects.{Brings, CacheBack, Undoing, Undone};
 
 use cache_undo::cache_copy;
 use session_state::progress::Progress;

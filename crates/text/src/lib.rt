@@ -1,4 +1,6 @@
 // What the programs write: numbers and bytes in hexadecimal on standard output, words on standard error.
+#![tactic(auto)]
+
 pub mod questions;
 pub mod session_text;
 

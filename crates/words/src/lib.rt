@@ -1,4 +1,6 @@
 // Words and bytes read: a word and bytes as a number, bytes compared. The laws of a slice's parts stand here too.
+#![tactic(auto)]
+
 pub mod slices;
 
 ghost use Rattle.std.specs.Prelude.{◌≡◌, ◌+◌, ◌≤◌, length};

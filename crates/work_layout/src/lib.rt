@@ -1,5 +1,7 @@
 // What lies where in work, 524,288 words: the offset of each region. The sizes stand in specs/Layout.antt, with the proof that no two
 // regions meet.
+#![tactic(auto)]
+
 pub mod halves;
 pub mod parents;
 
@@ -110,7 +112,7 @@ pub const COPIES: usize = 214155;
 pub const FREE: usize = 477867;
 
 // An entry of the tree cache, by its number. A handle (NodePtr) and an entry number never stand for each other.
-#[derive(Drop)]
+#[derive(Clone, Copy)]
 pub struct EntryIndex(pub u32);
 
 // The most entries.

@@ -10,7 +10,7 @@ use crate::{COUNTS, ENTRIES, EntryIndex, MOVED, PARENTS, halves};
 use words::slices;
 
 // A parent: its entry, doubled, and 1 more for the right position below it.
-#[derive(Drop)]
+#[derive(Clone, Copy)]
 pub struct Parent(pub u32);
 
 // The position below a parent, as a number.

@@ -1,9 +1,11 @@
 // What is counted of the items that are written. A count that comes to be wanted is one field more, and is kept here.
+#![tactic(auto)]
+
 ghost use Rattle.std.specs.Prelude.{◌≡◌, ◌+◌, ◌≤◌};
 ghost use Rattle.write_counts.specs.Counts.{«no_items», grown};
 
 // Their bytes, the references among them, and the bytes of prefixes, those of paths included.
-#[derive(Drop)]
+#[derive(Clone, Copy)]
 pub struct Counts {
     pub size: usize,
     pub references: usize,

@@ -1,5 +1,7 @@
 // One item of a session's output, as incremental.rs writes it: `ff` or an atom. `output` is the usable part of the output, of which `counts.size` bytes
 // are used. An item that does not fit whole leaves the output as it is (question 13).
+#![tactic(auto)]
+
 pub mod write_reference;
 
 ghost use Rattle.std.specs.Prelude.{◌≡◌, ◌+◌, ◌^◌, ◌<◌, leb, length};
@@ -13,7 +15,7 @@ use atom_encode::write_atom::WriteAtom;
 use write_counts::Counts;
 
 // What is counted with the item; that the output has no room for the whole item.
-#[derive(Drop)]
+#[derive(Clone, Copy)]
 pub enum Put {
     Next(Counts),
     Full,

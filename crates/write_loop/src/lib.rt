@@ -1,4 +1,6 @@
 // incremental.rs: what an add writes, up to the next open place. The Rust keeps what is left to write on two stacks; here the open pairs in work say it.
+#![tactic(auto)]
+
 pub mod write_turn;
 
 ghost use Rattle.words.specs.Words.{at};
@@ -8,7 +10,7 @@ ghost use Rattle.search_find.specs.declared.find_path.Path.TheVariants.{NoPath};
 ghost use Rattle.cache_entries.specs.Meaning.{Names};
 ghost use Rattle.write_loop.specs.declared.write_turn.Next.TheVariants.{Parse};
 ghost use Rattle.write_place.specs.State.{AtomPlaces};
-ghost use Rattle.write_loop.specs.Contracts.{Runs, Turns, TurnsFound, Falls, Found, ended};
+ghost use Rattle.write_loop.specs.Effects.{Runs, Turns, TurnsFound, Falls, Found, ended};
 
 use allocator::NodePtr;
 use cache_entries::lookup;

@@ -7,14 +7,14 @@ ghost use Rattle.words.specs.Words.{at};
 ghost use Rattle.allocator.specs.Handle.{node_of, is_atom};
 ghost use Rattle.spec_session.specs.Items.{atom_item};
 ghost use Rattle.work_layout.specs.Layout.{ATOM_COUNT, PAIR_COUNT, ENTRIES, DEPTH};
-ghost use Rattle.cache_stack.specs.Contracts.{Stacked};
+ghost use Rattle.cache_stack.specs.Effects.{Stacked};
 ghost use Rattle.search_find.specs.declared.find_path.Path.TheVariants.{At};
 ghost use Rattle.write_counts.specs.Counts.{Bounded};
 ghost use Rattle.write_item.specs.Answers.{ItemPut};
 ghost use Rattle.cache_entries.specs.Meaning.{Names, Whole};
 ghost use Rattle.work_layout.specs.Rows.{atom_bytes};
 ghost use Rattle.write_place.specs.State.{AtomPlaces};
-ghost use Rattle.write_loop.specs.Contracts.{TurnsFound, Found, AtomPut, Pushes};
+ghost use Rattle.write_loop.specs.Effects.{TurnsFound, Found, AtomPut, Pushes};
 
 use allocator::NodePtr;
 use file_tables::listed_atoms;
@@ -25,7 +25,7 @@ use write_item::{Put, write_reference};
 use write_place::Place;
 
 // What comes next in the loop.
-#[derive(Drop)]
+#[derive(Clone, Copy)]
 pub enum Next {
     // This node is written.
     Parse(Place, NodePtr),

@@ -9,8 +9,8 @@ use Rattle.spec_session.specs.Items.{output}
 use Rattle.spec_session.specs.Writer.{Todo, parse, close, Written}
 use Rattle.work_layout.specs.Layout.{PAIRS, ATOM_COUNT, PAIR_COUNT, OPEN, MOVED, SEEN, COPIES, ENTRIES}
 use Rattle.work_layout.specs.Rows.{start_of, end_of, atom_bytes, stack_of, all_counts}
-use Rattle.cache_stack.specs.marks.Contracts.{marked_at}
-use Rattle.cache_stack.specs.Contracts.{Stacked}
+use Rattle.cache_stack.specs.marks.Effects.{marked_at}
+use Rattle.cache_stack.specs.Effects.{Stacked}
 use Rattle.cache_entries.specs.Meaning.{Holds, Whole}
 use Rattle.write_counts.specs.declared.Counts.{Counts}
 use Rattle.write_counts.specs.Counts.{counts_of, Bounded}

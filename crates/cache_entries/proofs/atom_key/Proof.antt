@@ -8,7 +8,7 @@ use borrow.Author.Rules.{rules}
 use Rattle.work_layout.specs.Layout.{FIRST}
 use Rattle.allocator.specs.Handle.{listed-atom, node_of, handle_of}
 use Rattle.words.specs.Words.{at}
-use Rattle.cache_entries.specs.Contracts.{is_listed}
+use Rattle.cache_entries.specs.Effects.{is_listed}
 use Rattle.cache_entries.proofs.Atoms.{listed_few, first_few, stands_listed, stands_small}
 use Rattle.cache_entries.proofs.atom_key.Statement.{statement}
 use Rattle.cache_entries.proofs.atom_key.Tie as tie

@@ -10,7 +10,7 @@ use Rattle.allocator.specs.Handle.{node_of}
 use Rattle.allocator.specs.SmallAtom.{small_bytes}
 use Rattle.atom.specs.Write.{serialized_length}
 use Rattle.words.specs.Words.{at}
-use Rattle.cache_entries.specs.Contracts.{is_listed}
+use Rattle.cache_entries.specs.Effects.{is_listed}
 use Rattle.cache_entries.proofs.Atoms.{listed_few, index_low, measured_listed, measured_small}
 use Rattle.cache_entries.proofs.atom_length.Statement.{statement}
 use Rattle.cache_entries.proofs.atom_length.Tie as tie

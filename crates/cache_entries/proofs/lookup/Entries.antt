@@ -14,12 +14,12 @@ use Rattle.spec_session.specs.Writer.{or_zero, atom_entry, pair_entry}
 use Rattle.work_layout.specs.Layout.{MAPS, USED, PAIR_COUNT}
 use Rattle.work_layout.specs.Rows.{row_of, rows_of}
 use Rattle.cache_entries.specs.declared.table.Found.{Found}
-use Rattle.cache_entries.specs.table.Contracts.{find_row, option_of}
+use Rattle.cache_entries.specs.table.Effects.{find_row, option_of}
 use Rattle.cache_entries.proofs.table.Rows.{find_at, word_some}
 use Rattle.cache_entries.specs.Meaning.{ATOM_KEY, bytes_named, entry_or_none, Tables, Whole, Holds}
-use Rattle.cache_entries.specs.Contracts.{Stands}
+use Rattle.cache_entries.specs.Effects.{Stands}
 use Rattle.cache_entries.proofs.Keys.{find_atom}
-use Rattle.cache_entries.specs.lookup.Contracts.{PairEntry, AtomEntry, EntryOf}
+use Rattle.cache_entries.specs.lookup.Effects.{PairEntry, AtomEntry, EntryOf}
 
 -- ---- what the getters give
 

@@ -10,7 +10,7 @@ use Rattle.work_layout.specs.Layout.{USED, LEFT, RIGHT, NEXT, HEADS, PARENTS, EN
 use Rattle.work_layout.specs.Rows.{row_of, rows_of, slot_of, slot_at, prev, Chained, Distinct, Sound}
 use Rattle.work_layout.specs.Prev.{prev_le, prev_same}
 use Rattle.work_layout.proofs.Seek.{Seek, seek_first, seek_past, seek_here}
-use Rattle.cache_entries.specs.table.Contracts.{find_row, HasKey}
+use Rattle.cache_entries.specs.table.Effects.{find_row, HasKey}
 use Rattle.cache_entries.proofs.table.Rows.{find_none, find_some}
 
 -- The chains, and that keys are distinct, rest on the words from LEFT to PARENTS, and on USED.

@@ -19,7 +19,7 @@ use Rattle.work_layout.specs.Layout.{USED, COUNTS, LEFT, RIGHT, LOW, HIGH, MAX_P
 use Rattle.work_layout.specs.Counts.{counts_same}
 use Rattle.work_layout.specs.Rows.{Sound, length_of, Row, link_at, parent_of, parents_of, row_of, with_parents, adjust_row, all_counts}
 use Rattle.cache_entries.specs.Meaning.{entry_or_none}
-use Rattle.cache_entries.specs.table.Contracts.{find_row}
+use Rattle.cache_entries.specs.table.Effects.{find_row}
 
 -- An entry rests on its own words.
 pub row_same : (w w' : List ℕ) (k : ℕ) → Sound w → k < at w USED → at w' (LEFT + k) ≡ at w (LEFT + k)

@@ -10,7 +10,7 @@ use lib.ListN.{length}
 use Rattle.words.specs.Words.{at, tabulate}
 use Rattle.work_layout.specs.Layout.{USED, COUNTS, LEFT, RIGHT, LOW, HIGH, PARENTS, SEEN, ENTRIES, MAX_PARENTS}
 use Rattle.work_layout.specs.Rows.{link_at, parents_of, row_of, rows_of, with_parents, adjust_row, length_of, Sound, all_counts}
-use Rattle.cache_entries.specs.table.Contracts.{SameKeys}
+use Rattle.cache_entries.specs.table.Effects.{SameKeys}
 use Rattle.cache_entries.proofs.table.Rows.{row_same, adjust_tabulate, counts_but}
 use Rattle.cache_entries.proofs.table.Chain.{chained_kept, distinct_kept}
 

@@ -4,7 +4,7 @@ ghost use Rattle.std.proofs.Math.Option.{none};
 ghost use Rattle.words.specs.Words.{at};
 ghost use Rattle.work_layout.specs.Layout.{USED, ENTRIES};
 ghost use Rattle.work_layout.specs.Rows.{rows_of, Sound};
-ghost use Rattle.cache_entries.specs.table.Contracts.{first_word, second_word, find_row, Inserted};
+ghost use Rattle.cache_entries.specs.table.Effects.{first_word, second_word, find_row, Inserted};
 
 use crate::table::Key;
 use words::wide;

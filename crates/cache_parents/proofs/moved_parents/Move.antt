@@ -14,7 +14,7 @@ use Rattle.spec_session.specs.Cache.{move_parents, no_parents}
 use Rattle.work_layout.specs.Layout.{MOVED, MAPS, USED, COUNTS, SEEN, ENTRIES, MAX_PARENTS}
 use Rattle.work_layout.specs.Rows.{link_at, moved_at, parent_of, parents_of, moved_of, Sound}
 use Rattle.work_layout.specs.Parents.{link_same, moved_same, ParentSet, MovedSet}
-use Rattle.cache_entries.specs.table.Contracts.{MovedLinks, Taken, Placed}
+use Rattle.cache_entries.specs.table.Effects.{MovedLinks, Taken, Placed}
 use Rattle.cache_entries.proofs.table.Single.{RowOnly, row_used, row_sound, row_rows, row_keys, row_counts}
 use Rattle.cache_parents.specs.Lists.{Saved, Filled}
 use Rattle.cache_parents.proofs.Parents.{count_links}

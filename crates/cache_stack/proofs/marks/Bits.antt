@@ -17,7 +17,7 @@ use Rattle.path.specs.Bytes.{odd}
 use Rattle.bitset.specs.BitSet.{bits_of}
 use Rattle.bitset.specs.BitSetLaws.{bits_of_at, length_bits_of}
 use Rattle.work_layout.specs.Layout.{WRITTEN, ENTRIES}
-use Rattle.cache_stack.specs.marks.Contracts.{marked_at, Marked}
+use Rattle.cache_stack.specs.marks.Effects.{marked_at, Marked}
 
 -- A mark depends on the words from WRITTEN to MOVED alone.
 pub marked_same : (w w' : List ℕ) (x : ℕ) → x < ENTRIES → ((i : ℕ) → i < 96 → at w' (WRITTEN + i) ≡ at w (WRITTEN + i)) → marked_at w' x ≡ marked_at w x

@@ -11,7 +11,7 @@ use Rattle.words.specs.Words.{at, WORK}
 use Rattle.work_layout.specs.Layout.{STACK, BELOW, TOPS, ENTRIES}
 use Rattle.work_layout.specs.Rows.{prev, stack_of}
 use Rattle.work_layout.specs.Prev.{prev_same, prev_past}
-use Rattle.cache_stack.specs.Contracts.{Stacked, Popped, PoppedTwo}
+use Rattle.cache_stack.specs.Effects.{Stacked, Popped, PoppedTwo}
 use Rattle.cache_stack.proofs.Stacks.{stack_same, stack_more, only_both}
 
 module _ (w : List ℕ) (d x : ℕ) (long : WORK ≤ length w) (s : Stacked w d) (some_left : 0 < d) (is-top : x ≡ at w (STACK + (d - 1))) where

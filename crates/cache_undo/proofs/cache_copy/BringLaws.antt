@@ -12,8 +12,8 @@ use Rattle.work_layout.specs.Layout.{PAIR_COUNT, MAPS, SENTINEL_ENTRY, USED, COU
 use Rattle.work_layout.specs.Rows.{links_at, slot_at, prev, further, all_further}
 use Rattle.work_layout.specs.Parents.{LinksSet, link_of_links}
 use Rattle.work_layout.specs.Counts.{counts_upto, further_same, further_few}
-use Rattle.cache_undo.specs.cache_copy.Contracts.{copied_used, copied_maps, copied_counts, copied_firsts, copied_furthers, TakenOff}
-use Rattle.cache_undo.specs.cache_copy.Contracts.{ListBrought, ListsBrought, Bringable, CacheBrought}
+use Rattle.cache_undo.specs.cache_copy.Effects.{copied_used, copied_maps, copied_counts, copied_firsts, copied_furthers, TakenOff}
+use Rattle.cache_undo.specs.cache_copy.Effects.{ListBrought, ListsBrought, Bringable, CacheBrought}
 
 -- ---- the further words of one entry
 

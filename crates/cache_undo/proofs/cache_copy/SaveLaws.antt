@@ -12,7 +12,7 @@ use Rattle.words.proofs.Copies.{Copied}
 use Rattle.work_layout.specs.Layout.{PAIR_COUNT, MAPS, USED, COUNTS, PARENTS, SEEN, COPIES, COPY, ENTRIES, MAX_PARENTS}
 use Rattle.work_layout.specs.Rows.{links_at, Sound, all_counts, further, all_further}
 use Rattle.work_layout.specs.Counts.{counts_upto, further_same, further_more, further_within, further_few}
-use Rattle.cache_undo.specs.cache_copy.Contracts.{copied_used, copied_maps, copied_counts, copied_firsts, copied_furthers, ListSaved, ListsSaved, CacheSaved}
+use Rattle.cache_undo.specs.cache_copy.Effects.{copied_used, copied_maps, copied_counts, copied_firsts, copied_furthers, ListSaved, ListsSaved, CacheSaved}
 
 -- ---- the further words of one entry
 

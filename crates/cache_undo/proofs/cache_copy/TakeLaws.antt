@@ -12,7 +12,7 @@ use Rattle.words.proofs.Words.{Store, stores, Misses, miss, hits, length_stores}
 use Rattle.work_layout.specs.Layout.{USED, COUNTS, LEFT, RIGHT, NEXT, HEADS, PARENTS, ENTRIES, SLOTS}
 use Rattle.work_layout.specs.Rows.{slot_of, slot_at, prev, Sound}
 use Rattle.work_layout.specs.Prev.{prev_past}
-use Rattle.cache_undo.specs.cache_copy.Contracts.{TakenOff}
+use Rattle.cache_undo.specs.cache_copy.Effects.{TakenOff}
 
 -- The entries from number e on are taken off; their number stands as it was.
 pub record Taking (w w' : List ℕ) (e : ℕ) : Type 0 where

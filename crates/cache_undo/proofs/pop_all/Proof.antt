@@ -3,7 +3,7 @@
 use mathlib.Core.Path.{◌≡◌, refl, ◌∙◌}
 use native.Mathlib.Omega.{arith}
 use lib.ListN.{length}
-use Rattle.cache_stack.specs.Contracts.{Stacked, StackOnly}
+use Rattle.cache_stack.specs.Effects.{Stacked, StackOnly}
 use Rattle.cache_stack.proofs.Stacks.{only_same, only_both}
 use Rattle.cache_undo.proofs.pop_all.Statement.{statement}
 use Rattle.cache_undo.proofs.pop_all.Tie as tie

@@ -5,7 +5,7 @@ use mathlib.Core.Path.{◌≡◌, refl, ◌∙◌}
 use native.Mathlib.Omega.{arith}
 use lib.ListN.{length}
 use borrow.Author.Rules.{rules}
-use Rattle.cache_undo.specs.Contracts.{PushedAll}
+use Rattle.cache_undo.specs.Effects.{PushedAll}
 use Rattle.cache_undo.proofs.Pushing.{pushed_none, pushed_next, pushed_more}
 use Rattle.cache_undo.proofs.push_all.Statement.{statement}
 use Rattle.cache_undo.proofs.push_all.Tie as tie

@@ -6,7 +6,7 @@ use Prim.Native.Nat.{ℕ, ◌+◌, ◌≤◌}
 use native.Mathlib.Omega.{arith}
 use Rattle.words.proofs.Copies.{Copied}
 use Rattle.work_layout.specs.Layout.{OPEN, STACK, WRITTEN, DEPTH}
-use Rattle.cache_undo.specs.undo_state.Contracts.{copied_open, copied_stack, copied_marks, Saved}
+use Rattle.cache_undo.specs.undo_state.Effects.{copied_open, copied_stack, copied_marks, Saved}
 
 -- The three copies of a save.
 pub saved : {w u v w' : List ℕ} (k : ℕ) {opens d : ℕ} → opens ≤ 4096 → d ≤ DEPTH

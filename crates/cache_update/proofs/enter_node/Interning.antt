@@ -8,7 +8,7 @@ use native.Mathlib.Omega.{arith}
 use Rattle.words.specs.Words.{at}
 use Rattle.work_layout.specs.Layout.{USED}
 use Rattle.work_layout.specs.Rows.{row_of, rows_of, Sound}
-use Rattle.cache_entries.specs.table.Contracts.{find_row, Inserted, Interned}
+use Rattle.cache_entries.specs.table.Effects.{find_row, Inserted, Interned}
 use Rattle.cache_entries.proofs.table.Rows.{find_at}
 use Rattle.cache_entries.proofs.Lift.{length_rows}
 

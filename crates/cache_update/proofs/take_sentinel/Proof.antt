@@ -7,7 +7,7 @@ use borrow.Author.Rules.{rules}
 use Rattle.words.specs.Words.{at}
 use Rattle.work_layout.specs.Layout.{SENTINEL_ENTRY}
 use Rattle.cache_entries.specs.Meaning.{entry_or_none}
-use Rattle.cache_entries.specs.table.Contracts.{option_of}
+use Rattle.cache_entries.specs.table.Effects.{option_of}
 use Rattle.cache_entries.proofs.Updating.{sentinel_low, cleared_none, cleared_some}
 use Rattle.cache_update.proofs.take_sentinel.Statement.{statement}
 use Rattle.cache_update.proofs.take_sentinel.Tie as tie

@@ -2,7 +2,7 @@
 -- Assumes nothing.
 use mathlib.Core.Path.{◌≡◌, sym, ◌∙◌}
 use mathlib.Core.Bool.{true}
-use Rattle.cache_stack.specs.marks.Contracts.{marked_at}
+use Rattle.cache_stack.specs.marks.Effects.{marked_at}
 use Rattle.cache_stack.proofs.Stacks.{stacked_tops}
 use Rattle.search_find.proofs.Finding.{finds_unmarked, finds_short, finds_path}
 use native.Mathlib.Omega.{arith}

@@ -35,7 +35,7 @@ use Rattle.session_state.specs.Steps.{Comes, Ready, Onward}
 use Rattle.session_state.proofs.Runs.{run_taking}
 use Rattle.session_state.proofs.States.{roomy_later, history_later, go_on}
 use Rattle.session_state.proofs.Answers.{stands_on}
-use Rattle.session_steps.specs.undo_step.Contracts.{Undoing, Undone}
+use Rattle.session_steps.specs.undo_step.Effects.{Undoing, Undone}
 use Rattle.session_steps.proofs.undo_step.Undoing.{found, was, undoing, present, stocked, history}
 
 module _ {measure : Measure} {input : List ℕ} {f : File} {w words : List ℕ} {rows : List Checkpoint} {out : List ℕ} {p : Progress} (u : Underway measure input f w words rows out p)

@@ -19,7 +19,7 @@ use Rattle.session_state.specs.Stored.{Noting, noted_words}
 use Rattle.session_state.specs.Moves.{noted_at, undone_at, stopped_at}
 use Rattle.session_state.specs.State.{standing, slot_for, undo_of}
 use Rattle.session_state.specs.Steps.{Comes, told_undo, Ready, Onward}
-use Rattle.session_steps.specs.undo_step.Contracts.{Undoing, Undone}
+use Rattle.session_steps.specs.undo_step.Effects.{Undoing, Undone}
 use Rattle.session_state.proofs.Slots.{nth_none}
 use Rattle.session_state.proofs.Runs.{run_beyond}
 use Rattle.session_steps.proofs.undo_step.Undoing.{undo_fits, undo_takes, undone_on}

@@ -18,14 +18,14 @@ use Rattle.work_layout.specs.Rows.{Row, link_at, parent_of, parents_of, length_o
 use Rattle.work_layout.specs.Parents.{link_same}
 use Rattle.work_layout.specs.Prev.{prev_same}
 use Rattle.work_layout.specs.Counts.{counts_same}
-use Rattle.cache_undo.specs.Contracts.{Restored}
-use Rattle.cache_undo.specs.cache_copy.Contracts.{CacheBrought}
+use Rattle.cache_undo.specs.Effects.{Restored}
+use Rattle.cache_undo.specs.cache_copy.Effects.{CacheBrought}
 use Rattle.cache_entries.specs.Meaning.{entry_of, key_of, Tables, entry_or_none, unmapped, Whole, Holds}
 use Rattle.cache_entries.proofs.Frames.{unmapped_same}
 use Rattle.cache_entries.proofs.Lift.{length_rows}
 use Rattle.cache_entries.proofs.Making.{whole_of}
 use Rattle.session_state.specs.State.{Roomy}
-use Rattle.session_steps.specs.undo_step.Contracts.{Forgotten}
+use Rattle.session_steps.specs.undo_step.Effects.{Forgotten}
 
 -- ---- a cache that has all entries of an earlier one
 

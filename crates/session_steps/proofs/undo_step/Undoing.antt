@@ -27,12 +27,12 @@ use Rattle.spec_session.specs.Steps.{or_known, Run, with_words, words_of, run_st
 use Rattle.file_parts.specs.Loaded.{forgets}
 use Rattle.work_layout.specs.Layout.{PAIR_COUNT, OPEN, STACK, WRITTEN, MAPS, SENTINEL_ENTRY, USED, SEEN, ENTRIES, DEPTH}
 use Rattle.work_layout.specs.Rows.{all_counts}
-use Rattle.cache_stack.specs.Contracts.{Stacked}
+use Rattle.cache_stack.specs.Effects.{Stacked}
 use Rattle.cache_stack.proofs.Stacks.{stack_same, stacked_same}
 use Rattle.cache_stack.proofs.marks.Bits.{marked_same}
-use Rattle.cache_undo.specs.undo_state.Contracts.{copied_stack}
-use Rattle.cache_undo.specs.cache_copy.Contracts.{Bringable}
-use Rattle.cache_entries.specs.Contracts.{Outside}
+use Rattle.cache_undo.specs.undo_state.Effects.{copied_stack}
+use Rattle.cache_undo.specs.cache_copy.Effects.{Bringable}
+use Rattle.cache_entries.specs.Effects.{Outside}
 use Rattle.cache_entries.specs.Meaning.{Whole, Holds, entry_or_none}
 use Rattle.cache_entries.proofs.Frames.{tables_kept}
 use Rattle.write_place.specs.State.{todo_of, Running, Writes}
@@ -42,7 +42,7 @@ use Rattle.write_counts.specs.Counts.{Bounded}
 use Rattle.session_state.specs.Stored.{noted_words, with_entry}
 use Rattle.session_state.specs.Moves.{noted_at, counts_in, undone_at}
 use Rattle.session_state.specs.State.{standing, whole_run, after_words, Roomy, At, Before, History, Stocked, Underway, slot_for, undo_of, undone}
-use Rattle.session_steps.specs.undo_step.Contracts.{Brings, CacheBack, Undoing, Undone}
+use Rattle.session_steps.specs.undo_step.Effects.{Brings, CacheBack, Undoing, Undone}
 use Rattle.session_state.proofs.Slots.{Found, nth_found}
 use Rattle.write_place.proofs.Frames.{places_kept, atoms_kept, whole_kept, holds_kept, unmapped_kept, all_counts_kept}
 use Rattle.session_state.proofs.Runs.{run_undo}

@@ -9,7 +9,7 @@ use lib.ListN.{length}
 use Rattle.search_find.specs.declared.find_path.Path.{Path}
 use Rattle.write_loop.specs.declared.write_turn.Next.{Next}
 use Rattle.write_loop.specs.declared.write_turn.Next.TheVariants.{Parse}
-use Rattle.write_loop.specs.Contracts.{Turns, Falls, Found, TurnsFound}
+use Rattle.write_loop.specs.Effects.{Turns, Falls, Found, TurnsFound}
 use Rattle.write_loop.proofs.write_turn.Turning.{turns_stop, search_places, after_search, found_there, finds_there}
 use borrow.Author.Rules.{rules}
 use Rattle.write_loop.proofs.parse.Statement.{statement}

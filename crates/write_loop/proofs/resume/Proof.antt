@@ -2,7 +2,7 @@
 -- Assumes nothing.
 use mathlib.Core.Path.{refl}
 use lib.ListN.{length}
-use Rattle.write_loop.specs.Contracts.{ahead}
+use Rattle.write_loop.specs.Effects.{ahead}
 use Rattle.write_loop.proofs.write_turn.Looping.{Looping, loop_starts, loop_turns, fine_now, places_now, loop_falls, loop_ends}
 use borrow.Author.Rules.{rules}
 use Rattle.write_loop.proofs.resume.Statement.{statement}

@@ -17,11 +17,11 @@ use Rattle.write_counts.specs.declared.Counts.{Counts}
 use Rattle.write_item.specs.declared.Put.{Put}
 use Rattle.write_item.specs.Answers.{ItemPut}
 use Rattle.cache_entries.specs.Meaning.{bytes_named, Names, Whole}
-use Rattle.cache_entries.specs.Contracts.{is_listed}
+use Rattle.cache_entries.specs.Effects.{is_listed}
 use Rattle.cache_entries.proofs.Atoms.{listed_is, small_is, index_low, listed_low}
 use Rattle.write_place.specs.State.{AtomPlaces}
 use Rattle.work_layout.specs.Rows.{start_of, end_of, atom_bytes}
-use Rattle.write_loop.specs.Contracts.{AtomPut}
+use Rattle.write_loop.specs.Effects.{AtomPut}
 
 -- A node that is named and no pair is an atom.
 pub named_atom : (a p : ℕ) (n : Node) → named a p n ≡ true → is_pair n ≡ false → is_atom n ≡ true

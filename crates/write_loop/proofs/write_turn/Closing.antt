@@ -18,14 +18,14 @@ use Rattle.spec_session.specs.Steps.{room_in}
 use Rattle.spec_session.specs.Loop.{turn_done, turn_close}
 use Rattle.work_layout.specs.Layout.{PAIRS, PAIR_COUNT, OPEN, WRITTEN}
 use Rattle.work_layout.specs.Rows.{stack_of}
-use Rattle.cache_stack.specs.Contracts.{PoppedTwo}
+use Rattle.cache_stack.specs.Effects.{PoppedTwo}
 use Rattle.cache_stack.proofs.marks.Bits.{marked_same}
 use Rattle.cache_entries.specs.Meaning.{Tables, Names, Holds, Whole}
 use Rattle.cache_entries.proofs.Entering.{names_grow}
 use Rattle.write_place.specs.declared.Place.{Place}
 use Rattle.write_loop.specs.declared.write_turn.Next.TheVariants.{Parse, Close, Done}
 use Rattle.write_place.specs.State.{left_to_write, todo_of, rights_left, Standing, Writes, WriterOnly}
-use Rattle.write_loop.specs.Contracts.{Runs, goes_on, Turns, Falls, Closes}
+use Rattle.write_loop.specs.Effects.{Runs, goes_on, Turns, Falls, Closes}
 use Rattle.write_loop.proofs.write_turn.Frames.{only_same, whole_stays, holds_stay, tables_stay, pairs_stay, names_stay, rights_few, rights_more}
 use Rattle.write_loop.proofs.write_turn.Frames.{Beside, beside_only, beside_both, pairs_few, todo_stays, standing_stays}
 use Rattle.write_loop.proofs.write_turn.Storing.{todo_none, todo_more, left_odd, left_even, store_only, store_standing, store_todo, store_writes}

@@ -10,7 +10,7 @@ use Rattle.spec_session.specs.File.{File}
 use Rattle.spec_session.specs.Cache.{Cache}
 use Rattle.work_layout.specs.Layout.{PAIRS, ATOM_COUNT, PAIR_COUNT, OPEN, STACK, MOVED, MAPS, SENTINEL_ENTRY, USED, SEEN, COPIES, ENTRIES}
 use Rattle.work_layout.specs.Rows.{all_counts}
-use Rattle.cache_stack.specs.Contracts.{Stacked}
+use Rattle.cache_stack.specs.Effects.{Stacked}
 use Rattle.cache_entries.specs.Meaning.{entry_or_none, Tables, Names, Whole, Holds}
 use Rattle.cache_entries.proofs.Frames.{tables_kept}
 use Rattle.write_place.proofs.Frames.{places_kept, atoms_kept, whole_kept, holds_kept, all_counts_kept}

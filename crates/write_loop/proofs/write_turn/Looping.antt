@@ -13,7 +13,7 @@ use Rattle.write_place.specs.declared.Place.{Place}
 use Rattle.write_loop.specs.declared.write_turn.Next.{Next}
 use Rattle.write_loop.specs.declared.write_turn.Next.TheVariants.{Parse}
 use Rattle.write_place.specs.State.{AtomPlaces}
-use Rattle.write_loop.specs.Contracts.{Runs, ahead, Fine, Turns, Falls}
+use Rattle.write_loop.specs.Effects.{Runs, ahead, Fine, Turns, Falls}
 use Rattle.write_loop.proofs.write_turn.Frames.{places_stay}
 use Rattle.write_loop.proofs.write_turn.Turning.{turns_none, turns_then}
 

@@ -32,13 +32,13 @@ use Rattle.write_item.specs.Answers.{ItemPut}
 use Rattle.write_item.proofs.Counting.{put_none}
 use Rattle.cache_entries.specs.Meaning.{Tables, Names}
 use Rattle.cache_entries.proofs.Entering.{names_grow, pair_low, is_node}
-use Rattle.search_find.specs.Contracts.{FindsIn}
+use Rattle.search_find.specs.Effects.{FindsIn}
 use Rattle.write_place.specs.declared.Place.{Place}
 use Rattle.write_loop.specs.declared.write_turn.Next.{Next}
 use Rattle.write_loop.specs.declared.write_turn.Next.TheVariants.{Parse, Refused}
 use Rattle.write_place.specs.State.{todo_of, Standing, Writes}
 use Rattle.write_place.proofs.Sizes.{size_written}
-use Rattle.write_loop.specs.Contracts.{goes_on, Turns, Falls, Found, TurnsFound}
+use Rattle.write_loop.specs.Effects.{goes_on, Turns, Falls, Found, TurnsFound}
 use Rattle.write_loop.proofs.write_turn.Frames.{only_same, pairs_stay, names_stay, pairs_few}
 use Rattle.write_loop.proofs.write_turn.Items.{put_there, taken_before, running_more, counts_written, bytes_written, room_there, room_gone}
 use Rattle.write_loop.proofs.write_turn.Values.{found_is, pair_is}

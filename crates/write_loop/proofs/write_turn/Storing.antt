@@ -14,7 +14,7 @@ use Rattle.spec_session.specs.Unfold.{unfolded}
 use Rattle.spec_session.specs.Cache.{Cache}
 use Rattle.spec_session.specs.Writer.{Todo, parse, close, Written}
 use Rattle.work_layout.specs.Layout.{PAIRS, PAIR_COUNT, OPEN, STACK, WRITTEN}
-use Rattle.cache_stack.specs.Contracts.{Stacked}
+use Rattle.cache_stack.specs.Effects.{Stacked}
 use Rattle.cache_stack.proofs.Stacks.{stacked_same, stack_same}
 use Rattle.cache_stack.proofs.marks.Bits.{marked_same}
 use Rattle.cache_entries.specs.Meaning.{Tables, Whole}

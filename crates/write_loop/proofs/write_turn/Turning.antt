@@ -26,13 +26,13 @@ use Rattle.cache_stack.proofs.Stacks.{stacked_same, stack_same}
 use Rattle.cache_stack.proofs.marks.Bits.{marked_same}
 use Rattle.cache_entries.specs.Meaning.{Tables, Names, Whole, Holds}
 use Rattle.cache_entries.proofs.Entering.{sentinel_is}
-use Rattle.cache_entries.specs.lookup.Contracts.{EntryOf}
-use Rattle.search_find.specs.Contracts.{Ready, FindsIn}
+use Rattle.cache_entries.specs.lookup.Effects.{EntryOf}
+use Rattle.search_find.specs.Effects.{Ready, FindsIn}
 use Rattle.write_place.specs.declared.Place.{Place}
 use Rattle.write_loop.specs.declared.write_turn.Next.{Next}
 use Rattle.write_loop.specs.declared.write_turn.Next.TheVariants.{Parse, Stopped}
 use Rattle.write_place.specs.State.{AtomPlaces, AtomsThere, todo_of, Writes, WriterOnly}
-use Rattle.write_loop.specs.Contracts.{place_of, Runs, Fine, goes_on, comes_to, Leads, Turns, Found}
+use Rattle.write_loop.specs.Effects.{place_of, Runs, Fine, goes_on, comes_to, Leads, Turns, Found}
 use Rattle.write_loop.proofs.write_turn.Frames.{only_both, only_same, holds_stay, tables_stay, pairs_stay, names_stay, places_stay, atoms_stay, Beside, beside_only, todo_stays, standing_stays}
 
 -- ---- one after the other

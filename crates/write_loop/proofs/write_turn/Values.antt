@@ -30,8 +30,8 @@ use Rattle.work_layout.specs.Layout.{PAIR_COUNT, ENTRIES}
 use Rattle.search_find.specs.declared.find_path.Path.{Path}
 use Rattle.search_find.specs.declared.find_path.Path.TheVariants.{At, NoPath}
 use Rattle.search_list.specs.State.{path_at}
-use Rattle.cache_stack.specs.marks.Contracts.{marked_at}
-use Rattle.cache_stack.specs.Contracts.{PushedMarked}
+use Rattle.cache_stack.specs.marks.Effects.{marked_at}
+use Rattle.cache_stack.specs.Effects.{PushedMarked}
 use Rattle.write_counts.specs.declared.Counts.{Counts}
 use Rattle.write_item.specs.declared.Put.{Put}
 use Rattle.write_item.specs.declared.Put.TheVariants as item
@@ -39,13 +39,13 @@ use Rattle.write_item.specs.Answers.{ItemPut}
 use Rattle.write_item.proofs.Counting.{put_none}
 use Rattle.cache_entries.specs.Meaning.{bytes_named, Tables, Holds}
 use Rattle.cache_entries.proofs.Entering.{names_pair, is_leaf, is_node}
-use Rattle.search_find.specs.Contracts.{LengthOf, steps_of, FindsIn}
+use Rattle.search_find.specs.Effects.{LengthOf, steps_of, FindsIn}
 use Rattle.write_place.specs.declared.Place.{Place}
 use Rattle.write_loop.specs.declared.write_turn.Next.{Next}
 use Rattle.write_loop.specs.declared.write_turn.Next.TheVariants.{Parse, Close, Refused}
 use Rattle.write_place.specs.State.{AtomsThere, todo_of, Writes}
 use Rattle.write_place.proofs.Sizes.{size_written}
-use Rattle.write_loop.specs.Contracts.{Runs, goes_on, Turns, Falls, Found, TurnsFound, AtomPut, Stacks, Pushes}
+use Rattle.write_loop.specs.Effects.{Runs, goes_on, Turns, Falls, Found, TurnsFound, AtomPut, Stacks, Pushes}
 use Rattle.write_loop.proofs.write_turn.Frames.{only_same, holds_stay, Beside, beside_only, todo_stays, standing_stays}
 use Rattle.write_loop.proofs.write_turn.Items.{put_there, taken_before, running_more, counts_written, bytes_written, WholeItem, whole_fits, whole_lacks}
 

@@ -3,11 +3,11 @@ ghost use Rattle.std.specs.Prelude.{◌≡◌, List, ℕ, ◌+◌, ◌-◌, ◌�
 ghost use Rattle.words.specs.Words.{at, WORK};
 ghost use Rattle.path.specs.declared.Measure.{Measure};
 ghost use Rattle.work_layout.specs.Layout.{OPEN, PAIR_COUNT};
-ghost use Rattle.cache_stack.specs.Contracts.{Stacked};
+ghost use Rattle.cache_stack.specs.Effects.{Stacked};
 ghost use Rattle.cache_entries.specs.Meaning.{Whole};
 ghost use Rattle.write_loop.specs.declared.write_turn.Next.TheVariants.{Close};
 ghost use Rattle.write_place.specs.State.{Standing};
-ghost use Rattle.write_loop.specs.Contracts.{Runs, Turns, Falls, Closes};
+ghost use Rattle.write_loop.specs.Effects.{Runs, Turns, Falls, Closes};
 
 use crate::write_turn::Next;
 use cache_entries::lookup;

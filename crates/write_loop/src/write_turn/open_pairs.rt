@@ -2,7 +2,7 @@
 ghost use Rattle.std.specs.Prelude.{◌≡◌, true, List, ℕ};
 ghost use Rattle.allocator.specs.Handle.{node_of, is_pair};
 ghost use Rattle.search_find.specs.declared.find_path.Path.TheVariants.{NoPath};
-ghost use Rattle.write_loop.specs.Contracts.{TurnsFound, Found};
+ghost use Rattle.write_loop.specs.Effects.{TurnsFound, Found};
 
 use crate::write_turn::Next;
 use allocator::NodePtr;

@@ -1,7 +1,7 @@
 -- `cache_entries::lookup::atom_entry` meets its contract: the entry with the atom's key, or entry 0.
 -- Assumes nothing.
 use mathlib.Core.Path.{ap}
-use Rattle.cache_entries.specs.table.Contracts.{option_of}
+use Rattle.cache_entries.specs.table.Effects.{option_of}
 use Rattle.cache_entries.proofs.lookup.Entries.{atom_at, atom_none}
 use borrow.Author.Rules.{rules}
 use Rattle.cache_entries.proofs.lookup.atom_entry.Statement.{statement}

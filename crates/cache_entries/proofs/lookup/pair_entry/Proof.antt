@@ -1,7 +1,7 @@
 -- `cache_entries::lookup::pair_entry` meets its contract: the entry that the pair is mapped to, or entry 0.
 -- Assumes nothing.
 use mathlib.Core.Path.{ap}
-use Rattle.cache_entries.specs.table.Contracts.{option_of}
+use Rattle.cache_entries.specs.table.Effects.{option_of}
 use Rattle.cache_entries.proofs.lookup.Entries.{pair_at, pair_none}
 use borrow.Author.Rules.{rules}
 use Rattle.cache_entries.proofs.lookup.pair_entry.Statement.{statement}

@@ -4,7 +4,7 @@ use mathlib.Core.Path.{◌∙◌}
 use mathlib.Core.Logic.{⊎_elim}
 use borrow.Author.Rules.{rules}
 use Rattle.work_layout.specs.Rows.{rows_of}
-use Rattle.cache_entries.specs.table.Contracts.{find_row}
+use Rattle.cache_entries.specs.table.Effects.{find_row}
 use Rattle.cache_entries.proofs.table.Chain.{Sought, seek_start, seek_found, seek_less, seek_next, seek_none}
 use Rattle.cache_entries.proofs.table.find_key.Statement.{statement}
 use Rattle.cache_entries.proofs.table.find_key.Tie as tie

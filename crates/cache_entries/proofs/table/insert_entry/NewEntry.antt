@@ -21,7 +21,7 @@ use Rattle.work_layout.specs.Counts.{counts_same}
 use Rattle.work_layout.specs.Parents.{link_same}
 use Rattle.work_layout.specs.Rows.{Row, link_at, parents_of, row_of, rows_of, new_row, length_of, slot_of, slot_at, prev, Chained, Distinct, Sound}
 use Rattle.work_layout.specs.Prev.{prev_same}
-use Rattle.cache_entries.specs.table.Contracts.{find_row, Inserted}
+use Rattle.cache_entries.specs.table.Effects.{find_row, Inserted}
 use Rattle.cache_entries.proofs.table.Rows.{row_same, Missing}
 
 later_none : (o : Option ℕ) → later o ≡ none → o ≡ none

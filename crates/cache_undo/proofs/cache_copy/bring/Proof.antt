@@ -5,7 +5,7 @@ use native.Mathlib.Omega.{arith}
 use borrow.Author.Rules.{rules}
 use Rattle.work_layout.specs.Layout.{MAPS, COUNTS, PARENTS}
 use Rattle.words.proofs.Copies.{Copied, copied}
-use Rattle.cache_undo.specs.cache_copy.Contracts.{copied_maps, copied_counts, copied_firsts}
+use Rattle.cache_undo.specs.cache_copy.Effects.{copied_maps, copied_counts, copied_firsts}
 use Rattle.cache_undo.proofs.cache_copy.BringLaws.{lists_asked, cache_brought}
 use Rattle.cache_undo.proofs.cache_copy.bring.Statement.{statement}
 use Rattle.cache_undo.proofs.cache_copy.bring.Tie as tie

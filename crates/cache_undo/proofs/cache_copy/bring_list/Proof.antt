@@ -5,7 +5,7 @@ use mathlib.Core.Path.{◌≡◌, refl, subst}
 use native.Mathlib.Omega.{arith}
 use borrow.Author.Rules.{rules}
 use Rattle.work_layout.specs.Rows.{further}
-use Rattle.cache_undo.specs.cache_copy.Contracts.{ListBrought}
+use Rattle.cache_undo.specs.cache_copy.Effects.{ListBrought}
 use Rattle.cache_undo.proofs.cache_copy.BringLaws.{list_brought_none, list_brought_more}
 use Rattle.cache_undo.proofs.cache_copy.bring_list.Statement.{statement}
 use Rattle.cache_undo.proofs.cache_copy.bring_list.Tie as tie

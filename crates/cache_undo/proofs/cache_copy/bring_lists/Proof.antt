@@ -8,7 +8,7 @@ use Rattle.words.specs.Words.{at}
 use Rattle.work_layout.specs.Layout.{COUNTS}
 use Rattle.work_layout.specs.Rows.{further, all_further}
 use Rattle.work_layout.specs.Counts.{further_none, further_more, further_within}
-use Rattle.cache_undo.specs.cache_copy.Contracts.{ListsBrought}
+use Rattle.cache_undo.specs.cache_copy.Effects.{ListsBrought}
 use Rattle.cache_undo.proofs.cache_copy.BringLaws.{lists_brought_none, lists_brought_more}
 use Rattle.cache_undo.proofs.cache_copy.bring_lists.Statement.{statement}
 use Rattle.cache_undo.proofs.cache_copy.bring_lists.Tie as tie

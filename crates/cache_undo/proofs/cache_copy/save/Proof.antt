@@ -7,7 +7,7 @@ use borrow.Author.Rules.{rules}
 use Rattle.words.specs.Words.{at}
 use Rattle.work_layout.specs.Layout.{MAPS, USED, COUNTS, PARENTS}
 use Rattle.words.proofs.Copies.{Copied, copied}
-use Rattle.cache_undo.specs.cache_copy.Contracts.{copied_used, copied_maps, copied_counts, copied_firsts}
+use Rattle.cache_undo.specs.cache_copy.Effects.{copied_used, copied_maps, copied_counts, copied_firsts}
 use Rattle.cache_undo.proofs.cache_copy.SaveLaws.{lists_asked, cache_saved}
 use Rattle.cache_undo.proofs.cache_copy.save.Statement.{statement}
 use Rattle.cache_undo.proofs.cache_copy.save.Tie as tie

@@ -5,7 +5,7 @@ use mathlib.Core.Path.{◌≡◌, subst}
 use native.Mathlib.Omega.{arith}
 use borrow.Author.Rules.{rules}
 use Rattle.work_layout.specs.Rows.{further}
-use Rattle.cache_undo.specs.cache_copy.Contracts.{ListSaved}
+use Rattle.cache_undo.specs.cache_copy.Effects.{ListSaved}
 use Rattle.cache_undo.proofs.cache_copy.SaveLaws.{list_saved_none, list_saved_more}
 use Rattle.cache_undo.proofs.cache_copy.save_list.Statement.{statement}
 use Rattle.cache_undo.proofs.cache_copy.save_list.Tie as tie

@@ -8,7 +8,7 @@ use Rattle.words.specs.Words.{at}
 use Rattle.work_layout.specs.Layout.{COUNTS}
 use Rattle.work_layout.specs.Rows.{further, all_further}
 use Rattle.work_layout.specs.Counts.{further_none, further_more, further_within}
-use Rattle.cache_undo.specs.cache_copy.Contracts.{ListsSaved}
+use Rattle.cache_undo.specs.cache_copy.Effects.{ListsSaved}
 use Rattle.cache_undo.proofs.cache_copy.SaveLaws.{lists_saved_none, lists_saved_more}
 use Rattle.cache_undo.proofs.cache_copy.save_lists.Statement.{statement}
 use Rattle.cache_undo.proofs.cache_copy.save_lists.Tie as tie

@@ -3,7 +3,7 @@
 use native.Mathlib.Omega.{arith}
 use borrow.Author.Rules.{rules}
 use Rattle.work_layout.specs.Layout.{OPEN, STACK, WRITTEN}
-use Rattle.cache_undo.specs.undo_state.Contracts.{copied_open, copied_stack, copied_marks}
+use Rattle.cache_undo.specs.undo_state.Effects.{copied_open, copied_stack, copied_marks}
 use Rattle.words.proofs.Copies.{copied}
 use Rattle.cache_undo.proofs.undo_state.Saving.{saved}
 use Rattle.cache_undo.proofs.undo_state.save.Statement.{statement}

@@ -2,7 +2,7 @@
 -- Assumes nothing.
 use mathlib.Core.Path.{sym, ap, ◌∙◌}
 use borrow.Author.Rules.{rules}
-use Rattle.cache_entries.specs.table.Contracts.{option_of}
+use Rattle.cache_entries.specs.table.Effects.{option_of}
 use Rattle.cache_update.proofs.enter_node.Interning.{found_interned, new_interned}
 use Rattle.cache_update.proofs.enter_node.find_or_add.Statement.{statement}
 use Rattle.cache_update.proofs.enter_node.find_or_add.Tie as tie

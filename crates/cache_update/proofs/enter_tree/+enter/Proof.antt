@@ -12,8 +12,8 @@ use Rattle.allocator.specs.Handle.{node_of, pair}
 use Rattle.work_layout.specs.Layout.{PAIR_COUNT, SENTINEL, MAPS, USED, ENTRIES}
 use Rattle.allocator.proofs.NodePtr.index.Reads as index_Reads
 use Rattle.allocator.proofs.NodePtr.is_atom.Reads as is_atom_reads
-use Rattle.cache_entries.specs.Contracts.{span}
-use Rattle.cache_entries.specs.table.Contracts.{option_of}
+use Rattle.cache_entries.specs.Effects.{span}
+use Rattle.cache_entries.specs.table.Effects.{option_of}
 use Rattle.cache_entries.proofs.table.Rows.{word_none}
 use Rattle.cache_entries.proofs.Entering.{NewPair, pair_low, sentinel_entered, atom_entered, span_a, span_b, span_h, left_asks, right_asks, join_asks, pair_entered}
 use Rattle.cache_entries.proofs.Entering.{test_same, test_other, test_pair, known_entered, room_one}

@@ -5,7 +5,7 @@ use mathlib.Core.Bool.{Bool}
 use lib.ListN.{set}
 use borrow.Author.Rules.{rules}
 use Rattle.work_layout.specs.Layout.{SENTINEL_ENTRY}
-use Rattle.session_steps.specs.undo_step.Contracts.{Brings, CacheBack}
+use Rattle.session_steps.specs.undo_step.Effects.{Brings, CacheBack}
 use Rattle.session_steps.proofs.undo_step.bring_cache.Statement.{statement}
 use Rattle.session_steps.proofs.undo_step.bring_cache.Tie as tie
 

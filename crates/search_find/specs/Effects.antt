@@ -15,7 +15,7 @@ use Rattle.search_find.specs.declared.find_path.Path.{Path}
 use Rattle.search_find.specs.declared.find_path.Path.TheVariants.{At, NoPath}
 use Rattle.search_list.specs.State.{path_at, Readable}
 use Rattle.search_list.specs.Steps.{Kept}
-use Rattle.cache_stack.specs.marks.Contracts.{marked_at}
+use Rattle.cache_stack.specs.marks.Effects.{marked_at}
 use Rattle.cache_entries.specs.Meaning.{Tables, Holds}
 
 -- n is the length of entry e, 0 where there is no such entry.

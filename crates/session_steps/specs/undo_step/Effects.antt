@@ -3,10 +3,10 @@ use Rattle.std.specs.Prelude.{ℕ, ◌+◌, ◌≤◌, ◌<◌, ◌≡◌, Bool,
 use Rattle.words.specs.Words.{at, WORK}
 use Rattle.session_state.specs.declared.checkpoints.Checkpoint.{Checkpoint}
 use Rattle.work_layout.specs.Layout.{SENTINEL_ENTRY, ENTRIES, DEPTH}
-use Rattle.cache_stack.specs.Contracts.{Stacked}
-use Rattle.cache_undo.specs.undo_state.Contracts.{copied_stack}
-use Rattle.cache_undo.specs.Contracts.{Restored}
-use Rattle.cache_undo.specs.cache_copy.Contracts.{Bringable, CacheBrought}
+use Rattle.cache_stack.specs.Effects.{Stacked}
+use Rattle.cache_undo.specs.undo_state.Effects.{copied_stack}
+use Rattle.cache_undo.specs.Effects.{Restored}
+use Rattle.cache_undo.specs.cache_copy.Effects.{Bringable, CacheBrought}
 use Rattle.session_state.specs.Stored.{with_entry}
 
 -- What a forget asks of copy n: it has the cache of some words v.

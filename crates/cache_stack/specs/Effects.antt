@@ -3,7 +3,7 @@ use Rattle.std.specs.Prelude.{ℕ, ◌+◌, ◌-◌, ◌≤◌, ◌<◌, ◌≡�
 use Rattle.words.specs.Words.{at}
 use Rattle.work_layout.specs.Layout.{STACK, BELOW, TOPS, WRITTEN, MOVED, ENTRIES, DEPTH}
 use Rattle.work_layout.specs.Rows.{prev, stack_of}
-use Rattle.cache_stack.specs.marks.Contracts.{marked_at}
+use Rattle.cache_stack.specs.marks.Effects.{marked_at}
 
 -- ---- the stack
 

@@ -2,8 +2,8 @@
 use Rattle.std.specs.Prelude.{ℕ, ◌+◌, ◌≤◌, ◌<◌, ◌≡◌, List}
 use Rattle.words.specs.Words.{at}
 use Rattle.work_layout.specs.Layout.{OPEN, STACK, WRITTEN, MOVED}
-use Rattle.cache_stack.specs.Contracts.{Stacked, StackOnly}
-use Rattle.cache_undo.specs.undo_state.Contracts.{copied_open, copied_stack, copied_marks}
+use Rattle.cache_stack.specs.Effects.{Stacked, StackOnly}
+use Rattle.cache_undo.specs.undo_state.Effects.{copied_open, copied_stack, copied_marks}
 
 -- All entries go.
 pub record PoppedAll (w w' : List ℕ) : Type 0 where

@@ -15,14 +15,14 @@ use Rattle.spec_session.specs.Steps.{room_in}
 use Rattle.spec_session.specs.FindPath.{find_in}
 use Rattle.work_layout.specs.Layout.{PAIR_COUNT, SENTINEL}
 use Rattle.search_find.specs.declared.find_path.Path.{Path}
-use Rattle.cache_stack.specs.Contracts.{PushedMarked, PoppedTwo}
+use Rattle.cache_stack.specs.Effects.{PushedMarked, PoppedTwo}
 use Rattle.write_counts.specs.declared.Counts.{Counts}
 use Rattle.write_item.specs.declared.Put.{Put}
 use Rattle.write_item.specs.declared.Put.TheVariants as put_variants
 use Rattle.write_item.specs.Answers.{ItemPut}
 use Rattle.cache_entries.specs.Meaning.{bytes_named, Tables, Names}
-use Rattle.cache_entries.specs.lookup.Contracts.{PairEntry, EntryOf}
-use Rattle.search_find.specs.Contracts.{LengthOf, Ready, FindsIn}
+use Rattle.cache_entries.specs.lookup.Effects.{PairEntry, EntryOf}
+use Rattle.search_find.specs.Effects.{LengthOf, Ready, FindsIn}
 use Rattle.write_place.specs.declared.Place.{Place}
 use Rattle.write_loop.specs.declared.write_turn.Next.{Next}
 use Rattle.write_loop.specs.declared.write_turn.Next.TheVariants.{Parse, Close, Done, Stopped, Refused}

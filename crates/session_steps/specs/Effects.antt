@@ -6,12 +6,12 @@ use Rattle.file_parts.specs.declared.session_file.NextStep.{NextStep}
 use Rattle.file_parts.specs.declared.session_file.NextStep.TheVariants as next_step
 use Rattle.work_layout.specs.Layout.{PAIR_COUNT, USED, ENTRIES}
 use Rattle.work_layout.specs.Rows.{all_counts}
-use Rattle.cache_undo.specs.undo_state.Contracts.{Saved}
-use Rattle.cache_undo.specs.cache_copy.Contracts.{CacheCopied}
+use Rattle.cache_undo.specs.undo_state.Effects.{Saved}
+use Rattle.cache_undo.specs.cache_copy.Effects.{CacheCopied}
 use Rattle.cache_entries.specs.Meaning.{Names, unmapped}
-use Rattle.cache_entries.specs.Contracts.{Updated}
+use Rattle.cache_entries.specs.Effects.{Updated}
 use Rattle.write_place.specs.State.{AtomPlaces, Running}
-use Rattle.write_loop.specs.Contracts.{Turns, ended}
+use Rattle.write_loop.specs.Effects.{Turns, ended}
 use Rattle.write_loop.specs.declared.write_turn.Next.TheVariants as next
 use Rattle.write_place.specs.declared.Place.{Place}
 use Rattle.write_place.specs.declared.Outcome.{Outcome}
