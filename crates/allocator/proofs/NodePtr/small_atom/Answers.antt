@@ -1,0 +1,9 @@
+-- `NodePtr::small_atom` meets its contract. A small atom's handle is the definition's.
+-- Assumes nothing.
+use native.Mathlib.Omega.{arith}
+use Rattle.allocator.specs.Handle.{handle_of}
+use Rattle.allocator.proofs.NodePtr.small_atom.Goals as goal
+
+pub returns : goal.returns
+unfolding handle_of
+returns c = omega (arith, c.new.ensures)

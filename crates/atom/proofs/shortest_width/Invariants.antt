@@ -1,0 +1,14 @@
+-- `atom::shortest_width` meets its contract. The invariant: no width below `w` holds the size.
+-- Assumes nothing.
+use Prim.Native.Nat.{◌≤◌, ◌-◌}
+use mathlib.Core.Path.{◌≡◌, refl, ◌∙◌}
+use native.Mathlib.Omega.{arith}
+use Rattle.atom.specs.Prefix.{first_width, width}
+use Rattle.atom.specs.PrefixLaws.{least_next, width_here, width_on}
+use Rattle.atom.proofs.shortest_width.Given as goal
+
+abbrev pub invariant-loop-w : goal.invariant-loop-w
+invariant-loop-w l = (1 ≤ l.w) × (l.w ≤ 5) × (width l.size ≡ first_width (6 - l.w) l.w l.size)
+
+abbrev pub decreases-loop-w : goal.decreases-loop-w
+decreases-loop-w l = 5 - l.w

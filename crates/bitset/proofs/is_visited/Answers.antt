@@ -1,0 +1,11 @@
+-- `bitset::is_visited` meets its contract: the bit that it tests is the number's.
+-- Assumes nothing.
+use mathlib.Core.Path.{sym}
+use Rattle.bitset.specs.BitSetLaws.{bits_of_at}
+use borrow.Author.Rules.{rules}
+use Rattle.bitset.proofs.is_visited.Goals as goal
+
+pub returns : goal.returns
+returns c =
+    let o = c in
+    sym (bits_of_at o.args.bits.now o.args.idx o.requires)

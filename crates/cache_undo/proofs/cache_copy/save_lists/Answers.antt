@@ -1,0 +1,77 @@
+-- `cache_undo::cache_copy::save_lists` meets its contract. The invariant: the further words of the first e entries are saved, and those of the next one
+-- go to `next`. The measure is what is left.
+-- Assumes nothing.
+use Prim.Native.Nat.{ℕ, ◌+◌, ◌-◌, ◌≤◌, ◌<◌}
+use mathlib.Core.Path.{◌≡◌, subst, ap, ◌∙◌}
+use native.Mathlib.Omega.{arith}
+use Rattle.words.specs.Words.{at}
+use Rattle.work_layout.specs.Layout.{COUNTS}
+use Rattle.work_layout.specs.Rows.{further, all_further}
+use Rattle.work_layout.specs.Counts.{further_none, further_more, further_within}
+use Rattle.cache_undo.specs.cache_copy.Effects.{ListsSaved}
+use Rattle.cache_undo.proofs.cache_copy.SaveLaws.{lists_saved_none, lists_saved_more}
+use Rattle.cache_undo.proofs.cache_copy.save_lists.Goals as goal
+
+pub loop-e-init : goal.loop-e-init
+loop-e-init c =
+    let s = c.before in
+    let w = s.args.work.now in
+    (omega arith, omega (arith, further_none w), lists_saved_none w s.args.to)
+
+-- The count of the next entry is as it was.
+count-still : (l : goal.At-loop-e) →
+    let s = l.before.before in
+    l.loop-e.e < s.args.n → at l.loop-e.work (COUNTS + l.loop-e.e) ≡ at s.args.work.now (COUNTS + l.loop-e.e)
+count-still l h = let s = l.before.before in l.loop-e.invariant.2.low (COUNTS + l.loop-e.e) (omega (arith, s.requires.1, s.requires.3))
+
+pub overflow_cast-entry : goal.overflow_cast-entry
+overflow_cast-entry c = let s = c.before.before.before in omega (arith, s.requires.1)
+
+pub count_of-count-requires : goal.count_of-count-requires
+count_of-count-requires c =
+    let l = c.before.before in
+    let s = l.before.before in
+    let h : l.loop-e.e < s.args.n = omega arith in
+    (omega (arith, s.requires.0, l.loop-e.invariant.2.len), omega (arith, s.requires.1), omega (arith, s.requires.2 l.loop-e.e h, count-still l h))
+
+pub save_list-next-requires : goal.save_list-next-requires
+save_list-next-requires c =
+    let n = c.before in
+    let l = n.before.before.before in
+    let s = l.before.before in
+    let w = s.args.work.now in
+    let h : l.loop-e.e < s.args.n = omega arith in
+    let k = ap further (n.count_of-count.ensures.0 ∙ count-still l h) in
+    let m = further_within w s.args.n l.loop-e.e h in
+    let q = l.loop-e.invariant.1 in (
+      omega (arith, s.requires.0, l.loop-e.invariant.2.len),
+      omega (arith, s.requires.1),
+      omega (arith, n.count_of-count.ensures.1),
+      omega (arith, s.requires.3, q),
+      omega (arith, s.requires.4, q, k, m),
+    )
+
+pub loop-e-preserved : goal.loop-e-preserved
+loop-e-preserved c =
+    let m = c.before.before in
+    let n = m.before.before in
+    let l = n.before.before.before in
+    let s = l.before.before in
+    let w = s.args.work.now in
+    let h : l.loop-e.e < s.args.n = omega arith in
+    let k = ap further (n.count_of-count.ensures.0 ∙ count-still l h) in (
+      omega arith,
+      omega (arith, m.save_list-next.ensures.0, l.loop-e.invariant.1, k, further_more w l.loop-e.e),
+      lists_saved_more w l.loop-e.work _ l.loop-e.e (further n.count_of-count.result) s.args.to l.loop-e.next (omega (arith, s.requires.1)) k (omega (arith, n.count_of-count.ensures.1))
+          s.requires.3 l.loop-e.invariant.1 l.loop-e.invariant.2 m.save_list-next.ensures.1,
+    )
+
+pub shape_of-work : goal.shape_of-work
+shape_of-work c = c.before.loop-e.invariant.2.len
+
+pub returns : goal.returns
+returns c =
+    let l = c.before in
+    let s = l.before.before in
+    let done : l.loop-e.e ≡ s.args.n = omega arith in
+    subst (λ (x : ℕ). ListsSaved s.args.work.now l.loop-e.work x s.args.to) done l.loop-e.invariant.2

@@ -1,0 +1,10 @@
+-- `cache_update::enter_node::enter_atom` meets its contract: the words of the key are found where the key is.
+-- Assumes nothing.
+use borrow.Author.Rules.{rules}
+use Rattle.cache_entries.proofs.Finding.{atom_made}
+use Rattle.cache_update.proofs.enter_node.enter_atom.Goals as goal
+
+pub returns : goal.returns
+returns c =
+    let keyed = c in
+    atom_made keyed.requires.0.0 keyed.atom_key-key.ensures c.atom_length-len.ensures c.find_or_add.ensures

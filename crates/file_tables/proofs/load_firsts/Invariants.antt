@@ -1,0 +1,11 @@
+-- `load_firsts` meets its contract. The invariant: the tables of the atoms before `i` are loaded.
+-- Assumes nothing.
+use Rattle.std.proofs.Common.{◌≡◌, ◌-◌, ◌≤◌, length, refl, ◌∙◌, arith}
+use Rattle.file_tables.proofs.Turns.{Progress, none_yet, load_asks, inside_asks, load_more, all_loaded}
+use Rattle.file_tables.proofs.load_firsts.Given as goal
+
+abbrev pub invariant-loop-i : goal.invariant-loop-i
+invariant-loop-i l = (l.i ≤ l.count) × (length l.work ≡ length l.initial.work) × Progress l.file l.initial.work l.work l.i
+
+abbrev pub decreases-loop-i : goal.decreases-loop-i
+decreases-loop-i l = l.count - l.i

@@ -1,0 +1,11 @@
+-- `leaves::records` is safe and ends. The measure is the length of the rest: a record that is not bad takes some of it.
+-- Assumes nothing.
+use lib.ListN.{length}
+use borrow.Author.Rules.{rules}
+use Rattle.leaves.proofs.records.Given as goal
+
+abbrev pub invariant-loop-rest : goal.invariant-loop-rest
+invariant-loop-rest l = Unit {0}
+
+abbrev pub decreases-loop-rest : goal.decreases-loop-rest
+decreases-loop-rest l = length l.rest

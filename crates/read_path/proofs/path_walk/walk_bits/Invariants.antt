@@ -1,0 +1,24 @@
+-- `read_path::path_walk::walk_bits` meets its contract. The loop's invariant: the whole walk is the walk from the node by the bits that are left.
+-- Assumes nothing.
+use Prim.Native.Nat.{◌≤◌, ◌-◌}
+use mathlib.Core.Path.{◌≡◌, refl, sym, ◌∙◌}
+use mathlib.Core.Bool.{Bool}
+use mathlib.Core.List.{List}
+use mathlib.Core.Option.{some}
+use native.Mathlib.Omega.{arith}
+use borrow.Author.Rules.{rules}
+use borrow.Author.Tests.{not-true, not-false}
+use lib.ListN.{length}
+use Rattle.path.specs.Bytes.{read_path}
+use Rattle.allocator.specs.Handle.{node_of}
+use Rattle.read_path.specs.Answers.{Reachable}
+use Rattle.read_path.proofs.path_walk.Walking.{pair_within, Onward, onward_end, onward_atom, onward_next, reachable_next}
+use Rattle.read_path.proofs.path_walk.walk_bits.Given as goal
+
+abbrev pub invariant-loop-i : goal.invariant-loop-i
+invariant-loop-i l =
+    (l.i ≤ l.count) × Reachable l.pairs l.used l.node.0
+    × ((bits : List Bool) → read_path l.path ≡ some bits → l.count ≡ length bits → Onward l.pairs l.used bits l.from l.initial.node.0 l.i l.node.0)
+
+abbrev pub decreases-loop-i : goal.decreases-loop-i
+decreases-loop-i l = l.count - l.i

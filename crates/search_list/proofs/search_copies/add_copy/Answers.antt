@@ -1,0 +1,46 @@
+-- `search_list::search_copies::add_copy` meets its contract: the list is as it was where the parent is seen, and has one path more otherwise.
+-- Assumes nothing.
+use Rattle.search_list.proofs.Copies.{copy_seen, copy_new}
+use Rattle.search_list.specs.State.{seen_at}
+use Prim.Native.Nat.{◌*◌, ◌/◌, ◌<◌}
+use Rattle.words.specs.Words.{at}
+use Rattle.work_layout.specs.Layout.{USED}
+use mathlib.Core.Path.{◌≡◌, ap, sym, ◌∙◌}
+use native.Mathlib.Omega.{arith}
+use borrow.Author.Rules.{rules}
+use Rattle.search_list.proofs.search_copies.add_copy.Goals as goal
+
+-- The parent is an entry in use.
+low : (x : goal.After-parent_at-p) → x.parent_at-p.result.0 < 2 * at x.before.before.before.args.work.now USED
+low x =
+    let s = x.before.before.before in
+    omega (arith, x.parent_at-p.ensures, s.requires.0.0.links s.args.e.0 s.args.i s.requires.1.0 s.requires.1.1)
+
+-- Whether it is seen.
+seen : (x : goal.After-is_seen) → x.is_seen.result ≡ seen_at x.before.before.before.before.before.before.args.work.now (x.before.before.before.parent_at-p.result.0 / 2)
+seen x = x.is_seen.ensures ∙ ap (seen_at x.before.before.before.before.before.before.args.work.now) x.before.entry.ensures
+
+pub parent_at-p-requires : goal.parent_at-p-requires
+parent_at-p-requires c =
+    let s = c.before.before in
+    (s.requires.0.0.long, s.requires.1.0, omega (arith, s.requires.0.0.counts s.args.e.0 s.requires.1.0))
+
+pub is_seen-requires : goal.is_seen-requires
+is_seen-requires c =
+    let s = c.before.before.before.before.before in
+    (s.requires.0.0.long, omega (arith, c.entry.ensures, low c.before.before, s.requires.0.0.used))
+
+pub returns-then-is_seen : goal.returns-then-is_seen
+returns-then-is_seen c =
+    let v = c.before.before.before.before in
+    let s = v.before.before.before in
+    copy_seen s.args.work.now s.args.nodes s.args.paths s.requires.0.1 s.requires.0.2 s.requires.0.0 v.parent_at-p.result.0 _ v.parent_at-p.ensures (low v)
+    (sym c.if-is_seen.true ∙ seen c.before)
+
+pub returns : goal.returns
+returns c =
+    let p = c.before.before.put_at_entry in
+    let v = c.before.before.before.before.before.before.before.before in
+    let s = v.before.before.before in
+    copy_new s.args.work.now s.args.nodes s.args.paths s.requires.0.1 s.requires.0.2 s.requires.0.0 p.new.0 v.parent_at-p.result.0 _
+    v.parent_at-p.ensures (low v) s.requires.1.2 (sym c.before.before.before.before.if-is_seen.false ∙ seen c.before.before.before.before.before) p.ensures

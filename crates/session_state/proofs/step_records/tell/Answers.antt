@@ -1,0 +1,37 @@
+-- `session_state::step_records::tell` writes the three words of a finished step, one after the other.
+-- Assumes nothing.
+use Prim.Native.Nat.{ℕ, suc, ◌+◌, ◌≤◌}
+use mathlib.Core.List.{List, [], ◌∷◌}
+use mathlib.Core.Path.{◌≡◌, ap, ◌∙◌}
+use native.Mathlib.Omega.{arith}
+use lib.ListN.{length, set, length-set}
+use lib.Seq.{paste, sets-eq}
+use borrow.Author.Rules.{rules}
+use Rattle.session_state.proofs.step_records.tell.Goals as goal
+
+stored : (l : List ℕ) (i a b c : ℕ) → i + 3 ≤ length l → set (set (set l i a) (i + 1) b) (i + 2) c ≡ paste l i (a ∷ b ∷ c ∷ []) 3
+stored l i a b c h =
+    let one : i + 1 ≡ suc i = omega arith in
+    let two : i + 2 ≡ suc (suc i) = omega arith in
+    (λ j. set (set (set l i a) (one j) b) (two j) c) ∙ sets-eq (a ∷ b ∷ c ∷ []) l i h
+
+pub bounds-words-at-2 : goal.bounds-words-at-2
+bounds-words-at-2 c =
+    let a = c.args in
+    omega (arith, length-set a.words.now a.at c.word_of.result)
+
+pub bounds-words-at-3 : goal.bounds-words-at-3
+bounds-words-at-3 c =
+    let a = c.args in
+    omega (
+      arith,
+      length-set (set a.words.now a.at c.word_of.result) (a.at + 1) a.counts.references,
+      length-set a.words.now a.at c.word_of.result,
+    )
+
+pub returns : goal.returns
+returns c =
+    let s = c in
+    let a = s.args in
+    ap (λ (v : ℕ). set (set (set a.words.now a.at v) (a.at + 1) a.counts.references) (a.at + 2) a.counts.prefix_bytes) c.word_of.ensures
+    ∙ stored a.words.now a.at _ a.counts.references a.counts.prefix_bytes s.requires.0

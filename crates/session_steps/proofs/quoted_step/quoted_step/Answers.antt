@@ -1,0 +1,70 @@
+-- `session_steps::quoted_step::quoted_step` meets its contract: the quote is taken, or dropped before any other step.
+-- Assumes nothing.
+use Prim.Native.Nat.{ℕ}
+use mathlib.Core.Path.{◌≡◌, subst}
+use mathlib.Core.List.{List, [], ◌∷◌}
+use mathlib.Core.Logic.{◌≢◌, inl, inr}
+use native.Mathlib.Omega.{arith}
+use types.Run.{OneOf}
+use denote.Enum.Declared.{tag_of}
+use borrow.Author.Rules.{rules}
+use Rattle.words.specs.Choice.{clash}
+use Rattle.spec_session.specs.File.{Step, take_quote}
+use Rattle.spec_session.specs.Premises.{IfAny}
+use Rattle.spec_session.specs.Trees.{nth}
+use Rattle.spec_session.specs.Places.{StepsAt}
+use Rattle.file_parts.specs.Loaded.{FirstStep}
+use Rattle.file_parts.specs.declared.session_file.NextStep.{NextStep}
+use Rattle.file_parts.specs.declared.session_file.NextStep.TheVariants as next_step
+use Rattle.file_parts.specs.contracts.session_file.NextStep as next_kind
+use Rattle.session_state.specs.Steps.{Comes}
+use Rattle.session_steps.proofs.quoted_step.Answers as answers
+use Rattle.session_steps.proofs.quoted_step.quoted_step.Goals as goal
+
+abbrev to_start : goal.After-next_step → goal.Start
+to_start x = x.before.before.before.before.before
+
+-- The next step is what the file says.
+comes : (x : goal.After-next_step) (r : NextStep) → x.next_step.result ≡ r → let a = (to_start x).args in Comes a.file.now a.p.at r
+comes x r e ss st = subst (λ (y : NextStep). FirstStep (to_start x).args.file.now ss y) e (x.next_step.ensures.0 ss st)
+
+-- The number of a taking is none of the others'.
+none_of : OneOf (0 ∷ 1 ∷ 2 ∷ 3 ∷ 5 ∷ []) 4 → ⊥
+none_of (inl e) = omega (arith, e)
+none_of (inr (inl e)) = omega (arith, e)
+none_of (inr (inr (inl e))) = omega (arith, e)
+none_of (inr (inr (inr (inl e)))) = omega (arith, e)
+none_of (inr (inr (inr (inr e)))) = omega (arith, e)
+
+-- It is any but a taking.
+no-taking : (r : NextStep) → OneOf (0 ∷ 1 ∷ 2 ∷ 3 ∷ 5 ∷ []) (tag_of next_kind.the_type r) → (input : List ℕ) (ss : List Step) → FirstStep input ss r → IfAny (λ x. x ≢ take_quote) (nth ss 0)
+no-taking (next_step.Add node next) k input ss h = rw h.1 (λ q. clash cc)
+no-taking (next_step.Restore number next) k input ss h = rw h.1 (λ q. clash cc)
+no-taking (next_step.Forget number next) k input ss h = rw h.1 (λ q. clash cc)
+no-taking (next_step.Quote node next) k input ss h = rw h.1 (λ q. clash cc)
+no-taking (next_step.Take next) k input ss h = absurd (none_of k)
+no-taking next_step.End k input ss h = rw h tt
+
+other : (x : goal.In_default) → let a = (to_start x.before).args in (ss : List Step) → StepsAt a.file.now a.p.at ss → IfAny (λ x. x ≢ take_quote) (nth ss 0)
+other x ss st = let n = x.before.next_step in no-taking n.result x.in-Take.keys2 (to_start x.before).args.file.now ss (n.ensures.0 ss st)
+
+pub take_quote-requires : goal.take_quote-requires
+take_quote-requires c =
+    let s = to_start c.before.before.before.before in
+    answers.take-asks s.pre.0 s.pre.1 _ (comes c.before.before.before.before _ c.before.before.in-Take.is)
+
+pub drop_quote-requires : goal.drop_quote-requires
+drop_quote-requires c = let s = to_start c.before.before in answers.drop-asks s.pre.0 s.pre.1 (other c.before)
+
+pub returns-in-Take : goal.returns-in-Take
+returns-in-Take c =
+    let t = c.before.before in
+    let read = t.before.before.before.before.before in
+    let s = to_start read in
+    answers.takes-on s.pre.0 s.pre.1 _ (comes read _ t.before.before.before.in-Take.is) t.take_quote.ensures.0 t.take_quote.ensures.1
+
+pub returns-in_default : goal.returns-in_default
+returns-in_default c =
+    let d = c.before.before in
+    let s = to_start d.before.before.before in
+    answers.drops-on s.pre.0 s.pre.1 (other d.before.before) d.drop_quote.auto.work d.drop_quote.ensures.0 d.drop_quote.ensures.1

@@ -1,0 +1,14 @@
+-- `parent_at` meets its contract: the half that is read is that parent's.
+-- Assumes nothing.
+use Rattle.std.proofs.Common.{ℕ, ◌%◌, ap, ◌∙◌, rules}
+use Rattle.words.specs.Words.{at}
+use Rattle.work_layout.specs.Halves.{half}
+use Rattle.work_layout.specs.Rows.{link_at}
+use Rattle.work_layout.proofs.parents.parent_at.Goals as goal
+
+pub returns : goal.returns
+unfolding link_at
+returns c =
+    let k = c in
+    let a = k.args in
+    c.half_at.ensures ∙ ap (λ (x : ℕ). half (a.i % 2) (at a.work.now x)) k.word_of.ensures

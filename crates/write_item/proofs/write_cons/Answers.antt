@@ -1,0 +1,37 @@
+-- `write_item::write_cons` meets its contract.
+-- Assumes nothing.
+use Prim.Native.Nat.{◌+◌, ◌≤◌}
+use mathlib.Core.List.{[], ◌∷◌}
+use mathlib.Core.Path.{refl, sym}
+use native.Mathlib.Omega.{arith}
+use lib.ListN.{length}
+use borrow.Author.Rules.{rules}
+use Rattle.atom.specs.WriteLaws.{put_full}
+use Rattle.spec_session.specs.Items.{cons_item}
+use Rattle.write_item.proofs.Puts.{no_room, has_room, put_byte}
+use Rattle.write_item.proofs.Counting.{put_counted}
+use Rattle.write_item.proofs.write_cons.Goals as goal
+
+-- There is room for the byte, after the test.
+room : (x : goal.Else-not-fits) → x.before.before.before.args.counts.size + 1 ≤ length x.before.before.before.args.output.now
+room x = has_room (length x.before.before.before.args.output.now) _ _ x.before.fits2.ensures x.if-not-fits.false
+
+pub returns-then-not-fits : goal.returns-then-not-fits
+returns-then-not-fits c =
+    let a = c.before.before.before.args in
+    let n = a.counts.size in
+    record {
+      bytes = sym (put_full a.output.now n (0xff ∷ []) (no_room (length a.output.now) (n + 1) _ c.before.fits2.ensures c.if-not-fits.true));
+      counted = tt;
+    }
+
+pub bounds-output-size : goal.bounds-output-size
+bounds-output-size c = omega (arith, room c)
+
+pub overflow_add-size : goal.overflow_add-size
+overflow_add-size c = record { fits = omega (arith, room c) }
+
+pub returns : goal.returns
+returns c =
+    let a = c.before.before.before.before.args in
+    put_counted a.output.now _ a.counts cons_item _ 0 (put_byte a.output.now a.counts.size 0xff (omega (arith, room c.before))) refl _ c.with_cons.ensures

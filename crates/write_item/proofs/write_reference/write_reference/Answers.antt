@@ -1,0 +1,61 @@
+-- `write_item::write_reference::write_reference` meets its contract.
+-- Assumes nothing.
+use Prim.Native.Nat.{ℕ, ◌+◌, ◌/◌}
+use mathlib.Core.Path.{ap, ◌∙◌}
+use native.Mathlib.Omega.{arith}
+use lib.ListN.{length}
+use borrow.Author.Rules.{rules}
+use Rattle.search_list.specs.State.{path_at}
+use Rattle.spec_session.specs.Items.{width_or_0, reference_item}
+use Rattle.write_item.proofs.Puts.{no_room, has_room}
+use Rattle.write_item.proofs.Counting.{put_counted}
+use Rattle.write_item.proofs.write_reference.References.{reference_full, reference_next}
+use Rattle.write_item.proofs.write_reference.write_reference.Goals as goal
+
+pub returns-then-not-fits : goal.returns-then-not-fits
+returns-then-not-fits c =
+    let w = c in
+    let b = w.path_bits-bits in
+    let a = w.args in
+    λ path e.
+    record {
+      bytes =
+          reference_full a.output-1.now a.counts.size b.result w.path_width-width.result (path_at a.work.now a.slot) path e b.ensures.0
+          w.path_width-width.ensures.1 (no_room _ _ _ c.fits2.ensures c.if-not-fits.true);
+      counted = tt;
+    }
+
+pub put_reference-requires : goal.put_reference-requires
+put_reference-requires c =
+    let w = c in
+    let b = w.path_bits-bits.ensures in
+    let s = w in (
+      (s.requires.0, s.requires.1, ap (λ (k : ℕ). (k + 7) / 8) b.0, omega (arith, b.1)),
+      (w.path_width-width.ensures.0, has_room _ _ _ c.fits2.ensures c.if-not-fits.false),
+    )
+
+pub overflow_add-size : goal.overflow_add-size
+overflow_add-size c =
+    let t = c in
+    let w = t in
+    let a = w.args in
+    let total = 1 + (w.path_width-width.result + (w.path_bits-bits.result + 7) / 8) in
+    record { fits = omega (arith, has_room (length a.output-1.now) (a.counts.size + total) _ t.fits2.ensures t.if-not-fits.false) }
+
+pub with_reference-requires : goal.with_reference-requires
+with_reference-requires c =
+    let s = c in
+    (omega (arith, s.requires.3.references), omega (arith, s.requires.3.prefixes))
+
+pub returns : goal.returns
+returns c =
+    let t = c in
+    let w = t in
+    let b = w.path_bits-bits in
+    let a = w.args in
+    let r = c.put_reference in
+    λ path e.
+    put_counted a.output-1.now _ a.counts (reference_item path) _ _
+    (reference_next a.output-1.now a.counts.size b.result w.path_width-width.result (path_at a.work.now a.slot) path e b.ensures.0
+    w.path_width-width.ensures.1 r.new.1.1.0 (has_room _ _ _ t.fits2.ensures t.if-not-fits.false) r.ensures)
+    (ap width_or_0 (w.path_width-width.ensures.1 path (b.ensures.0 ∙ ap length e))) _ c.with_reference.ensures

@@ -1,0 +1,30 @@
+-- `write_loop::write_turn::write_listed` meets its contract: the part of the file that the words name, as an item.
+-- Assumes nothing.
+use Prim.Native.Nat.{ℕ, ◌-◌}
+use mathlib.Core.Path.{subst}
+use mathlib.Core.List.{List}
+use native.Mathlib.Omega.{arith}
+use Rattle.spec_session.specs.Items.{atom_item}
+use Rattle.write_item.specs.Answers.{ItemPut}
+use Rattle.write_loop.proofs.write_turn.Atoms.{part_short, part_is}
+use borrow.Author.Rules.{rules}
+use Rattle.write_loop.proofs.write_turn.write_listed.Goals as goal
+
+pub slice_bounds-write_listed-count : goal.slice_bounds-write_listed-count
+slice_bounds-write_listed-count c = let s = c in
+    omega (arith, s.requires.2.ordered s.args.i s.requires.3, s.requires.2.inside s.args.i s.requires.3, c.start_of-start.ensures, c.end_of-end.ensures)
+
+pub write_listed-requires : goal.write_listed-requires
+write_listed-requires c =
+    let start = c.start_of-start.result in
+    let s = c in
+    (s.requires.0, part_short s.args.file.now start (c.end_of-end.result - start) s.requires.2.short)
+
+pub returns : goal.returns
+returns c =
+    let e = c in
+    let b = e.start_of-start in
+    let a = e.args in
+    let put = c.write_listed in
+    subst (λ (l : List ℕ). ItemPut a.output-1.now put.new.0 a.counts (atom_item l) put.result)
+    (part_is a.file.now a.work.now a.i b.result e.end_of-end.result b.ensures e.end_of-end.ensures) put.ensures
