@@ -5,7 +5,7 @@ use Rattle.std.proofs.Common.{sym, ap, ◌∙◌, arith}
 use Rattle.std.proofs.lemmas.Bool.{false≢true}
 use Rattle.allocator.specs.declared.ObjectType.{ObjectType}
 use Rattle.allocator.specs.declared.ObjectType.TheVariants.{Pair, Bytes, SmallAtom, Unknown}
-use Rattle.allocator.specs.Handle.{Node, pair, listed-atom, small-atom, unknown, node_of_kind, node_of, kind_of, index_of, handle_of, nil, object_type_of, is_pair, is_atom}
+use Rattle.allocator.specs.Handle.{Node, pair, listed_atom, small_atom, unknown, node_of_kind, node_of, kind_of, index_of, handle_of, nil, object_type_of, is_pair, is_atom}
 
 kind_of_kind : (k i : ℕ) → kind_of (node_of_kind k i) ≡ k
 kind_of_kind zero i = refl
@@ -60,14 +60,14 @@ type_is_atom Unknown = false
 
 type_is_pair_of : (n : Node) → type_is_pair (object_type_of n) ≡ is_pair n
 type_is_pair_of (pair i) = refl
-type_is_pair_of (listed-atom i) = refl
-type_is_pair_of (small-atom v) = refl
+type_is_pair_of (listed_atom i) = refl
+type_is_pair_of (small_atom v) = refl
 type_is_pair_of (unknown k i) = refl
 
 type_is_atom_of : (n : Node) → type_is_atom (object_type_of n) ≡ is_atom n
 type_is_atom_of (pair i) = refl
-type_is_atom_of (listed-atom i) = refl
-type_is_atom_of (small-atom v) = refl
+type_is_atom_of (listed_atom i) = refl
+type_is_atom_of (small_atom v) = refl
 type_is_atom_of (unknown k i) = refl
 
 pub is_pair_by_type : (n : Node) (t u : ObjectType) → t ≡ object_type_of n → t ≡ u → type_is_pair u ≡ is_pair n
@@ -100,11 +100,11 @@ pub node_of_pair : (i : ℕ) → i < 2 ^ 26 → node_of (handle_of (pair i)) ≡
 unfolding handle_of
 node_of_pair i l = node_of_parts 0 i l
 
-pub node_of_listed_atom : (i : ℕ) → i < 2 ^ 26 → node_of (handle_of (listed-atom i)) ≡ listed-atom i
+pub node_of_listed_atom : (i : ℕ) → i < 2 ^ 26 → node_of (handle_of (listed_atom i)) ≡ listed_atom i
 unfolding handle_of
 node_of_listed_atom i l = node_of_parts 1 i l
 
-pub node_of_small_atom : (v : ℕ) → v < 2 ^ 26 → node_of (handle_of (small-atom v)) ≡ small-atom v
+pub node_of_small_atom : (v : ℕ) → v < 2 ^ 26 → node_of (handle_of (small_atom v)) ≡ small_atom v
 unfolding handle_of
 node_of_small_atom v l = node_of_parts 2 v l
 
@@ -119,8 +119,8 @@ is_pair_handle h i e = sym (handle_of_node_of h) ∙ ap handle_of e ∙ pair_han
 -- A node that is a pair is the pair of its index.
 pub pair_of_index : (n : Node) → is_pair n ≡ true → n ≡ pair (index_of n)
 pair_of_index (pair i) e = refl
-pair_of_index (listed-atom i) e = absurd (false≢true e)
-pair_of_index (small-atom v) e = absurd (false≢true e)
+pair_of_index (listed_atom i) e = absurd (false≢true e)
+pair_of_index (small_atom v) e = absurd (false≢true e)
 pair_of_index (unknown k i) e = absurd (false≢true e)
 
 pub handle_of_nil : handle_of nil ≡ 134217728

@@ -5,7 +5,7 @@ pub mod fits_in_small_atom;
 pub mod small_atom;
 
 ghost use Rattle.std.specs.Prelude.{◌≡◌, ◌+◌, ◌*◌, ◌^◌, ◌<◌, eqb};
-ghost use Rattle.allocator.specs.Handle.{node_of, handle_of, pair, listed-atom, small-atom, index_of, object_type_of, is_pair, is_atom};
+ghost use Rattle.allocator.specs.Handle.{node_of, handle_of, pair, listed_atom, small_atom, index_of, object_type_of, is_pair, is_atom};
 
 // A node's handle: a kind in bits 26 up, and 26 bits of index or small value.
 #[derive(Clone, Copy)]
@@ -50,7 +50,7 @@ impl NodePtr {
     // The handle of the listed atom `index`.
     pub fn bytes(index: u32) -> NodePtr
         requires { index < 2 ^ 26 }
-        ensures { result.0 ≡ handle_of (listed-atom index) }
+        ensures { result.0 ≡ handle_of (listed_atom index) }
     {
         NodePtr::new(1, index)
     }
@@ -58,7 +58,7 @@ impl NodePtr {
     // The handle of the small atom `value`.
     pub fn small_atom(value: u32) -> NodePtr
         requires { value < 2 ^ 26 }
-        ensures { result.0 ≡ handle_of (small-atom value) }
+        ensures { result.0 ≡ handle_of (small_atom value) }
     {
         NodePtr::new(2, value)
     }

@@ -12,7 +12,7 @@ use Rattle.words.specs.Words.{at}
 use Rattle.atom.specs.Write.{serialized_length}
 use Rattle.allocator.specs.declared.ObjectType.{ObjectType}
 use Rattle.allocator.specs.declared.ObjectType.TheVariants.{Pair, Bytes, SmallAtom, Unknown}
-use Rattle.allocator.specs.Handle.{Node, pair, listed-atom, small-atom, unknown, node_of, handle_of, index_of, is_atom, object_type_of}
+use Rattle.allocator.specs.Handle.{Node, pair, listed_atom, small_atom, unknown, node_of, handle_of, index_of, is_atom, object_type_of}
 use Rattle.allocator.specs.HandleLaws.{index_of_handle, node_of_listed_atom}
 use Rattle.allocator.specs.SmallAtom.{small_bytes}
 use Rattle.spec_session.specs.File.{named}
@@ -30,23 +30,23 @@ type_is_listed Unknown = false
 
 listed_of_type : (n : Node) → type_is_listed (object_type_of n) ≡ is_listed n
 listed_of_type (pair i) = refl
-listed_of_type (listed-atom i) = refl
-listed_of_type (small-atom v) = refl
+listed_of_type (listed_atom i) = refl
+listed_of_type (small_atom v) = refl
 listed_of_type (unknown k i) = refl
 
 pub listed_by_type : (n : Node) (t u : ObjectType) → t ≡ object_type_of n → t ≡ u → type_is_listed u ≡ is_listed n
 listed_by_type n t u e f = ap type_is_listed (sym f ∙ e) ∙ listed_of_type n
 
-pub listed_is : (n : Node) → is_listed n ≡ true → n ≡ listed-atom (index_of n)
+pub listed_is : (n : Node) → is_listed n ≡ true → n ≡ listed_atom (index_of n)
 listed_is (pair i) e = absurd (false≢true e)
-listed_is (listed-atom i) e = refl
-listed_is (small-atom v) e = absurd (false≢true e)
+listed_is (listed_atom i) e = refl
+listed_is (small_atom v) e = absurd (false≢true e)
 listed_is (unknown k i) e = absurd (false≢true e)
 
-pub small_is : (n : Node) → is_listed n ≡ false → is_atom n ≡ true → n ≡ small-atom (index_of n)
+pub small_is : (n : Node) → is_listed n ≡ false → is_atom n ≡ true → n ≡ small_atom (index_of n)
 small_is (pair i) e a = absurd (false≢true a)
-small_is (listed-atom i) e a = absurd (false≢true (sym e))
-small_is (small-atom v) e a = refl
+small_is (listed_atom i) e a = absurd (false≢true (sym e))
+small_is (small_atom v) e a = refl
 small_is (unknown k i) e a = absurd (false≢true a)
 
 pub index_low : (h : ℕ) → index_of (node_of h) < 2 ^ 26
@@ -69,7 +69,7 @@ first_found bs (a ∷ atoms) i h e = go (same a bs) refl (λ j l q. first_found 
     go false s f = later i h e s f
 
 module _ (w : List ℕ) (h : ℕ) (wh : Whole w) (n : Names w (at w PAIR_COUNT) h) (l : is_listed (node_of h) ≡ true) where
-  is_atom_i : node_of h ≡ listed-atom (index_of (node_of h))
+  is_atom_i : node_of h ≡ listed_atom (index_of (node_of h))
   is_atom_i = listed_is (node_of h) l
 
   pub listed_low : index_of (node_of h) < at w ATOM_COUNT
@@ -81,7 +81,7 @@ module _ (w : List ℕ) (h : ℕ) (wh : Whole w) (n : Names w (at w PAIR_COUNT) 
   pub first_few : at w (FIRST + index_of (node_of h)) < 2 ^ 26
   first_few = let a = listed_few in omega (arith, wh.handles.firsts (index_of (node_of h)) listed_low)
 
-  pub stands_listed : (r : ℕ) → r ≡ handle_of (listed-atom (at w (FIRST + index_of (node_of h)))) → Stands w h r
+  pub stands_listed : (r : ℕ) → r ≡ handle_of (listed_atom (at w (FIRST + index_of (node_of h)))) → Stands w h r
   stands_listed r e =
       record {
         first = subst (FirstOf w) (sym is) (first_low, wh.handles.first_first (index_of (node_of h)) listed_low);
@@ -97,7 +97,7 @@ module _ (w : List ℕ) (h : ℕ) (wh : Whole w) (n : Names w (at w PAIR_COUNT) 
       first_low : at w (FIRST + index_of (node_of h)) < at w ATOM_COUNT
       first_low = let a = listed_low in omega (arith, wh.handles.firsts (index_of (node_of h)) listed_low)
 
-      is : node_of r ≡ listed-atom (at w (FIRST + index_of (node_of h)))
+      is : node_of r ≡ listed_atom (at w (FIRST + index_of (node_of h)))
       is = ap node_of e ∙ node_of_listed_atom (at w (FIRST + index_of (node_of h))) first_few
 
   pub measured_listed : (r : ℕ) → r ≡ at w (ATOM_LENGTHS + index_of (node_of h)) → Measured w h r
@@ -111,7 +111,7 @@ module _ (w : List ℕ) (h : ℕ) (wh : Whole w) (n : Names w (at w PAIR_COUNT) 
 -- ---- a small atom
 
 module _ (w : List ℕ) (h : ℕ) (l : is_listed (node_of h) ≡ false) (a : is_atom (node_of h) ≡ true) where
-  is_small : node_of h ≡ small-atom (index_of (node_of h))
+  is_small : node_of h ≡ small_atom (index_of (node_of h))
   is_small = small_is (node_of h) l a
 
   pub stands_small : Stands w h h

@@ -11,7 +11,7 @@ use lib.ListN.{length, get_or}
 use borrow.Author.Tests.{eq-eqb, ne_eqb, eqb-true, ltb-true, lt-ltb}
 use Rattle.words.specs.Words.{at}
 use Rattle.atom.specs.Write.{serialized_length}
-use Rattle.allocator.specs.Handle.{Node, pair, listed-atom, small-atom, unknown, node_of, index_of, is_atom}
+use Rattle.allocator.specs.Handle.{Node, pair, listed_atom, small_atom, unknown, node_of, index_of, is_atom}
 use Rattle.spec_session.specs.File.{File, named}
 use Rattle.spec_session.specs.Unfold.{Unfolded, hole, leaf, node, is_sentinel, unfolded}
 use Rattle.spec_session.specs.UnfoldLaws.{unfolded_sentinel, unfolded_listed, unfolded_small, unfolded_pair}
@@ -42,8 +42,8 @@ enter_node h l r c = refl
 
 names_span_of : (a p : ℕ) (n : Node) → named a p n ≡ true → span n ≤ p
 names_span_of a p (pair i) e = ltb-true i p e
-names_span_of a p (listed-atom i) e = omega arith
-names_span_of a p (small-atom v) e = omega arith
+names_span_of a p (listed_atom i) e = omega arith
+names_span_of a p (small_atom v) e = omega arith
 names_span_of a p (unknown k i) e = omega arith
 
 -- A handle that names none but the first p pairs reaches no further.
@@ -52,8 +52,8 @@ names_span w p h n = names_span_of (at w ATOM_COUNT) p (node_of h) n
 
 grown : (a p q : ℕ) (n : Node) → p ≤ q → named a p n ≡ true → named a q n ≡ true
 grown a p q (pair i) l e = let z = ltb-true i p e in lt-ltb i q (omega arith)
-grown a p q (listed-atom i) l e = e
-grown a p q (small-atom v) l e = e
+grown a p q (listed_atom i) l e = e
+grown a p q (small_atom v) l e = e
 grown a p q (unknown k i) l e = e
 
 pub names_grow : (w : List ℕ) (p q h : ℕ) → p ≤ q → Names w p h → Names w q h
@@ -70,8 +70,8 @@ nothing_named w p h n e = false≢true (subst (λ (m : Node). named (at w ATOM_C
 -- A handle that names something and no atom names a pair.
 pair_of : (a p : ℕ) (n : Node) → named a p n ≡ true → is_atom n ≡ false → n ≡ pair (index_of n)
 pair_of a p (pair i) e q = refl
-pair_of a p (listed-atom i) e q = absurd (false≢true (sym q))
-pair_of a p (small-atom v) e q = absurd (false≢true (sym q))
+pair_of a p (listed_atom i) e q = absurd (false≢true (sym q))
+pair_of a p (small_atom v) e q = absurd (false≢true (sym q))
 pair_of a p (unknown k i) e q = absurd (false≢true e)
 
 pub names_pair : (w : List ℕ) (p h : ℕ) → Names w p h → is_atom (node_of h) ≡ false → node_of h ≡ pair (index_of (node_of h))
@@ -132,8 +132,8 @@ is_leaf w h q a f t = go (node_of h) refl a
   where
     go : (n : Node) → node_of h ≡ n → is_atom n ≡ true → unfolded f h ≡ leaf h (bytes_named f (node_of h))
     go (pair i) e b = absurd (false≢true b)
-    go (listed-atom i) e b = unfolded_listed f h i (sentinel_not f w h t q) e ∙ ap (λ (m : Node). leaf h (bytes_named f m)) (sym e)
-    go (small-atom v) e b = unfolded_small f h v (sentinel_not f w h t q) e ∙ ap (λ (m : Node). leaf h (bytes_named f m)) (sym e)
+    go (listed_atom i) e b = unfolded_listed f h i (sentinel_not f w h t q) e ∙ ap (λ (m : Node). leaf h (bytes_named f m)) (sym e)
+    go (small_atom v) e b = unfolded_small f h v (sentinel_not f w h t q) e ∙ ap (λ (m : Node). leaf h (bytes_named f m)) (sym e)
     go (unknown k i) e b = absurd (false≢true b)
 
 pub atom_entered : {w w' : List ℕ} {h x : ℕ} → (at w SENTINEL ≡ h → ⊥) → is_atom (node_of h) ≡ true → Made (atom_action h) w w' x → Entered w w' h x

@@ -10,7 +10,7 @@ use borrow.Author.Tests.{eq-eqb, ne_eqb}
 use Rattle.words.specs.Choice.{by_lt}
 use lib.Dec.{eqb}
 use Rattle.words.specs.Words.{at}
-use Rattle.allocator.specs.Handle.{Node, pair, listed-atom, small-atom, unknown, node_of}
+use Rattle.allocator.specs.Handle.{Node, pair, listed_atom, small_atom, unknown, node_of}
 use Rattle.spec_session.specs.File.{File}
 use Rattle.work_layout.specs.Layout.{PAIRS, FIRST, ATOM_LENGTHS, ATOM_COUNT, PAIR_COUNT, SENTINEL, OPEN, MAPS}
 use Rattle.cache_entries.specs.Meaning.{Tables, Names, Handles, FirstOf, KeyOK, sentinel_words, atom_words, pair_words, unmapped}
@@ -66,11 +66,11 @@ module _ (w w' : List ℕ) (same : (k : ℕ) → k < OPEN → at w' k ≡ at w k
 
   first_kept : (n : Node) → Handles w → FirstOf w n → FirstOf w' n
   first_kept (pair i) h q = q
-  first_kept (listed-atom i) h q =
+  first_kept (listed_atom i) h q =
       let a = same ATOM_COUNT (omega arith) in
       let l = q.0 in
       (omega arith, same (FIRST + i) (omega (arith, h.few_atoms)) ∙ q.1)
-  first_kept (small-atom v) h q = q
+  first_kept (small_atom v) h q = q
   first_kept (unknown k i) h q = q
 
   pub key_kept : (e l r : ℕ) → Handles w → KeyOK w e l r → KeyOK w' e l r

@@ -12,7 +12,7 @@ use lib.ListN.{get_or}
 use borrow.Author.Tests.{eq-eqb, ne_eqb}
 use Rattle.words.specs.Lists.{All, all_of, same, same_refl, same_eq}
 use Rattle.words.specs.Words.{at}
-use Rattle.allocator.specs.Handle.{Node, pair, listed-atom, small-atom, unknown, node_of, index_of}
+use Rattle.allocator.specs.Handle.{Node, pair, listed_atom, small_atom, unknown, node_of, index_of}
 use Rattle.allocator.specs.HandleLaws.{index_of_handle, same_node}
 use Rattle.allocator.specs.SmallAtomLaws.{same_small_bytes, listed_not_small}
 use Rattle.spec_session.specs.File.{File}
@@ -38,30 +38,30 @@ key_pair f l r h = rw (ne_eqb l SENTINEL_KEY (λ q. omega arith), ne_eqb l ATOM_
 
 module _ (f : File) (w : List ℕ) (t : Tables f w) where
   -- A small value has 26 bits.
-  small_low : (h v : ℕ) → node_of h ≡ small-atom v → v < 2 ^ 26
+  small_low : (h v : ℕ) → node_of h ≡ small_atom v → v < 2 ^ 26
   small_low h v e =
-      let i : index_of (small-atom v) ≡ h % 2 ^ 26 = ap index_of (sym e) ∙ index_of_handle h in
+      let i : index_of (small_atom v) ≡ h % 2 ^ 26 = ap index_of (sym e) ∙ index_of_handle h in
       omega arith
 
   -- Two such handles with the same bytes are the same.
   same_first : (g h : ℕ) (m n : Node) → node_of g ≡ m → node_of h ≡ n → FirstOf w m → FirstOf w n → bytes_named f m ≡ bytes_named f n → m ≡ n
   same_first g h (pair i) n e q a b s = absurd a
-  same_first g h (listed-atom i) (pair j) e q a b s = absurd b
-  same_first g h (listed-atom i) (listed-atom j) e q a b s =
+  same_first g h (listed_atom i) (pair j) e q a b s = absurd b
+  same_first g h (listed_atom i) (listed_atom j) e q a b s =
       let c = t.atom_count in
       let x : i ≡ first_same (get_or f.atoms i []) f.atoms = sym a.1 ∙ t.firsts i (omega (arith, a.0)) in
       let y : j ≡ first_same (get_or f.atoms j []) f.atoms = sym b.1 ∙ t.firsts j (omega (arith, b.0)) in
-      ap listed-atom (x ∙ ap (λ (u : List ℕ). first_same u f.atoms) s ∙ sym y)
-  same_first g h (listed-atom i) (small-atom v) e q a b s =
+      ap listed_atom (x ∙ ap (λ (u : List ℕ). first_same u f.atoms) s ∙ sym y)
+  same_first g h (listed_atom i) (small_atom v) e q a b s =
       let c = t.atom_count in
       absurd (listed_not_small (get_or f.atoms i []) v (t.listed i (omega (arith, a.0))) (small_low h v q) (sym s))
-  same_first g h (listed-atom i) (unknown k j) e q a b s = absurd b
-  same_first g h (small-atom u) (pair j) e q a b s = absurd b
-  same_first g h (small-atom u) (listed-atom j) e q a b s =
+  same_first g h (listed_atom i) (unknown k j) e q a b s = absurd b
+  same_first g h (small_atom u) (pair j) e q a b s = absurd b
+  same_first g h (small_atom u) (listed_atom j) e q a b s =
       let c = t.atom_count in
       absurd (listed_not_small (get_or f.atoms j []) u (t.listed j (omega (arith, b.0))) (small_low g u e) s)
-  same_first g h (small-atom u) (small-atom v) e q a b s = ap small-atom (same_small_bytes u v s)
-  same_first g h (small-atom u) (unknown k j) e q a b s = absurd b
+  same_first g h (small_atom u) (small_atom v) e q a b s = ap small_atom (same_small_bytes u v s)
+  same_first g h (small_atom u) (unknown k j) e q a b s = absurd b
   same_first g h (unknown k i) n e q a b s = absurd a
 
   same_bytes : (g h : ℕ) → FirstOf w (node_of g) → FirstOf w (node_of h)

@@ -2,7 +2,7 @@
 use Rattle.std.specs.Prelude.{ℕ, suc, ◌+◌, ◌*◌, ◌≤◌, ◌<◌, ◌≡◌, Bool, true, false, List}
 use Rattle.words.specs.Words.{at}
 use Rattle.atom.specs.Write.{serialized_length}
-use Rattle.allocator.specs.Handle.{Node, pair, listed-atom, small-atom, unknown, node_of}
+use Rattle.allocator.specs.Handle.{Node, pair, listed_atom, small_atom, unknown, node_of}
 use Rattle.spec_session.specs.File.{File}
 use Rattle.spec_session.specs.Unfold.{unfolded}
 use Rattle.spec_session.specs.Cache.{Cache, atom_key, pair_key, pair_length, length_at, find_or_add, meet_sentinel, join_pair, enter, update, with_entries, clear_sentinel, sentinel_parents}
@@ -14,8 +14,8 @@ use Rattle.cache_entries.specs.Meaning.{bytes_named, Tables, FirstOf, Whole, Hol
 
 abbrev pub is_listed : Node → Bool
 is_listed (pair i) = false
-is_listed (listed-atom i) = true
-is_listed (small-atom v) = false
+is_listed (listed_atom i) = true
+is_listed (small_atom v) = false
 is_listed (unknown k i) = false
 
 -- The handle r stands for all atoms with the bytes of h.
@@ -90,8 +90,8 @@ pub record Joined (w w' : List ℕ) (i l r x : ℕ) : Type 0 where
 -- The unfolding of a node has no pair from this number on.
 abbrev pub span : Node → ℕ
 span (pair i) = suc i
-span (listed-atom i) = 0
-span (small-atom v) = 0
+span (listed_atom i) = 0
+span (small_atom v) = 0
 span (unknown k i) = 0
 
 -- What the entries made, and the parents given, are at most: two for each pair that gets mapped, and one entry.

@@ -4,7 +4,7 @@ use Rattle.std.proofs.Math.Option.{Option, none, some}
 use Rattle.words.specs.Lists.{same}
 use Rattle.words.specs.Words.{at}
 use Rattle.atom.specs.Write.{serialized_length}
-use Rattle.allocator.specs.Handle.{Node, pair, listed-atom, small-atom, unknown, node_of}
+use Rattle.allocator.specs.Handle.{Node, pair, listed_atom, small_atom, unknown, node_of}
 use Rattle.allocator.specs.SmallAtom.{small_bytes, fits_in_small_atom}
 use Rattle.spec_session.specs.File.{File, Pair, named}
 use Rattle.spec_session.specs.Sentinel.{sentinel_word}
@@ -25,8 +25,8 @@ SENTINEL_KEY = 0xffffffff
 -- The bytes of an atom of the file.
 abbrev pub bytes_named : File → Node → List ℕ
 bytes_named f (pair i) = []
-bytes_named f (listed-atom i) = get_or f.atoms i []
-bytes_named f (small-atom v) = small_bytes v
+bytes_named f (listed_atom i) = get_or f.atoms i []
+bytes_named f (small_atom v) = small_bytes v
 bytes_named f (unknown k i) = []
 
 -- The key that two words stand for. A pair's words are the entries of its sides.
@@ -78,8 +78,8 @@ pub record Handles (w : List ℕ) : Type 0 where
 -- The handle of an atom that stands for all atoms with the same bytes.
 abbrev pub FirstOf : List ℕ → Node → Type 0
 FirstOf w (pair i) = ⊥
-FirstOf w (listed-atom i) = (i < at w ATOM_COUNT) × (at w (FIRST + i) ≡ i)
-FirstOf w (small-atom v) = Unit {0}
+FirstOf w (listed_atom i) = (i < at w ATOM_COUNT) × (at w (FIRST + i) ≡ i)
+FirstOf w (small_atom v) = Unit {0}
 FirstOf w (unknown k i) = ⊥
 
 -- The words are a key: a sentinel's, an atom's, or a pair's.

@@ -2,7 +2,7 @@
 ghost use Rattle.std.specs.Prelude.{◌≡◌, [], ◌≤◌, length, drop};
 ghost use Rattle.allocator.specs.Handle.{node_of};
 ghost use Rattle.spec_session.specs.File as file_format;
-ghost use Rattle.file_parts.specs.Answers.{Answers, itself, pair-word, counted, operand-word};
+ghost use Rattle.file_parts.specs.Answers.{Answers, itself, pair_word, counted, operand_word};
 ghost use Rattle.spec_session.specs.Sentinel.{sentinel_word};
 
 use crate::file_atoms;
@@ -44,7 +44,7 @@ fn handle(file: &[u8], at: usize, atoms: u32, pairs: u32) -> Part
 // A pair's two handles, where `pairs` pairs are there already. The right one is the value.
 fn pair(file: &[u8], at: usize, atoms: u32, pairs: u32) -> Part
     requires { at ≤ length file.now }
-    ensures { Answers file.now pair-word result (file_format.one_pair atoms pairs (drop at file.now)) }
+    ensures { Answers file.now pair_word result (file_format.one_pair atoms pairs (drop at file.now)) }
 {
     let left = handle(file, at, atoms, pairs);
     if left.number != 0 {
@@ -96,7 +96,7 @@ pub fn sentinel(file: &[u8], at: usize, atoms: u32, pairs: u32) -> Part
 // The operand of a step's code.
 fn operand(file: &[u8], at: usize, atoms: u32, pairs: u32, code: u32) -> Part
     requires { at ≤ length file.now }
-    ensures { Answers file.now operand-word result (file_format.operand atoms pairs code (drop at file.now)) }
+    ensures { Answers file.now operand_word result (file_format.operand atoms pairs code (drop at file.now)) }
 {
     if code == 1 || code == 4 {
         return handle(file, at, atoms, pairs);
@@ -117,7 +117,7 @@ fn operand(file: &[u8], at: usize, atoms: u32, pairs: u32, code: u32) -> Part
 // A step, where `done` steps are there already. It is counted at its code.
 fn step(file: &[u8], at: usize, atoms: u32, pairs: u32, done: u32) -> Part
     requires { at ≤ length file.now }
-    ensures { Answers file.now operand-word result (file_format.one_step atoms pairs done 1024 (drop at file.now)) }
+    ensures { Answers file.now operand_word result (file_format.one_step atoms pairs done 1024 (drop at file.now)) }
 {
     let code = file_atoms::field(file, at, 1);
     if code.number != 0 {

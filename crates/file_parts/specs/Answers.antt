@@ -32,18 +32,18 @@ abbrev pub sized : List ℕ → ℕ
 sized b = length b
 
 -- A pair's right handle.
-abbrev pub pair-word : Pair → ℕ
-pair-word q = q.right
+abbrev pub pair_word : Pair → ℕ
+pair_word q = q.right
 
 abbrev pub counted : {A : Type 0} → List A → ℕ
 counted xs = length xs
 
-abbrev pub operand-word : Step → ℕ
-operand-word (add h) = h
-operand-word (restore k) = k
-operand-word (forget k) = k
-operand-word (quote h) = h
-operand-word take_quote = 0
+abbrev pub operand_word : Step → ℕ
+operand_word (add h) = h
+operand_word (restore k) = k
+operand_word (forget k) = k
+operand_word (quote h) = h
+operand_word take_quote = 0
 
 -- ---- an atom after its length n
 

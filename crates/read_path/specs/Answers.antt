@@ -2,7 +2,7 @@
 use Rattle.std.specs.Prelude.{ℕ, zero, suc, ◌*◌, ◌≤◌, ◌<◌, ◌≡◌, Bool, true, false, List, [], ◌∷◌, length, take}
 use Rattle.std.proofs.Math.Option.{Option, none, some}
 use Rattle.words.specs.Words.{at}
-use Rattle.allocator.specs.Handle.{Node, pair, listed-atom, small-atom, unknown, node_of}
+use Rattle.allocator.specs.Handle.{Node, pair, listed_atom, small_atom, unknown, node_of}
 use Rattle.spec_reading.specs.Store.{Store, walk}
 use Rattle.read_path.specs.declared.path_walk.Walked.{Walked}
 use Rattle.read_path.specs.declared.path_walk.Walked.TheVariants as walked
@@ -17,8 +17,8 @@ down (true ∷ bs) (suc d) = suc (down bs d)
 -- A node that is one of n pairs, or no pair.
 abbrev pub Within : ℕ → Node → Type 0
 Within n (pair i) = i < n
-Within n (listed-atom i) = Unit {0}
-Within n (small-atom v) = Unit {0}
+Within n (listed_atom i) = Unit {0}
+Within n (small_atom v) = Unit {0}
 Within n (unknown k i) = Unit {0}
 
 -- A walk from h stays within the n pairs.

@@ -9,7 +9,7 @@ use native.Mathlib.Numerals.{add-one}
 use lib.ListN.{length, take, drop, set}
 use lib.Seq.{paste, take-paste, drop-paste, sets-eq, length-take-le, take-length}
 use Rattle.words.specs.Choice.{clash}
-use Rattle.allocator.specs.Handle.{handle_of, listed-atom, small-atom}
+use Rattle.allocator.specs.Handle.{handle_of, listed_atom, small_atom}
 use Rattle.allocator.specs.SmallAtom.{fits_in_small_atom, fits_answer}
 use Rattle.allocator.specs.declared.FitsInSmallAtom.TheVariants.{Small, Listed}
 use Rattle.spec_reading.specs.Store.{Store, Made, new_listed, new_atom, small_or_listed}
@@ -48,10 +48,10 @@ pub answered_listed : (o : Option ℕ) → fits_answer o ≡ Listed → o ≡ no
 answered_listed (some u) e = clash cc
 answered_listed none e = refl
 
-pub small_stored : (a b : List ℕ) (n m : ℕ) (blob : List ℕ) (v node : ℕ) → fits_in_small_atom blob ≡ some v → node ≡ handle_of (small-atom v)
+pub small_stored : (a b : List ℕ) (n m : ℕ) (blob : List ℕ) (v node : ℕ) → fits_in_small_atom blob ≡ some v → node ≡ handle_of (small_atom v)
     → AtomStored a b n m blob a b node n m
 small_stored a b n m blob v node fits e =
-    let made : (s : Store) → new_atom blob s ≡ record { node = handle_of (small-atom v); store = s } = λ s. ap (λ (o : Option ℕ). small_or_listed o blob s) fits in
+    let made : (s : Store) → new_atom blob s ≡ record { node = handle_of (small_atom v); store = s } = λ s. ap (λ (o : Option ℕ). small_or_listed o blob s) fits in
     record {
       node_is = λ s p. e ∙ sym (ap (λ (x : Made). x.node) (made s));
       atoms_are = λ s p q. sym (ap (λ (x : Made). x.store.atoms) (made s) ∙ p);
@@ -81,7 +81,7 @@ module _ (a b : List ℕ) (n m : ℕ) (blob a' b' : List ℕ) (node n' m' : ℕ)
   pub listed_stored : AtomStored a b n m blob a' b' node n' m'
   listed_stored =
       record {
-        node_is = λ s p. done.node_is ∙ ap (λ (k : ℕ). handle_of (listed-atom k)) (sym (half a s.atoms n (omega arith) p)) ∙ sym (ap (λ (x : Made). x.node) (made s));
+        node_is = λ s p. done.node_is ∙ ap (λ (k : ℕ). handle_of (listed_atom k)) (sym (half a s.atoms n (omega arith) p)) ∙ sym (ap (λ (x : Made). x.node) (made s));
         atoms_are = λ s p q. stored_atoms s p q ∙ sym (ap (λ (x : Made). x.store.atoms) (made s));
         bytes_are = λ s q. stored_bytes s q ∙ sym (ap (λ (x : Made). x.store.bytes) (made s));
         atoms_rest =

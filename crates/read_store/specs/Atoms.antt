@@ -1,12 +1,12 @@
 -- Atoms in lent slices: what each function leaves.
 use Rattle.std.specs.Prelude.{ℕ, ◌+◌, ◌*◌, ◌≤◌, ◌≡◌, List, [], ◌∷◌, length, take, drop}
 use Rattle.std.proofs.Math.Seq.{paste}
-use Rattle.allocator.specs.Handle.{handle_of, listed-atom}
+use Rattle.allocator.specs.Handle.{handle_of, listed_atom}
 use Rattle.spec_reading.specs.Store.{Store, new_atom}
 
 -- A listed atom is appended: its bytes, and where they start and end.
 pub record ListedAppended (a b : List ℕ) (n m : ℕ) (blob : List ℕ) (a' b' : List ℕ) (node n' m' : ℕ) : Type 0 where
-  pub node_is : node ≡ handle_of (listed-atom n)
+  pub node_is : node ≡ handle_of (listed_atom n)
   pub count_is : n' ≡ n + 1
   pub size_is : m' ≡ m + length blob
   pub atoms_are : a' ≡ paste a (2 * n) (m ∷ (m + length blob) ∷ []) 2

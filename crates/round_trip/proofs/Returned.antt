@@ -50,7 +50,7 @@ module _ (input : List ℕ) (before after : Lists) (work : List ℕ) (s : Sessio
     whole_read : RoundTrips input (store_slices before.work before.pairs before.atoms before.bytes) t (read_of both after)
     whole_read long f rest is =
         let c = back f rest is in
-        (λ k last no-02 no-04 finished apart. whole long (c.0 k last no-02 no-04 finished apart), λ hs steps k h finished apart. whole long (c.1 hs steps k h finished apart))
+        (λ k last no_02 no_04 finished apart. whole long (c.0 k last no_02 no_04 finished apart), λ hs steps k h finished apart. whole long (c.1 hs steps k h finished apart))
 
     -- The work that the session left is the definition's.
     same_work : t ≡ session_of input before after both

@@ -372,7 +372,7 @@ module _ {w x : List ℕ} {d c n m e : ℕ} (u : Visiting w x d c n m e) where
           let s : step (parents_of_all w) (stack_of w d) (seen_of w m) (trail_of w c) ≡ stays q (up ++ side) (seen_of x (m + 1)) =
           step_visit ∙ ap (λ (l : List Trail). moves l side (seen_of x (m + 1)))
           (skipped ∙ up_new x e S' B' k l (sym (link_member k l) ∙ f.stands h)) in
-          let few-up : length up ≤ count_at w e - (k + 1) =
+          let few_up : length up ≤ count_at w e - (k + 1) =
           omega (arith, length_upward S' B' (drop (k + 1) (parents_of x e)), length-drop (k + 1) (parents_of x e), length_links x e, count_x) in
           let b : n' ≤ n + count_at w e + 1 =
           omega (

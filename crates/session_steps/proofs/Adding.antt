@@ -360,9 +360,9 @@ module _ {measure : Measure} {input : List ℕ} {f : File} {w words : List ℕ} 
   going : (pl : Place) (end : Bool) (k : Option (List Todo)) → At f w' out' pl.opens pl.depth pl.counts end (after k) → p.counts.size ≤ pl.counts.size
       → add_handle (measure_of measure) (length out') f h s ≡ writer.added (after k) → (words' : List ℕ) → words' ≡ noted_words words (moved_to p pl (p.adds + 1) end)
       → Underway measure input f w' words' rows' out' (noted_at (with_quote (moved_to p pl (p.adds + 1) end) b) next)
-  going pl end k there-at longer is words' ws =
+  going pl end k there_at longer is words' ws =
       go_on measure input f w' words words' rows' out' (with_quote (moved_to p pl (p.adds + 1) end) b) next rest past' (after k) (tried measure (length out') f u.past s b h (after k))
-      there-at stocked (history pl.counts.size longer) known (omega arith) refl there named_rest few_rest many u.many_words saved_cache
+      there_at stocked (history pl.counts.size longer) known (omega arith) refl there named_rest few_rest many u.many_words saved_cache
       (shows_tried measure (length out') f u.past s b h (todo_of f w p.opens) (after k) waiting few_past is)
       (run (writer.added (after k)) is
       ∙ ap (λ (r : Run). after_words p.steps (take (3 * p.steps) words) r)

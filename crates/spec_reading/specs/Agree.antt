@@ -6,7 +6,7 @@ use Rattle.std.proofs.lemmas.List.{get_or_at}
 use Rattle.std.proofs.Math.Seq.{drop-append_seam, take-length}
 use Rattle.words.specs.Words.{at, part}
 use Rattle.words.specs.Lists.{Bytes}
-use Rattle.allocator.specs.Handle.{Node, small-atom, node_of, handle_of, nil}
+use Rattle.allocator.specs.Handle.{Node, small_atom, node_of, handle_of, nil}
 use Rattle.allocator.specs.HandleLaws.{node_of_pair, node_of_listed_atom, node_of_small_atom, handle_of_node_of}
 use Rattle.allocator.specs.SmallAtom.{fits_in_small_atom}
 use Rattle.allocator.specs.SmallAtomLaws.{fits_some}
@@ -254,7 +254,7 @@ atom_names : (vs : List Value) (s : Store) (ts : List Tree) (b : List ℕ) → H
     → NamesAll (push_made (small_or_listed o b s) vs).store (push_made (small_or_listed o b s) vs).values (atom b ∷ ts)
     × (pair_count (push_made (small_or_listed o b s) vs).store + (push_made (small_or_listed o b s) vs).store.ghosts ≡ pair_count s + s.ghosts + 1)
 atom_names vs s ts b h low n (some v) e =
-    (push_names s vs ts (handle_of (small-atom v)) (atom b) (rw (node_of_small_atom v (fits_some b v e).0) (small (fits_some b v e).1)) n, omega arith)
+    (push_names s vs ts (handle_of (small_atom v)) (atom b) (rw (node_of_small_atom v (fits_some b v e).0) (small (fits_some b v e).1)) n, omega arith)
 atom_names vs s ts b h low n none e = (
   push_names (new_listed b s).store vs ts (new_listed b s).node (atom b) (listed_names s b h.atoms_even low)
       (all_more s (new_listed b s).store vs ts (extends_listed s b) n),

@@ -4,7 +4,7 @@ use Rattle.std.proofs.Common.{sym, ap, ap₂, ◌∙◌, subst, append_assoc, ap
 use Rattle.std.proofs.Math.ListN.{get_or-append}
 use Rattle.std.proofs.lemmas.List.{take-append-le, drop-append-le}
 use Rattle.words.specs.Words.{at, part}
-use Rattle.allocator.specs.Handle.{Node, pair, listed-atom, small-atom, node_of, nil}
+use Rattle.allocator.specs.Handle.{Node, pair, listed_atom, small_atom, node_of, nil}
 use Rattle.allocator.specs.SmallAtom.{small_bytes}
 use Rattle.allocator.specs.SmallAtomLaws.{small_bytes_nil}
 use Rattle.spec_reading.specs.Tree.{Tree, atom, cons}
@@ -29,9 +29,9 @@ right_of s i = at s.pairs (2 * i + 1)
 
 -- The tree that a node names. What a node names is all there in the store.
 pub data Names (s : Store) : Node → Tree → Type 0 where
-  small : {v : ℕ} {b : List ℕ} → small_bytes v ≡ b → Names s (small-atom v) (atom b)
+  small : {v : ℕ} {b : List ℕ} → small_bytes v ≡ b → Names s (small_atom v) (atom b)
   listed : {i : ℕ} {b : List ℕ} → 2 * i + 1 < length s.atoms → start_of s i ≤ end_of s i → end_of s i ≤ length s.bytes → listed_bytes s i ≡ b
-      → Names s (listed-atom i) (atom b)
+      → Names s (listed_atom i) (atom b)
   paired : {i : ℕ} {l r : Tree} → 2 * i + 1 < length s.pairs → Names s (node_of (left_of s i)) l → Names s (node_of (right_of s i)) r
       → Names s (pair i) (cons l r)
 

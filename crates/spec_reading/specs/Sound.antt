@@ -5,7 +5,7 @@ use Rattle.std.proofs.Common.{ap, subst, arith, length-append}
 use Rattle.std.proofs.Math.Option.{Option, none, some}
 use Rattle.words.specs.Words.{at}
 use Rattle.words.specs.Lists.{All, all_append, all_map, all_at}
-use Rattle.allocator.specs.Handle.{Node, pair, listed-atom, small-atom, unknown, node_of, handle_of, nil}
+use Rattle.allocator.specs.Handle.{Node, pair, listed_atom, small_atom, unknown, node_of, handle_of, nil}
 use Rattle.allocator.specs.HandleLaws.{node_of_pair, node_of_listed_atom, node_of_small_atom, handle_of_node_of}
 use Rattle.allocator.specs.SmallAtom.{fits_in_small_atom}
 use Rattle.allocator.specs.SmallAtomLaws.{fits_some}
@@ -35,8 +35,8 @@ conses (Cons ∷ ops) = suc (conses ops)
 -- A node that is there, among so many pairs and listed atoms.
 abbrev pub Known : (pairs atoms : ℕ) → Node → Type 0
 Known p a (pair i) = i < p
-Known p a (listed-atom i) = i < a
-Known p a (small-atom v) = Unit {0}
+Known p a (listed_atom i) = i < a
+Known p a (small_atom v) = Unit {0}
 Known p a (unknown k i) = ⊥
 
 abbrev pub KnownHandle : (pairs atoms : ℕ) → ℕ → Type 0
@@ -121,8 +121,8 @@ sound_two used ops s h = fits_two ops (length s.values) h.fits
 
 pub known_more : (p a p' a' : ℕ) → p ≤ p' → a ≤ a' → (n : Node) → Known p a n → Known p' a' n
 known_more p a p' a' h k (pair i) m = omega arith
-known_more p a p' a' h k (listed-atom i) m = omega arith
-known_more p a p' a' h k (small-atom v) m = tt
+known_more p a p' a' h k (listed_atom i) m = omega arith
+known_more p a p' a' h k (small_atom v) m = tt
 known_more p a p' a' h k (unknown j i) m = m
 
 option_more : (p a p' a' : ℕ) → p ≤ p' → a ≤ a' → (o : Option ℕ) → KnownOption p a o → KnownOption p' a' o
@@ -143,7 +143,7 @@ words_more p a p' a' h k ws m = all_map (KnownHandle p a) (KnownHandle p' a') (�
 pub known_pair : (p a i : ℕ) → i < 2 ^ 26 → i < p → KnownHandle p a (handle_of (pair i))
 known_pair p a i l h = rw (node_of_pair i l) h
 
-pub known_small : (p a v : ℕ) → v < 2 ^ 26 → KnownHandle p a (handle_of (small-atom v))
+pub known_small : (p a v : ℕ) → v < 2 ^ 26 → KnownHandle p a (handle_of (small_atom v))
 known_small p a v l = rw (node_of_small_atom v l) tt
 
 pub known_nil : (p a : ℕ) → KnownHandle p a (handle_of nil)
@@ -254,7 +254,7 @@ module _ (used n : ℕ) (ops : List ParseOp) (b : List ℕ) (s : Stored) (some_b
         pairs_bound = omega (arith, h.pairs_bound);
         atoms_bound = omega (arith, h.atoms_bound);
         bytes_bound = omega (arith, h.bytes_bound);
-        holds = push_holds s.values s.store (handle_of (small-atom v)) h.holds (known_small _ _ v (fits_some b v e).0);
+        holds = push_holds s.values s.store (handle_of (small_atom v)) h.holds (known_small _ _ v (fits_some b v e).0);
       }
   atom_sound none e =
       record {
@@ -426,8 +426,8 @@ walk_known s (b ∷ bs) (pair i) even ws e k =
     within : (b : Bool) → 2 * i + pick_word b < length s.pairs
     within false = omega arith
     within true = omega arith
-walk_known s (b ∷ bs) (listed-atom i) even ws e k = tt
-walk_known s (b ∷ bs) (small-atom v) even ws e k = tt
+walk_known s (b ∷ bs) (listed_atom i) even ws e k = tt
+walk_known s (b ∷ bs) (small_atom v) even ws e k = tt
 walk_known s (b ∷ bs) (unknown j i) even ws e k = tt
 
 -- What a path leads to is known, in a store that holds all that was there.

@@ -2,7 +2,7 @@
 use Rattle.std.specs.Prelude.{ℕ, ◌+◌, ◌-◌, ◌*◌, ◌/◌, Bool, true, false, List, [], ◌∷◌, ◌++◌, length}
 use Rattle.std.proofs.Math.Option.{Option, none, some}
 use Rattle.words.specs.Words.{at}
-use Rattle.allocator.specs.Handle.{Node, pair, listed-atom, small-atom, unknown, node_of, handle_of, nil}
+use Rattle.allocator.specs.Handle.{Node, pair, listed_atom, small_atom, unknown, node_of, handle_of, nil}
 use Rattle.allocator.specs.SmallAtom.{fits_in_small_atom}
 use Rattle.spec_reading.specs.Format.{Values, Read, read}
 
@@ -34,12 +34,12 @@ new_pair l r s =
 abbrev pub new_listed : List ℕ → Store → Made
 new_listed b s =
     record {
-      node = handle_of (listed-atom (atom_count s));
+      node = handle_of (listed_atom (atom_count s));
       store = record { pairs = s.pairs; atoms = s.atoms ++ length s.bytes ∷ (length s.bytes + length b) ∷ []; bytes = s.bytes ++ b; ghosts = s.ghosts };
     }
 
 abbrev pub small_or_listed : Option ℕ → List ℕ → Store → Made
-small_or_listed (some v) b s = record { node = handle_of (small-atom v); store = s }
+small_or_listed (some v) b s = record { node = handle_of (small_atom v); store = s }
 small_or_listed none b s = new_listed b s
 
 -- An atom: a small one is its handle alone.
@@ -86,8 +86,8 @@ pick_word true = 1
 unfoldable pub walk : Store → List Bool → Node → Option Node
 walk s [] n = some n
 walk s (b ∷ bs) (pair i) = walk s bs (node_of (at s.pairs (2 * i + pick_word b)))
-walk s (b ∷ bs) (listed-atom i) = none
-walk s (b ∷ bs) (small-atom v) = none
+walk s (b ∷ bs) (listed_atom i) = none
+walk s (b ∷ bs) (small_atom v) = none
 walk s (b ∷ bs) (unknown k i) = none
 
 -- What a path leads to: the node, none for a refusal, and the values and the store, which a list that was built has changed.

@@ -15,7 +15,7 @@ use Rattle.allocator.specs.HandleLaws.{pair_handle}
 use Rattle.words.specs.Choice.{by_cond, by_lt}
 use Rattle.words.specs.Lists.{All, all_append, all_drop, all_take, all_map, all_or}
 use Rattle.path.specs.Bytes.{bit}
-use Rattle.allocator.specs.Handle.{Node, pair, listed-atom, small-atom, unknown, node_of, handle_of}
+use Rattle.allocator.specs.Handle.{Node, pair, listed_atom, small_atom, unknown, node_of, handle_of}
 use Rattle.spec_session.specs.File.{File, Pair, Step, add, restore, forget, quote, take_quote}
 use Rattle.spec_session.specs.Unfold.{Unfolded, hole, leaf, node, is_sentinel, named_by, unfold_with, unfold_pairs, unfolded}
 use Rattle.spec_session.specs.Cache.{Key, Parent, Entry, Cache, same_key, later, find_key, lookup, adjust, parents_at, add_parent, move_parents}
@@ -499,8 +499,8 @@ under_mono n m l (node h x y) u = (omega (arith, u.0), u.1, u.2)
 module _ (f : File) where
   named_under : (n : ℕ) (rows : List Unfolded) (h : ℕ) (m : Node) → All (Under n) rows → Under n (named_by f rows h m)
   named_under n rows h (pair i) k = all_or (Under n) rows (leaf h []) i k tt
-  named_under n rows h (listed-atom i) k = tt
-  named_under n rows h (small-atom v) k = tt
+  named_under n rows h (listed_atom i) k = tt
+  named_under n rows h (small_atom v) k = tt
   named_under n rows h (unknown j i) k = tt
 
   with_under : (n : ℕ) (rows : List Unfolded) (h : ℕ) → All (Under n) rows → Under n (unfold_with f rows h)

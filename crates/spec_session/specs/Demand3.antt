@@ -121,16 +121,16 @@ module _ {C : Type 0} (blank : C) (l : Limits) (carried : l.file_bytes < 2 ^ 34)
       → suc k ≡ (run_in f steps slices).steps → All NoRestore (take (suc k) steps) → IfAny NoQuote (nth steps k) → Finished (run_in f steps slices).words k
       → Apart (map (unfolded f) (survivors (take (suc k) steps)))
       → ReadBack measure l f (survivors (take (suc k) steps)) k (nth steps (suc k)) (after_run blank (run_in f steps slices) slices)
-  read_back_run input bytes f rest file-is s steps k last no-02 no-04 fin apart =
-      go (run_in f steps s) last (run_ends measure (usable l s) f steps at_start).three (run_finish measure (usable l s) f steps k last no-04 fin)
+  read_back_run input bytes f rest file-is s steps k last no_02 no_04 fin apart =
+      go (run_in f steps s) last (run_ends measure (usable l s) f steps at_start).three (run_finish measure (usable l s) f steps k last no_04 fin)
     where
       go : (r : Run) → suc k ≡ r.steps → length r.words ≡ 3 * r.steps → Finish measure (usable l s) f steps k r
           → ReadBack measure l f (survivors (take (suc k) steps)) k (nth steps (suc k)) (after_run blank r s)
       go r l-is three m =
-          let adds-are : add_all (find_in measure) (room_in (usable l s)) (map (unfolded f) (survivors (take (suc k) steps))) start ≡ added r.last =
-          forget_survivors measure (usable l s) f (take (suc k) steps) m.reached no-02 m.walked ∙ ap added (sym m.last_is) in
+          let adds_are : add_all (find_in measure) (room_in (usable l s)) (map (unfolded f) (survivors (take (suc k) steps))) start ≡ added r.last =
+          forget_survivors measure (usable l s) f (take (suc k) steps) m.reached no_02 m.walked ∙ ap added (sym m.last_is) in
           let b =
-          read_back_file l carried measure covers (usable l s) (omega arith) input bytes f rest file-is (survivors (take (suc k) steps)) r.last apart adds-are m.is_finished in
+          read_back_file l carried measure covers (usable l s) (omega arith) input bytes f rest file-is (survivors (take (suc k) steps)) r.last apart adds_are m.is_finished in
           let size_is = output_size r.last.written.items in
           let front : take (size_of r.last.written.items) (read.filled s.output (output r.last.written.items)) ≡ output r.last.written.items =
           taken s.output (output r.last.written.items) (size_of r.last.written.items) size_is in
@@ -138,7 +138,7 @@ module _ {C : Type 0} (blank : C) (l : Limits) (carried : l.file_bytes < 2 ^ 34)
           filled_length s.output (output r.last.written.items) (omega (arith, size_is, b.short)) in
           record {
             made = r.last;
-            wrote = rw same adds-are;
+            wrote = rw same adds_are;
             is_finished = m.is_finished;
             size_is = size_is;
             bytes_are = front;
@@ -162,36 +162,36 @@ module _ {C : Type 0} (blank : C) (l : Limits) (carried : l.file_bytes < 2 ^ 34)
       ap (λ (n : ℕ). n % 2) (sym (at_front s.words (run_in f steps s).words (3 * k) (omega (arith, (run_ends measure (usable l s) f steps at_start).three)))) ∙ fin
 
   pub read_back_session : Demand3 blank l measure
-  read_back_session input bytes f rest file-is s k last no-02 no-04 fin apart =
+  read_back_session input bytes f rest file-is s k last no_02 no_04 fin apart =
       let is = call_is blank l measure input f rest file-is s k (omega arith) in
       let last' : suc k ≡ (run_in f f.steps s).steps = last ∙ ap (λ (r : Result C). r.answer.steps) is in
       let fin' = finished_in_run f f.steps s k (omega arith) (subst (λ (r : Result C). Finished r.slices.words k) is fin) in
       subst (λ (r : Result C). ReadBack measure l f (survivors (take (suc k) f.steps)) k (nth f.steps (suc k)) r) (sym is)
-      (read_back_run input bytes f rest file-is s f.steps k last' no-02 no-04 fin' apart)
+      (read_back_run input bytes f rest file-is s f.steps k last' no_02 no_04 fin' apart)
 
   -- A step that is no `04` and whose first word says finished is the last one taken, where no undo comes next.
   pub finished_last : (input : List ℕ) (f : File) (rest : List ℕ) → file l input ≡ got f rest → (slices : Slices C) (k : ℕ)
       → k < (session blank l measure input slices).answer.steps → IfAny NoQuote (nth f.steps k) → Finished (session blank l measure input slices).slices.words k
       → IfAny NoUndo (nth f.steps (suc k)) → suc k ≡ (session blank l measure input slices).answer.steps
-  finished_last input f rest file-is s k h no-04 fin no-undo =
+  finished_last input f rest file-is s k h no_04 fin no_undo =
       let is = call_is blank l measure input f rest file-is s k h in
       let h' : k < (run_in f f.steps s).steps = subst (λ (r : Result C). k < r.answer.steps) is h in
       let fin' = finished_in_run f f.steps s k h' (subst (λ (r : Result C). Finished r.slices.words k) is fin) in
-      finish_last measure (usable l s) f f.steps k h' no-04 fin' no-undo ∙ sym (ap (λ (r : Result C). r.answer.steps) is)
+      finish_last measure (usable l s) f f.steps k h' no_04 fin' no_undo ∙ sym (ap (λ (r : Result C). r.answer.steps) is)
 
   -- For a file of adds alone.
   pub read_back_adds : Demand3Adds blank l measure
   read_back_adds input bytes f rest file-is handles steps_are s k h fin apart =
-      let no-undo : IfAny NoUndo (nth f.steps (suc k)) =
+      let no_undo : IfAny NoUndo (nth f.steps (suc k)) =
       subst (λ (xs : List Step). IfAny NoUndo (nth xs (suc k))) (sym steps_are) (nth_adds NoUndo (λ g. tt) handles (suc k)) in
-      let no-04 : IfAny NoQuote (nth f.steps k) = subst (λ (xs : List Step). IfAny NoQuote (nth xs k)) (sym steps_are) (nth_adds NoQuote (λ g. tt) handles k) in
-      let steps-so : take (suc k) f.steps ≡ map add (take (suc k) handles) = ap (take (suc k)) steps_are ∙ take_adds (suc k) handles in
-      let no-02 : All NoRestore (take (suc k) f.steps) = subst (All NoRestore) (sym steps-so) (all_adds NoRestore (λ g. tt) (take (suc k) handles)) in
-      let hs-are : survivors (take (suc k) f.steps) ≡ take (suc k) handles = ap survivors steps-so ∙ survive_adds (take (suc k) handles) [] in
-      let last : suc k ≡ (session blank l measure input s).answer.steps = finished_last input f rest file-is s k h no-04 fin no-undo in
+      let no_04 : IfAny NoQuote (nth f.steps k) = subst (λ (xs : List Step). IfAny NoQuote (nth xs k)) (sym steps_are) (nth_adds NoQuote (λ g. tt) handles k) in
+      let steps_so : take (suc k) f.steps ≡ map add (take (suc k) handles) = ap (take (suc k)) steps_are ∙ take_adds (suc k) handles in
+      let no_02 : All NoRestore (take (suc k) f.steps) = subst (All NoRestore) (sym steps_so) (all_adds NoRestore (λ g. tt) (take (suc k) handles)) in
+      let hs_are : survivors (take (suc k) f.steps) ≡ take (suc k) handles = ap survivors steps_so ∙ survive_adds (take (suc k) handles) [] in
+      let last : suc k ≡ (session blank l measure input s).answer.steps = finished_last input f rest file-is s k h no_04 fin no_undo in
       subst (λ (xs : List Step). ReadBack measure l f (take (suc k) handles) k (nth xs (suc k)) (session blank l measure input s)) steps_are
-      (subst (λ (hs : List ℕ). ReadBack measure l f hs k (nth f.steps (suc k)) (session blank l measure input s)) hs-are
-      (read_back_session input bytes f rest file-is s k last no-02 no-04 fin (subst (λ (hs : List ℕ). Apart (map (unfolded f) hs)) (sym hs-are) apart)))
+      (subst (λ (hs : List ℕ). ReadBack measure l f hs k (nth f.steps (suc k)) (session blank l measure input s)) hs_are
+      (read_back_session input bytes f rest file-is s k last no_02 no_04 fin (subst (λ (hs : List ℕ). Apart (map (unfolded f) hs)) (sym hs_are) apart)))
 
 -- ---- the session calls
 

@@ -77,9 +77,9 @@ module _ {C : Type 0} (blank : C) (slices : Slices C) (long : long_enough versio
   -- Reading those ten bytes gives (foobar . foobar).
   pub whole_read : (lent : read.Slices) → read.long_enough lent ≡ true → ReadAs (read.reading finished_bytes lent) (cons (atom foobar) (atom foobar))
   whole_read lent enough =
-      let read-are : take the_call.answer.size the_call.slices.output ≡ finished_bytes =
+      let read_are : take the_call.answer.size the_call.slices.output ≡ finished_bytes =
       ap (λ (a : Answer). take a.size the_call.slices.output) answer_is ∙ bytes_are in
-      subst (λ (bytes : List ℕ). ReadAs (read.reading bytes lent) (cons (atom foobar) (atom foobar))) read-are
+      subst (λ (bytes : List ℕ). ReadAs (read.reading bytes lent) (cons (atom foobar) (atom foobar))) read_are
       (subst (λ (t : Tree). ReadAs (read.reading (take the_call.answer.size the_call.slices.output) lent) t) (sym whole_back.filling ∙ ap (λ (ts : List Tree). get_or ts 2 place) whole_states)
       (whole_back.reads lent enough))
 

@@ -60,7 +60,7 @@ module _ {C : Type 0} (blank : C) (l : Limits) (carried : l.file_bytes < 2 ^ 34)
       → suc k ≡ (session blank l measure input slices).answer.steps → IfAny NoQuote (nth f.steps k)
       → (session blank l measure input slices).answer.number ≢ 12 → (session blank l measure input slices).answer.number ≢ 13
       → CountsScanned k (session blank l measure input slices)
-  counts_in_session input bytes f rest file-is s k last no-04 no-12 no-13 =
+  counts_in_session input bytes f rest file-is s k last no_04 no-12 no-13 =
       let space = usable l s in
       let is = call_is blank l measure input f rest file-is s k (omega arith) in
       let last' = last ∙ ap (λ (r : Result C). r.answer.steps) is in
@@ -69,7 +69,7 @@ module _ {C : Type 0} (blank : C) (l : Limits) (carried : l.file_bytes < 2 ^ 34)
       subst (CountsScanned k) (sym is)
       (of_run (run_steps measure space f f.steps at_start) k s last' (run_ends measure space f f.steps at_start).three
       (last_formed measure space (omega arith) f (read_atoms l carried input bytes f rest file-is) f.steps)
-      (last_words measure space f f.steps k last' no-04 no-12' no-13'))
+      (last_words measure space f f.steps k last' no_04 no-12' no-13'))
 
 -- Of 01's call.
 pub counts_scanned : {C : Type 0} (blank : C) (input : List ℕ) → Bytes input → (f : File) (rest : List ℕ) → file version_1 input ≡ got f rest → (slices : Slices C) (k : ℕ)

@@ -92,9 +92,9 @@ scan_output (reference_item path ∷ items) f =
     ∙ ap (λ (l : List Kind). kind_of (reference_item path) ∷ l) (scan_output items f.1)
 
 -- So the counts are the same: a count of items that is a count of their kinds.
-same_total : (count : Item → ℕ) (of-kind : Kind → ℕ) → ((i : Item) → count i ≡ of-kind (kind_of i)) → (items : List Item) → total count items ≡ total of-kind (map kind_of items)
-same_total count of-kind h [] = refl
-same_total count of-kind h (i ∷ items) = omega (arith, h i, same_total count of-kind h items)
+same_total : (count : Item → ℕ) (of_kind : Kind → ℕ) → ((i : Item) → count i ≡ of_kind (kind_of i)) → (items : List Item) → total count items ≡ total of_kind (map kind_of items)
+same_total count of_kind h [] = refl
+same_total count of_kind h (i ∷ items) = omega (arith, h i, same_total count of_kind h items)
 
 -- What a scan of the output counts.
 pub references_scanned : (items : List Item) → All Formed items → references items ≡ scanned_references (output items)

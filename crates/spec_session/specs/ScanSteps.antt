@@ -133,8 +133,8 @@ module _ (measure : List Bool → ℕ) (space : ℕ) (most : space ≤ 65535) (f
       let t = run_taken measure space f xs at_start k l in
       let u = told t.kind t.before t.after t.words t.goes in
       let plain : Plain measure space f (went t.words u.0) = subst (Plain measure space f) u.1 (plain_step measure space f (as_add t.kind) (as_add_plain t.kind) t.before) in
-      let before-sound : SoundState t.before = walk_keeps measure space f SoundState sound_step (take k xs) at_start t.before sound_start t.walked in
-      let sound : SoundState u.0 = subst (Goes measure space f SoundState) u.1 (sound_step (as_add t.kind) t.before before-sound) in
+      let before_sound : SoundState t.before = walk_keeps measure space f SoundState sound_step (take k xs) at_start t.before sound_start t.walked in
+      let sound : SoundState u.0 = subst (Goes measure space f SoundState) u.1 (sound_step (as_add t.kind) t.before before_sound) in
       let all_formed = formed u.0.now.written sound.0.0 in
       record {
         kind = t.kind;

@@ -168,10 +168,10 @@ module _ (measure : List Bool → ℕ) (space : ℕ) (f : File) where
       go : (y : Stepped) → step (add h) st ≡ y → as_quote h st y ≡ went w t → Takes h st t w
       go (halted n s) p e = not_went e
       go (went v u) p e =
-          let state-is : opened h st ≡ t = cc in
+          let state_is : opened h st ≡ t = cc in
           let goes : step (add h) st ≡ went w u = p ∙ cc in
           let taken : step take_quote (opened h st) ≡ went w u = open_unseen (add h) (λ q. clash cc) (some h) st ∙ goes in
-          record { opens = sym state-is; after = u; taken = subst (λ (x : State). step take_quote x ≡ went w u) state-is taken; as_added = goes }
+          record { opens = sym state_is; after = u; taken = subst (λ (x : State). step take_quote x ≡ went w u) state_is taken; as_added = goes }
 
   -- A DROPPED QUOTE. Any step but a taking comes to what it would have come to without the quote.
   pub quote_dropped : (x : Step) → x ≢ take_quote → (h : ℕ) (st t : State) (w : List ℕ) → step (quote h) st ≡ went w t → step x t ≡ step x st

@@ -4,7 +4,7 @@ use Rattle.std.specs.Prelude.{ℕ, Bool, false, eqb, length, get_or}
 use Rattle.std.proofs.Math.Bool.{cond}
 use mathlib.Core.List.{List, [], ◌∷◌, ◌++◌}
 use Rattle.std.proofs.Math.Option.{Option, none, some}
-use Rattle.allocator.specs.Handle.{Node, pair, listed-atom, small-atom, unknown, node_of, handle_of}
+use Rattle.allocator.specs.Handle.{Node, pair, listed_atom, small_atom, unknown, node_of, handle_of}
 use Rattle.allocator.specs.SmallAtom.{small_bytes}
 use Rattle.spec_reading.specs.Tree.{Tree, place, atom, cons}
 use Rattle.spec_session.specs.File.{File, Pair}
@@ -29,8 +29,8 @@ module _ (f : File) where
   -- What a handle names, where `earlier` are the pairs unfolded so far. Question 7 lets no handle through that names nothing.
   abbrev pub named_by : (earlier : List Unfolded) → (handle : ℕ) → Node → Unfolded
   named_by earlier h (pair i) = get_or earlier i (leaf h [])
-  named_by earlier h (listed-atom i) = leaf h (get_or f.atoms i [])
-  named_by earlier h (small-atom v) = leaf h (small_bytes v)
+  named_by earlier h (listed_atom i) = leaf h (get_or f.atoms i [])
+  named_by earlier h (small_atom v) = leaf h (small_bytes v)
   named_by earlier h (unknown k i) = leaf h []
 
   abbrev pub unfold_with : (earlier : List Unfolded) → (handle : ℕ) → Unfolded

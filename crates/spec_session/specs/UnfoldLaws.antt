@@ -9,7 +9,7 @@ use mathlib.Core.List.{List, [], ◌∷◌, ◌++◌}
 use Rattle.std.proofs.Math.Seq.{get_or-append_seam}
 use native.Mathlib.Omega.{arith}
 use Rattle.std.proofs.Math.ListN.{length, get_or, length-append, get_or-append}
-use Rattle.allocator.specs.Handle.{Node, pair, listed-atom, small-atom, unknown, node_of, handle_of}
+use Rattle.allocator.specs.Handle.{Node, pair, listed_atom, small_atom, unknown, node_of, handle_of}
 use Rattle.allocator.specs.HandleLaws.{pair_handle}
 use Rattle.allocator.specs.SmallAtom.{small_bytes}
 use Rattle.spec_session.specs.File.{File, Pair, named}
@@ -37,8 +37,8 @@ module _ (f : File) where
     where
       go : (n : Node) → named a (length earlier) n ≡ true → named_by f earlier h n ≡ named_by f (unfold_pairs f ps earlier) h n
       go (pair i) q = sym (stays ps earlier i (leaf h []) (ltb-true i (length earlier) q))
-      go (listed-atom i) q = refl
-      go (small-atom v) q = refl
+      go (listed_atom i) q = refl
+      go (small_atom v) q = refl
       go (unknown k i) q = refl
 
   -- The row of pair j among the pairs to come.
@@ -69,11 +69,11 @@ module _ (f : File) where
   unfolding unfolded
   unfolded_sentinel h e = rw e
 
-  pub unfolded_listed : (h i : ℕ) → is_sentinel f.sentinel h ≡ false → node_of h ≡ listed-atom i → unfolded f h ≡ leaf h (get_or f.atoms i [])
+  pub unfolded_listed : (h i : ℕ) → is_sentinel f.sentinel h ≡ false → node_of h ≡ listed_atom i → unfolded f h ≡ leaf h (get_or f.atoms i [])
   unfolding unfolded
   unfolded_listed h i e n = rw (e, n)
 
-  pub unfolded_small : (h v : ℕ) → is_sentinel f.sentinel h ≡ false → node_of h ≡ small-atom v → unfolded f h ≡ leaf h (small_bytes v)
+  pub unfolded_small : (h v : ℕ) → is_sentinel f.sentinel h ≡ false → node_of h ≡ small_atom v → unfolded f h ≡ leaf h (small_bytes v)
   unfolding unfolded
   unfolded_small h v e n = rw (e, n)
 

@@ -14,30 +14,30 @@ use Rattle.cache_entries.specs.Effects.{is_listed}
 use Rattle.cache_entries.proofs.Atoms.{listed_few, index_low, measured_listed, measured_small}
 use Rattle.cache_entries.proofs.atom_length.Goals as goal
 
--- The first test holds: the atom is a listed one.
-listed : (x : goal.Then-is_listed) → is_listed (node_of x.before.before.before.args.h.0) ≡ true
-listed x = sym x.before.is_listed.ensures ∙ x.if-is_listed.true
-
 pub listed_length-requires : goal.listed_length-requires
 listed_length-requires c =
-    let s = c.before.before.before.before.before in
-    let l = listed_few s.args.work.now s.args.h.0 s.requires.0 s.requires.1 (listed c.before.before) in
-    (s.requires.0.sound.long, omega (arith, c.wide-i.ensures, c.before.index.ensures))
+    let listed : is_listed (node_of c.args.h.0) ≡ true =
+        sym c.is_listed.ensures ∙ c.if-is_listed.true in
+    let s = c in
+    let l = listed_few s.args.work.now s.args.h.0 s.requires.0 s.requires.1 listed in
+    (s.requires.0.sound.long, omega (arith, c.wide-i.ensures, c.index.ensures))
 
 pub returns-then-is_listed : goal.returns-then-is_listed
 returns-then-is_listed c =
-    let s = c.before.before.before.before.before.before in
-    let i = c.before.wide-i.ensures ∙ c.before.before.index.ensures in
-    measured_listed s.args.work.now s.args.h.0 s.requires.0 s.requires.1 (listed c.before.before.before) c.listed_length.result
+    let listed : is_listed (node_of c.args.h.0) ≡ true =
+        sym c.is_listed.ensures ∙ c.if-is_listed.true in
+    let s = c in
+    let i = c.wide-i.ensures ∙ c.index.ensures in
+    measured_listed s.args.work.now s.args.h.0 s.requires.0 s.requires.1 listed c.listed_length.result
     (c.listed_length.ensures ∙ ap (λ (k : ℕ). at s.args.work.now (ATOM_LENGTHS + k)) i)
 
 pub small_length-requires : goal.small_length-requires
 small_length-requires c =
-    let l = index_low c.before.before.before.before.args.h.0 in
+    let l = index_low c.args.h.0 in
     omega (arith, c.index-2.ensures)
 
 pub returns : goal.returns
 returns c =
-    let s = c.before.before.before.before.before in
-    measured_small s.args.work.now s.args.h.0 (sym c.before.before.before.is_listed.ensures ∙ c.before.before.if-is_listed.false) s.requires.2 c.small_length.result
-    (c.small_length.ensures ∙ ap (λ (v : ℕ). serialized_length (small_bytes v)) c.before.index-2.ensures)
+    let s = c in
+    measured_small s.args.work.now s.args.h.0 (sym c.is_listed.ensures ∙ c.if-is_listed.false) s.requires.2 c.small_length.result
+    (c.small_length.ensures ∙ ap (λ (v : ℕ). serialized_length (small_bytes v)) c.index-2.ensures)

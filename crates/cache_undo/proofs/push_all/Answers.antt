@@ -16,7 +16,7 @@ pub push-requires : goal.push-requires
 push-requires c =
     let s = c in
     let l = c.loop-i in
-    let e = pushed_next s.args.work.now s.args.from s.requires.3 l.work-1 l.i l.invariant.2 in
+    let e = pushed_next s.args.work.now s.args.from s.requires.3 l.work l.i l.invariant.2 in
     (omega (arith, l.invariant.1), l.invariant.2.stacked, omega arith, rw e (s.requires.5 l.i c.loop-i-test.true))
 
 pub loop-i-preserved : goal.loop-i-preserved

@@ -11,28 +11,29 @@ use Rattle.cache_entries.specs.table.Effects.{option_of}
 use Rattle.cache_entries.proofs.Updating.{sentinel_low, cleared_none, cleared_some}
 use Rattle.cache_update.proofs.take_sentinel.Goals as goal
 
--- The sentinel's entry, where there is one.
-abbrev entry : goal.In-At-2 → ℕ
-entry x = x.in-At.e.0
-
-is : (x : goal.In-At-2) → some (entry x) ≡ entry_or_none (at x.before.before.before.before.before.args.work.now SENTINEL_ENTRY)
-is x = sym (ap option_of x.in-At.is) ∙ x.before.before.sentinel_entry.ensures
-
 pub take_parents-requires : goal.take_parents-requires
 take_parents-requires c =
-    let x = c.before.before in
-    let s = x.before.before.before.before.before in
-    (s.requires.sound, sentinel_low s.args.work.now s.args.work.now (entry x) 0 s.requires (is x))
+    let entry : ℕ =
+        c.in-At.e.0 in
+    let is : some entry ≡ entry_or_none (at c.args.work.now SENTINEL_ENTRY) =
+        sym (ap option_of c.in-At.is) ∙ c.sentinel_entry.ensures in
+    let x = c in
+    let s = x in
+    (s.requires.sound, sentinel_low s.args.work.now s.args.work.now entry 0 s.requires is)
 
 pub returns-in-At : goal.returns-in-At
 returns-in-At c =
-    let t = c.before.before in
-    let x = t.before.before.before in
-    let s = x.before.before.before.before.before in
-    cleared_some s.args.work.now t.take_parents.new.work (entry x) t.take_parents.result s.requires (is x) t.take_parents.ensures
+    let entry : ℕ =
+        c.in-At.e.0 in
+    let is : some entry ≡ entry_or_none (at c.args.work.now SENTINEL_ENTRY) =
+        sym (ap option_of c.in-At.is) ∙ c.sentinel_entry.ensures in
+    let t = c in
+    let x = t in
+    let s = x in
+    cleared_some s.args.work.now t.take_parents.new.work entry t.take_parents.result s.requires is t.take_parents.ensures
 
 pub returns-in-Nothing : goal.returns-in-Nothing
 returns-in-Nothing c =
-    let f = c.before.before in
-    let s = f.before.before.before in
+    let f = c in
+    let s = f in
     cleared_none s.args.work.now s.requires (sym (ap option_of c.in-Nothing.is) ∙ f.sentinel_entry.ensures)

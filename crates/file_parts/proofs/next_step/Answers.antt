@@ -12,74 +12,74 @@ use Rattle.file_parts.specs.PlaceLaws.{size_low}
 use Rattle.file_parts.proofs.LoadLaws.{step_short, step_first, coded, handle_size, number_size, restore_coded}
 use Rattle.file_parts.proofs.next_step.Goals as goal
 
--- The code is that of an add or of a quote.
-of-handle : (x : goal.Joined-then-code-eq1) → let v = x.before.before.number_at-code.result in (v ≡ 1) ⊎ (v ≡ 4)
-of-handle x = ⊎_elim (λ w. inl w.taken) (λ w. inr (eqb-true x.before.before.number_at-code.result 4 w.1.taken)) x.if-code-eq1.branch
-
 pub returns-then-file-at : goal.returns-then-file-at
 returns-then-file-at c =
-    let a = c.before.before.args in
+    let a = c.args in
     let code = number (part a.file.now a.at 1) in
     (step_short a.file.now a.at code refl 1 (size_low (coded a.file.now a.at code)) (omega arith), tt)
 
 pub returns-then-code-eq5 : goal.returns-then-code-eq5
 returns-then-code-eq5 c =
-    let a = c.before.before.before.before.args in
-    let code = c.before.number_at-code in (
+    let a = c.args in
+    let code = c.number_at-code in (
       step_first a.file.now a.at code.result code.ensures _ (ap (coded a.file.now a.at) (sym c.if-code-eq5.true)) (omega arith),
       (omega arith, omega arith),
     )
 
 pub returns-then-left-lt5 : goal.returns-then-left-lt5
 returns-then-left-lt5 c =
-    let a = c.before.before.before.before.before.before.args in
-    let code = c.before.before.before.number_at-code in
-    (step_short a.file.now a.at code.result code.ensures 5 (handle_size a.file.now a.at code.result (of-handle c.before)) (omega arith), tt)
+    let of-handle : let v = c.number_at-code.result in (v ≡ 1) ⊎ (v ≡ 4) =
+        ⊎_elim (λ w. inl w.taken) (λ w. inr (eqb-true c.number_at-code.result 4 w.1.taken)) c.if-code-eq1.branch in
+    let a = c.args in
+    let code = c.number_at-code in
+    (step_short a.file.now a.at code.result code.ensures 5 (handle_size a.file.now a.at code.result of-handle) (omega arith), tt)
 
 pub returns-then-code-eq4-2 : goal.returns-then-code-eq4-2
 returns-then-code-eq4-2 c =
-    let a = c.before.before.before.before.before.before.before.before.args in
-    let code = c.before.before.before.before.before.number_at-code in
-    let operand = c.before.number_at in (
+    let a = c.args in
+    let code = c.number_at-code in
+    let operand = c.number_at in (
       step_first a.file.now a.at code.result code.ensures _ (ap quote operand.ensures ∙ ap (coded a.file.now a.at) (sym c.if-code-eq4-2.true)) (omega arith),
       (omega arith, omega arith),
     )
 
 pub returns-then-code-eq1 : goal.returns-then-code-eq1
 returns-then-code-eq1 c =
-    let a = c.before.before.before.before.before.before.before.before.args in
-    let code = c.before.before.before.before.before.number_at-code in
-    let operand = c.before.number_at in
-    let one : code.result ≡ 1 = ⊎_elim (λ e. e) (λ e. absurd (c.if-code-eq4-2.false e)) (of-handle c.before.before.before) in (
+    let of-handle : let v = c.number_at-code.result in (v ≡ 1) ⊎ (v ≡ 4) =
+        ⊎_elim (λ w. inl w.taken) (λ w. inr (eqb-true c.number_at-code.result 4 w.1.taken)) c.if-code-eq1.branch in
+    let a = c.args in
+    let code = c.number_at-code in
+    let operand = c.number_at in
+    let one : code.result ≡ 1 = ⊎_elim (λ e. e) (λ e. absurd (c.if-code-eq4-2.false e)) of-handle in (
       step_first a.file.now a.at code.result code.ensures _ (ap add operand.ensures ∙ ap (coded a.file.now a.at) (sym one)) (omega arith),
       (omega arith, omega arith),
     )
 
 pub returns-then-left-lt3 : goal.returns-then-left-lt3
 returns-then-left-lt3 c =
-    let b = c.before in
-    let a = b.before.before.before.before.before.before.args in
-    let code = b.before.before.before.number_at-code in
-    let size = number_size a.file.now a.at code.result b.before.before.if-code-eq5.false b.before.if-code-eq1.false (eqb-false code.result 4 b.if-code-eq4.false) in
+    let b = c in
+    let a = b.args in
+    let code = b.number_at-code in
+    let size = number_size a.file.now a.at code.result b.if-code-eq5.false b.if-code-eq1.false (eqb-false code.result 4 b.if-code-eq4.false) in
     (step_short a.file.now a.at code.result code.ensures 3 size (omega arith), tt)
 
 pub returns-then-code-eq3 : goal.returns-then-code-eq3
 returns-then-code-eq3 c =
-    let b = c.before.before.before in
-    let a = b.before.before.before.before.before.before.args in
-    let code = b.before.before.before.number_at-code in
-    let operand = c.before.number_at-number in (
+    let b = c in
+    let a = b.args in
+    let code = b.number_at-code in
+    let operand = c.number_at-number in (
       step_first a.file.now a.at code.result code.ensures _ (ap forget operand.ensures ∙ ap (coded a.file.now a.at) (sym c.if-code-eq3.true)) (omega arith),
       (omega arith, omega arith),
     )
 
 pub returns : goal.returns
 returns c =
-    let b = c.before.before.before in
-    let a = b.before.before.before.before.before.before.args in
-    let code = b.before.before.before.number_at-code in
-    let operand = c.before.number_at-number in
-    let same = restore_coded a.file.now a.at code.result b.before.before.if-code-eq5.false b.before.if-code-eq1.false (eqb-false code.result 4 b.if-code-eq4.false) c.if-code-eq3.false in (
+    let b = c in
+    let a = b.args in
+    let code = b.number_at-code in
+    let operand = c.number_at-number in
+    let same = restore_coded a.file.now a.at code.result b.if-code-eq5.false b.if-code-eq1.false (eqb-false code.result 4 b.if-code-eq4.false) c.if-code-eq3.false in (
       step_first a.file.now a.at code.result code.ensures _ (ap restore operand.ensures ∙ sym same) (omega arith),
       (omega arith, omega arith),
     )

@@ -15,7 +15,7 @@ use Rattle.words.specs.Choice.{cond_true, cond_false, clash}
 use Rattle.words.specs.Words.{part}
 use Rattle.words.specs.BigEndian.{number}
 use Rattle.words.proofs.Words.{part_length}
-use Rattle.allocator.specs.Handle.{Node, pair, listed-atom, small-atom, unknown, node_of, index_of, object_type_of}
+use Rattle.allocator.specs.Handle.{Node, pair, listed_atom, small_atom, unknown, node_of, index_of, object_type_of}
 use Rattle.allocator.specs.SmallAtom.{fits_in_small_atom, fits_answer}
 use Rattle.allocator.specs.declared.ObjectType.{ObjectType}
 use Rattle.allocator.specs.declared.ObjectType.TheVariants.{Pair, Bytes, SmallAtom, Unknown}
@@ -24,7 +24,7 @@ use Rattle.allocator.specs.declared.FitsInSmallAtom.TheVariants.{Small, Listed}
 use Rattle.file_parts.specs.declared.session_file.Part.{Part}
 use Rattle.spec_session.specs.File as format
 use Rattle.spec_session.specs.File.{Got, got, refused, and_then, asked, bytes_of, field, count, version_1, listed, named, handle, one_pair, operand, one_step, add, restore, forget, quote, take_quote}
-use Rattle.file_parts.specs.Answers.{Answers, itself, sized, pair-word, operand-word, atom-of}
+use Rattle.file_parts.specs.Answers.{Answers, itself, sized, pair_word, operand_word, atom-of}
 use Rattle.spec_session.specs.Sentinel.{sentinel_word}
 
 -- ---- questions
@@ -204,8 +204,8 @@ type_named a p Unknown i = false
 
 named_of_type : (a p : ℕ) (n : Node) → type_named a p (object_type_of n) (index_of n) ≡ named a p n
 named_of_type a p (pair i) = refl
-named_of_type a p (listed-atom i) = refl
-named_of_type a p (small-atom v) = refl
+named_of_type a p (listed_atom i) = refl
+named_of_type a p (small_atom v) = refl
 named_of_type a p (unknown k i) = refl
 
 pub named_by_type : (a p : ℕ) (n : Node) (t u : ObjectType) (i : ℕ) → t ≡ object_type_of n → t ≡ u → i ≡ index_of n → type_named a p u i ≡ named a p n
@@ -264,63 +264,63 @@ module _ (input : List ℕ) (p : Part) (at na np : ℕ) (h : Answers input itsel
 -- ---- a pair
 
 module _ (input : List ℕ) (p : Part) (at na np : ℕ) (h : Answers input itself p (handle na np (drop at input))) where
-  pub pair_refused : (p.number ≡ 0 → ⊥) → Answers input pair-word p (one_pair na np (drop at input))
-  pair_refused z = then_refused input itself pair-word p (handle na np (drop at input)) (λ l r. and_then (handle na np r) (λ k s. got (record { left = l; right = k }) s)) h z
+  pub pair_refused : (p.number ≡ 0 → ⊥) → Answers input pair_word p (one_pair na np (drop at input))
+  pair_refused z = then_refused input itself pair_word p (handle na np (drop at input)) (λ l r. and_then (handle na np r) (λ k s. got (record { left = l; right = k }) s)) h z
 
   pub pair_inside : p.number ≡ 0 → p.next ≤ length input
   pair_inside z = (taken input itself p (handle na np (drop at input)) h z).inside
 
-  pub pair_then : p.number ≡ 0 → (q : Part) → Answers input itself q (handle na np (drop p.next input)) → Answers input pair-word q (one_pair na np (drop at input))
+  pub pair_then : p.number ≡ 0 → (q : Part) → Answers input itself q (handle na np (drop p.next input)) → Answers input pair_word q (one_pair na np (drop at input))
   pair_then z q a =
       let t = taken input itself p (handle na np (drop at input)) h z in
-      then_taken input itself pair-word p q (handle na np (drop at input)) (λ l r. and_then (handle na np r) (λ k s. got (record { left = l; right = k }) s)) t
-      (mapped input itself pair-word q (handle na np (drop p.next input)) (λ k. record { left = t.value; right = k }) (λ k. refl) a)
+      then_taken input itself pair_word p q (handle na np (drop at input)) (λ l r. and_then (handle na np r) (λ k s. got (record { left = l; right = k }) s)) t
+      (mapped input itself pair_word q (handle na np (drop p.next input)) (λ k. record { left = t.value; right = k }) (λ k. refl) a)
 
 -- ---- a step
 
 module _ (input : List ℕ) (q : Part) (at na np code : ℕ) where
-  of_code : (n : ℕ) → code ≡ n → Answers input operand-word q (operand na np n (drop at input)) → Answers input operand-word q (operand na np code (drop at input))
-  of_code n e a = subst (λ (k : ℕ). Answers input operand-word q (operand na np k (drop at input))) (sym e) a
+  of_code : (n : ℕ) → code ≡ n → Answers input operand_word q (operand na np n (drop at input)) → Answers input operand_word q (operand na np code (drop at input))
+  of_code n e a = subst (λ (k : ℕ). Answers input operand_word q (operand na np k (drop at input))) (sym e) a
 
   -- The handle of an add or of a quote.
-  pub operand_handle : (code ≡ 1) ⊎ (code ≡ 4) → Answers input itself q (handle na np (drop at input)) → Answers input operand-word q (operand na np code (drop at input))
-  operand_handle (inl e) a = of_code 1 e (mapped input itself operand-word q (handle na np (drop at input)) add (λ k. refl) a)
-  operand_handle (inr e) a = of_code 4 e (mapped input itself operand-word q (handle na np (drop at input)) quote (λ k. refl) a)
+  pub operand_handle : (code ≡ 1) ⊎ (code ≡ 4) → Answers input itself q (handle na np (drop at input)) → Answers input operand_word q (operand na np code (drop at input))
+  operand_handle (inl e) a = of_code 1 e (mapped input itself operand_word q (handle na np (drop at input)) add (λ k. refl) a)
+  operand_handle (inr e) a = of_code 4 e (mapped input itself operand_word q (handle na np (drop at input)) quote (λ k. refl) a)
 
   -- The number of a restore or of a forget.
-  pub operand_number : (code ≡ 2) ⊎ (code ≡ 3) → Answers input itself q (field 2 (drop at input)) → Answers input operand-word q (operand na np code (drop at input))
-  operand_number (inl e) a = of_code 2 e (mapped input itself operand-word q (field 2 (drop at input)) restore (λ k. refl) a)
-  operand_number (inr e) a = of_code 3 e (mapped input itself operand-word q (field 2 (drop at input)) forget (λ k. refl) a)
+  pub operand_number : (code ≡ 2) ⊎ (code ≡ 3) → Answers input itself q (field 2 (drop at input)) → Answers input operand_word q (operand na np code (drop at input))
+  operand_number (inl e) a = of_code 2 e (mapped input itself operand_word q (field 2 (drop at input)) restore (λ k. refl) a)
+  operand_number (inr e) a = of_code 3 e (mapped input itself operand_word q (field 2 (drop at input)) forget (λ k. refl) a)
 
   -- A taking has none.
-  pub operand_take : code ≡ 5 → q.number ≡ 0 → q.value ≡ 0 → q.next ≡ at → at ≤ length input → Answers input operand-word q (operand na np code (drop at input))
+  pub operand_take : code ≡ 5 → q.number ≡ 0 → q.value ≡ 0 → q.next ≡ at → at ≤ length input → Answers input operand_word q (operand na np code (drop at input))
   operand_take e z v n i =
-      of_code 5 e (gives input operand-word q (got take_quote (drop at input)) take_quote (ap (λ (k : ℕ). got take_quote (drop k input)) (sym n)) z v (omega arith))
+      of_code 5 e (gives input operand_word q (got take_quote (drop at input)) take_quote (ap (λ (k : ℕ). got take_quote (drop k input)) (sym n)) z v (omega arith))
 
   pub operand_unknown : (code ≡ 1 → ⊥) → (code ≡ 2 → ⊥) → (code ≡ 3 → ⊥) → (code ≡ 4 → ⊥) → (code ≡ 5 → ⊥) → q.number ≡ 8
-      → Answers input operand-word q (operand na np code (drop at input))
+      → Answers input operand_word q (operand na np code (drop at input))
   operand_unknown d₁ d₂ d₃ d₄ d₅ e =
-      refuses input operand-word q (operand na np code (drop at input)) 8
+      refuses input operand_word q (operand na np code (drop at input)) 8
       (cond_false (eqb code 1) _ _ (ne_eqb code 1 d₁) ∙ cond_false (eqb code 2) _ _ (ne_eqb code 2 d₂) ∙ cond_false (eqb code 3) _ _ (ne_eqb code 3 d₃)
       ∙ cond_false (eqb code 4) _ _ (ne_eqb code 4 d₄) ∙ cond_false (eqb code 5) _ _ (ne_eqb code 5 d₅))
       e (omega arith) (omega arith)
 
 module _ (input : List ℕ) (p : Part) (at na np done : ℕ) (h : Answers input itself p (field 1 (drop at input))) where
-  pub step_refused : (p.number ≡ 0 → ⊥) → Answers input operand-word p (one_step na np done 1024 (drop at input))
-  step_refused z = then_refused input itself operand-word p (field 1 (drop at input)) (λ code r. asked 5 (ltb done 1024) (operand na np code r)) h z
+  pub step_refused : (p.number ≡ 0 → ⊥) → Answers input operand_word p (one_step na np done 1024 (drop at input))
+  step_refused z = then_refused input itself operand_word p (field 1 (drop at input)) (λ code r. asked 5 (ltb done 1024) (operand na np code r)) h z
 
   pub step_inside : p.number ≡ 0 → p.next ≤ length input
   step_inside z = (taken input itself p (field 1 (drop at input)) h z).inside
 
-  pub step_many : p.number ≡ 0 → (q : Part) → 1024 ≤ done → q.number ≡ 5 → Answers input operand-word q (one_step na np done 1024 (drop at input))
+  pub step_many : p.number ≡ 0 → (q : Part) → 1024 ≤ done → q.number ≡ 5 → Answers input operand_word q (one_step na np done 1024 (drop at input))
   step_many z q l e =
-      then_taken input itself operand-word p q (field 1 (drop at input)) _ (taken input itself p (field 1 (drop at input)) h z)
-      (refuses input operand-word q _ 5 (no_asked 5 (ltb done 1024) _ (le-ltb done 1024 l)) e (omega arith) (omega arith))
+      then_taken input itself operand_word p q (field 1 (drop at input)) _ (taken input itself p (field 1 (drop at input)) h z)
+      (refuses input operand_word q _ 5 (no_asked 5 (ltb done 1024) _ (le-ltb done 1024 l)) e (omega arith) (omega arith))
 
-  pub step_then : p.number ≡ 0 → (q : Part) → done < 1024 → Answers input operand-word q (operand na np p.value (drop p.next input))
-      → Answers input operand-word q (one_step na np done 1024 (drop at input))
+  pub step_then : p.number ≡ 0 → (q : Part) → done < 1024 → Answers input operand_word q (operand na np p.value (drop p.next input))
+      → Answers input operand_word q (one_step na np done 1024 (drop at input))
   step_then z q l a =
       let t = taken input itself p (field 1 (drop at input)) h z in
-      then_taken input itself operand-word p q (field 1 (drop at input)) (λ code r. asked 5 (ltb done 1024) (operand na np code r)) t
-      (subst (Answers input operand-word q) (sym (yes_asked 5 (ltb done 1024) _ (lt-ltb done 1024 l)))
-      (subst (λ (n : ℕ). Answers input operand-word q (operand na np n (drop p.next input))) t.word_is a))
+      then_taken input itself operand_word p q (field 1 (drop at input)) (λ code r. asked 5 (ltb done 1024) (operand na np code r)) t
+      (subst (Answers input operand_word q) (sym (yes_asked 5 (ltb done 1024) _ (lt-ltb done 1024 l)))
+      (subst (λ (n : ℕ). Answers input operand_word q (operand na np n (drop p.next input))) t.word_is a))

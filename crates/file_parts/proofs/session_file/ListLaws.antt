@@ -9,7 +9,7 @@ use lib.Seq.{drop-cons}
 use Rattle.file_parts.specs.PlaceLaws.{size_low}
 use Rattle.file_parts.specs.declared.session_file.Part.{Part}
 use Rattle.spec_session.specs.File.{Got, got, and_then, version_1, atom, atoms, Pair, one_pair, pairs, Step, one_step, steps}
-use Rattle.file_parts.specs.Answers.{Answers, sized, pair-word, operand-word, counted}
+use Rattle.file_parts.specs.Answers.{Answers, sized, pair_word, operand_word, counted}
 use Rattle.spec_session.specs.FileLaws.{atom_at, step_at}
 use Rattle.file_parts.proofs.session_file.FieldLaws.{Taken, taken, gives, then_refused}
 
@@ -96,7 +96,7 @@ module _ {input : List ℕ} {at na count next done : ℕ} (s : PairsSoFar input 
       (s.same ∙ ap (λ (n : ℕ). pairs na n s.read (drop next input)) (none_left count done l) ∙ ap (λ (k : ℕ). got s.read (drop k input)) (sym e))
       z (omega (arith, s.long)) (omega arith)
 
-  module _ (h : done < count) (p : Part) (a : Answers input pair-word p (one_pair na done (drop next input))) where
+  module _ (h : done < count) (p : Part) (a : Answers input pair_word p (one_pair na done (drop next input))) where
     next_pair : pairs na count [] (drop at input) ≡ and_then (one_pair na done (drop next input)) (λ q r. pairs na (count - (done + 1)) (s.read ++ q ∷ []) r)
     unfolding pairs
     next_pair =
@@ -104,11 +104,11 @@ module _ {input : List ℕ} {at na count next done : ℕ} (s : PairsSoFar input 
         ∙ ap (λ (k : ℕ). and_then (one_pair na k (drop next input)) (λ q r. pairs na (count - (done + 1)) (s.read ++ q ∷ []) r)) s.long
 
     pub pairs_refused : (p.number ≡ 0 → ⊥) → Answers input counted p (pairs na count [] (drop at input))
-    pairs_refused z = subst (Answers input counted p) (sym next_pair) (then_refused input pair-word counted p (one_pair na done (drop next input)) _ a z)
+    pairs_refused z = subst (Answers input counted p) (sym next_pair) (then_refused input pair_word counted p (one_pair na done (drop next input)) _ a z)
 
     module _ (z : p.number ≡ 0) where
-      one : Taken input pair-word p (one_pair na done (drop next input))
-      one = taken input pair-word p (one_pair na done (drop next input)) a z
+      one : Taken input pair_word p (one_pair na done (drop next input))
+      one = taken input pair_word p (one_pair na done (drop next input)) a z
 
       pub pairs_inside : p.next ≤ length input
       pairs_inside = one.inside
@@ -155,7 +155,7 @@ module _ {input : List ℕ} {at na np next done : ℕ} (s : StepsSoFar input at 
       (s.same ∙ steps_none s.fuel na np 1024 s.read (drop next input) (drop_of_length-le input l) ∙ ap (λ (k : ℕ). got s.read (drop k input)) (sym e))
       z (v ∙ sym s.long) (omega arith)
 
-  module _ (h : next < length input) (p : Part) (a : Answers input operand-word p (one_step na np done 1024 (drop next input))) where
+  module _ (h : next < length input) (p : Part) (a : Answers input operand_word p (one_step na np done 1024 (drop next input))) where
     next_step : steps (length (drop at input)) na np 1024 [] (drop at input)
         ≡ and_then (one_step na np done 1024 (drop next input)) (λ x r. steps (s.fuel - 1) na np 1024 (s.read ++ x ∷ []) r)
     next_step =
@@ -163,11 +163,11 @@ module _ {input : List ℕ} {at na np next done : ℕ} (s : StepsSoFar input at 
         ∙ ap (λ (k : ℕ). and_then (one_step na np k 1024 (drop next input)) (λ x r. steps (s.fuel - 1) na np 1024 (s.read ++ x ∷ []) r)) s.long
 
     pub steps_refused : (p.number ≡ 0 → ⊥) → Answers input counted p (steps (length (drop at input)) na np 1024 [] (drop at input))
-    steps_refused z = subst (Answers input counted p) (sym next_step) (then_refused input operand-word counted p (one_step na np done 1024 (drop next input)) _ a z)
+    steps_refused z = subst (Answers input counted p) (sym next_step) (then_refused input operand_word counted p (one_step na np done 1024 (drop next input)) _ a z)
 
     module _ (z : p.number ≡ 0) where
-      step_taken : Taken input operand-word p (one_step na np done 1024 (drop next input))
-      step_taken = taken input operand-word p (one_step na np done 1024 (drop next input)) a z
+      step_taken : Taken input operand_word p (one_step na np done 1024 (drop next input))
+      step_taken = taken input operand_word p (one_step na np done 1024 (drop next input)) a z
 
       pub steps_inside : p.next ≤ length input
       steps_inside = step_taken.inside

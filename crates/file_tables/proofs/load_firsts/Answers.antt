@@ -11,15 +11,15 @@ pub load_atom-requires : goal.load_atom-requires
 load_atom-requires c =
     let s = c in
     let l = c.loop-i in
-    let h = load_asks _ _ _ s.requires l.work-1 l.i l.invariant.2 (omega arith) in
-    (h.0, h.1, h.2, inside_asks _ _ _ s.requires l.work-1 l.i l.invariant.2 (omega arith))
+    let h = load_asks _ _ _ s.requires l.work l.i l.invariant.2 (omega arith) in
+    (h.0, h.1, h.2, inside_asks _ _ _ s.requires l.work l.i l.invariant.2 (omega arith))
 
 pub loop-i-preserved : goal.loop-i-preserved
 loop-i-preserved c =
     let s = c in
     let l = c.loop-i in
     let t = c.load_atom in
-    (omega arith, t.auto.0 ∙ l.invariant.1, load_more _ _ _ s.requires l.work-1 l.i l.invariant.2 _ (omega arith) t.ensures)
+    (omega arith, t.auto.0 ∙ l.invariant.1, load_more _ _ _ s.requires l.work l.i l.invariant.2 _ (omega arith) t.ensures)
 
 pub shape_of-work : goal.shape_of-work
 shape_of-work c = c.loop-i.invariant.1
@@ -28,4 +28,4 @@ pub returns : goal.returns
 returns c =
     let s = c in
     let l = c.loop-i in
-    all_loaded _ _ _ s.requires l.work-1 l.i l.invariant.2 l.invariant.0 (omega arith)
+    all_loaded _ _ _ s.requires l.work l.i l.invariant.2 l.invariant.0 (omega arith)

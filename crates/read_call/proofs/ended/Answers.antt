@@ -25,8 +25,8 @@ returns-in-Accepted c =
     let s = matched.args in
     let a = c.answer-a in
     let z = c.clear in
-    told s.work-1.now s.pairs-1.now s.atoms-1.now s.bytes-1.now _ _ _ matched.in-Accepted.is
-    (λ i. record { answer = a.ensures i; slices = slices (z.ensures i) s.pairs-1.now s.atoms-1.now s.bytes-1.now })
+    told s.work.now s.pairs.now s.atoms.now s.bytes.now _ _ _ matched.in-Accepted.is
+    (λ i. record { answer = a.ensures i; slices = slices (z.ensures i) s.pairs.now s.atoms.now s.bytes.now })
 
 pub returns-in-Refused : goal.returns-in-Refused
 returns-in-Refused c =
@@ -34,5 +34,5 @@ returns-in-Refused c =
     let matched = cleared in
     let s = matched.args in
     let z = cleared.clear_all.ensures in
-    told s.work-1.now s.pairs-1.now s.atoms-1.now s.bytes-1.now _ _ _ matched.in-Refused.is
+    told s.work.now s.pairs.now s.atoms.now s.bytes.now _ _ _ matched.in-Refused.is
     (λ i. record { answer = c.refusal.ensures i; slices = slices (z.0 i) (z.1 i) (z.2 i) (z.3 i) })

@@ -5,27 +5,23 @@ use borrow.Author.Rules.{rules}
 use Rattle.read_call.proofs.Answers.{lent-start, counted, ended-after}
 use Rattle.read_call.proofs.read_in.Goals as goal
 
--- Where the store was cleared, from where every item is about to be read.
-abbrev cleared : goal.After-read_all-arg-4-1 → goal.After-clear_store
-cleared x = x.before.before.before.before.before.before.before.before.before.before
-
 pub read_all-outcome-requires : goal.read_all-outcome-requires
 read_all-outcome-requires c =
-    let s = (cleared c).before.before.before.before.before.before.before.before.before in
-    let z = (cleared c).clear-store.ensures in
+    let s = c.before.before.before.before.before.before.before.before.before in
+    let z = c.clear-store.ensures in
     lent-start _ _ s.args.pairs.now s.args.atoms.now s.args.bytes.now _ _ _ s.pre.0 s.pre.1 z.0 z.1 z.2
 
 pub ended-requires : goal.ended-requires
 ended-requires c =
-    let read = c.before.before.before.before in
-    counted _ _ _ _ _ _ read.before.before.before.before.before.before.before.before.read_all-outcome.ensures
+    let read = c in
+    counted _ _ _ _ _ _ read.read_all-outcome.ensures
 
 pub returns : goal.returns
 returns c =
-    let answered = c.before.before.before.before.before.before.before.before in
-    let read = answered.before.before.before.before.before in
-    let all_read = read.before.before.before.before.before.before.before.before in
+    let answered = c in
+    let read = answered in
+    let all_read = read in
     let x = all_read.read_all-outcome in
-    let z = (cleared all_read.before).clear-store.auto in
+    let z = c.clear-store.auto in
     ended-after _ _ _ _ _ _ _ _ _ _ x.ensures x.auto.1.0 (x.auto.1.1.0 ∙ z.0) (x.auto.1.1.1.0 ∙ z.1.0) (x.auto.1.1.1.1.0 ∙ z.1.1.0)
     _ answered.ended.ensures

@@ -13,7 +13,7 @@ use Rattle.words.specs.Words.{at}
 use Rattle.words.specs.Lists.{All, all_at}
 use Rattle.atom.specs.Parse.{Parse, blob, refused, parse_at, blob_of}
 use Rattle.path.specs.Bytes.{read_path}
-use Rattle.allocator.specs.Handle.{Node, pair, listed-atom, small-atom, unknown, node_of}
+use Rattle.allocator.specs.Handle.{Node, pair, listed_atom, small_atom, unknown, node_of}
 use Rattle.spec_reading.specs.Format.{ParseOp, SExp, stop, settle, pushed, path_item}
 use Rattle.spec_reading.specs.Store.{Store, Value, Stored, Listed, Led, add_to_list, list_of, lead, push_led, store_values}
 use Rattle.spec_reading.specs.Sound.{Sound, Known, KnownHandle, KnownValue, sound_path_some}
@@ -66,8 +66,8 @@ push_path_is (some bits) s = refl
 
 known_within : (p a : ℕ) (n : Node) → Known p a n → walk_law.Within p n
 known_within p a (pair i) k = k
-known_within p a (listed-atom i) k = tt
-known_within p a (small-atom v) k = tt
+known_within p a (listed_atom i) k = tt
+known_within p a (small_atom v) k = tt
 known_within p a (unknown j i) k = tt
 
 values_known : (p a : ℕ) (w : List ℕ) (n : ℕ) → All (KnownValue p a) (values_of w n) → (k : ℕ) → k < n → KnownHandle p a (at w (VALUES + 2 * k))

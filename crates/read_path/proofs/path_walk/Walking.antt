@@ -11,7 +11,7 @@ use lib.ListN.{length, get_or, take, drop, drop_of_length-le}
 use lib.Seq.{drop-cons, get_or-take}
 use Rattle.words.specs.Choice.{clash}
 use Rattle.words.specs.Words.{at}
-use Rattle.allocator.specs.Handle.{Node, pair, listed-atom, small-atom, unknown, node_of, index_of, is_pair}
+use Rattle.allocator.specs.Handle.{Node, pair, listed_atom, small_atom, unknown, node_of, index_of, is_pair}
 use Rattle.spec_reading.specs.Store.{Store, walk, pick_word}
 use Rattle.read_path.specs.Answers.{down, Within, Reachable}
 
@@ -82,23 +82,23 @@ down_more bits depth i d h l e =
 
 pub pair_within : (m : ℕ) (n : Node) → is_pair n ≡ true → Within m n → index_of n < m
 pair_within m (pair i) e w = w
-pair_within m (listed-atom i) e w = clash cc
-pair_within m (small-atom v) e w = clash cc
+pair_within m (listed_atom i) e w = clash cc
+pair_within m (small_atom v) e w = clash cc
 pair_within m (unknown k i) e w = clash cc
 
 walk_into : (s : Store) (b : Bool) (bs : List Bool) (n : Node) → is_pair n ≡ false → walk s (b ∷ bs) n ≡ none
 unfolding walk
 walk_into s b bs (pair i) e = clash cc
-walk_into s b bs (listed-atom i) e = refl
-walk_into s b bs (small-atom v) e = refl
+walk_into s b bs (listed_atom i) e = refl
+walk_into s b bs (small_atom v) e = refl
 walk_into s b bs (unknown k i) e = refl
 
 walk_down : (s : Store) (b : Bool) (bs : List Bool) (n : Node) → is_pair n ≡ true
     → walk s (b ∷ bs) n ≡ walk s bs (node_of (at s.pairs (2 * index_of n + pick_word b)))
 unfolding walk
 walk_down s b bs (pair i) e = refl
-walk_down s b bs (listed-atom i) e = clash cc
-walk_down s b bs (small-atom v) e = clash cc
+walk_down s b bs (listed_atom i) e = clash cc
+walk_down s b bs (small_atom v) e = clash cc
 walk_down s b bs (unknown k i) e = clash cc
 
 side_low : (b : Bool) (k n : ℕ) → k < n → 2 * k + pick_word b < 2 * n

@@ -13,7 +13,7 @@ small_atom-requires c = (fits_some _ _ (answered_small _ _ (sym c.fits.ensures �
 pub returns-in-Small : goal.returns-in-Small
 returns-in-Small c =
     let a = c.args in
-    small_stored a.atoms-1.now a.bytes-1.now a.used a.size a.blob.now _ c.small_atom.result.0
+    small_stored a.atoms.now a.bytes.now a.used a.size a.blob.now _ c.small_atom.result.0
     (answered_small _ _ (sym c.fits.ensures ∙ c.in-Small.is))
     c.small_atom.ensures
 
@@ -21,7 +21,7 @@ pub returns-in-Listed : goal.returns-in-Listed
 returns-in-Listed c =
     let d = c in
     let a = d.args in
-    listed_stored a.atoms-1.now a.bytes-1.now a.used a.size a.blob.now _ _ _ _ _
+    listed_stored a.atoms.now a.bytes.now a.used a.size a.blob.now _ _ _ _ _
     (answered_listed _ (sym d.fits.ensures ∙ d.in-Listed.is))
     (omega arith)
     (omega arith)

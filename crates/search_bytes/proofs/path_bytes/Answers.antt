@@ -11,34 +11,34 @@ abbrev Read : Type 0
 Read = goal.After-wide-x
 
 abbrev start : Read → goal.Start
-start x = x.before.before.before.before.before.before
+start x = x
 
-node : (x : Read) → x.before.before.wide-a.result ≡ node_at (start x).args.work.now (start x).args.slot
-node x = x.before.before.wide-a.ensures ∙ x.before.before.before.node_of.ensures
+node : (x : Read) → x.wide-a.result ≡ node_at (start x).args.work.now (start x).args.slot
+node x = x.wide-a.ensures ∙ x.node_of.ensures
 
 extra : (x : Read) → x.wide-x.result ≡ extra_at (start x).args.work.now (start x).args.slot
-extra x = x.wide-x.ensures ∙ x.before.extra_of.ensures
+extra x = x.wide-x.ensures ∙ x.extra_of.ensures
 
 pub push_node-node-requires : goal.push_node-node-requires
 push_node-node-requires c =
-    let x = c.before in
+    let x = c in
     let s = start x in
     let r = s.pre.1 in
     ((s.pre.0, rw (node x) r.chain, rw (node x) r.len), node_fits r (node x) (extra x) s.pre.2)
 
 pub push_stack-whole-requires : goal.push_stack-whole-requires
 push_stack-whole-requires c =
-    let n = c.before.before.before in
-    let x = n.before.before in
+    let n = c in
+    let x = n in
     let s = start x in
-    (n.push_node-node.ensures.sound, stack_asks s.pre.1 (node x) (extra x) (n.push_node-node.auto.1.1.0 ∙ s.pre.2) n.push_node-node.ensures)
+    (n.push_node-node.ensures.sound, stack_asks s.pre.1 (node x) (extra x) (n.push_node-node.auto.store ∙ s.pre.2) n.push_node-node.ensures)
 
 pub returns : goal.returns
 returns c =
-    let d = c.before.before.done in
-    let k = c.before.before.before.before.before.before in
-    let n = k.before.before.before.before in
-    let x = n.before.before in
+    let d = c.done in
+    let k = c in
+    let n = k in
+    let x = n in
     let s = start x in
     path_done s.pre.1 (node x) (extra x) n.push_node-node.ensures k.push_stack-whole.ensures d.ensures
-    (d.auto.1.0 ∙ k.push_stack-whole.auto.store ∙ n.push_node-node.auto.1.1.0 ∙ s.pre.2)
+    (d.auto.1.0 ∙ k.push_stack-whole.auto.store ∙ n.push_node-node.auto.store ∙ s.pre.2)

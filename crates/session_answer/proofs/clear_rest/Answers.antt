@@ -6,7 +6,7 @@ use borrow.Author.Rules.{rules}
 use Rattle.session_answer.proofs.clear_rest.Goals as goal
 
 pub returns-then-refused : goal.returns-then-refused
-returns-then-refused c = let a = c.args in cleared_none a.p a.work-1.now a.words-1.now a.output-1.now a.refused c.if-refused.true
+returns-then-refused c = let a = c.args in cleared_none a.p a.work.now a.words.now a.output.now a.refused c.if-refused.true
 
 pub returns : goal.returns
 returns c =
@@ -17,6 +17,6 @@ returns c =
     let run = work-clear in
     let s = run in
     let a = s.args in
-    cleared_all a.p a.work-1.now a.words-1.now a.output-1.now _ _ _ a.refused run.if-refused.false work-clear.clear.ensures
-    (tail_cleared a.words-1.now words.new.0 (3 * a.p.steps) s.requires.0 words.ensures)
-    (tail_cleared a.output-1.now output.new.0 a.p.counts.size s.requires.1 output.ensures)
+    cleared_all a.p a.work.now a.words.now a.output.now _ _ _ a.refused run.if-refused.false work-clear.clear.ensures
+    (tail_cleared a.words.now words.new.0 (3 * a.p.steps) s.requires.0 words.ensures)
+    (tail_cleared a.output.now output.new.0 a.p.counts.size s.requires.1 output.ensures)

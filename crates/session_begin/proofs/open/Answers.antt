@@ -11,30 +11,39 @@ use Rattle.session_state.specs.State.{the_file}
 use Rattle.session_begin.proofs.Opening.{firsts_ask, opened}
 use Rattle.session_begin.proofs.open.Goals as goal
 
--- What is asked of the call, and the words, after the places are loaded.
-pre : (x : goal.After-load_places) → let a = x.before.before.before.before.args in Passed a.file.now (the_file a.file.now) a.checked × (WORK ≤ length a.work-1.now)
-pre x = x.before.before.before.before.requires
-
-long : (x : goal.After-load_places) → WORK ≤ length x.load_places.new.1.0
-long x = omega (arith, x.load_places.auto.1.0, (pre x).1)
-
-abbrev to-places : goal.After-slice_known-3-1 → goal.After-load_places
-to-places x = x.before.before.before.before.before.before.before
-
 pub load_firsts-requires : goal.load_firsts-requires
-load_firsts-requires c = let placed = c.before.before.before.before in firsts_ask (pre placed).0 (long placed) placed.load_places.ensures _ refl
+load_firsts-requires c =
+    let pre : let a = c.args in Passed a.file.now (the_file a.file.now) a.checked × (WORK ≤ length a.work.now) =
+        c.requires in
+    let long : WORK ≤ length c.load_places.new.tables =
+        omega (arith, c.load_places.auto.tables, pre.1) in
+    let placed = c in firsts_ask pre.0 long placed.load_places.ensures _ refl
 
 pub bounds-work-8193 : goal.bounds-work-8193
-bounds-work-8193 c = simp length-set (omega (arith, c.before.before.load_firsts.auto.work, long (to-places c)))
+bounds-work-8193 c =
+    let pre : let a = c.args in Passed a.file.now (the_file a.file.now) a.checked × (WORK ≤ length a.work.now) =
+        c.requires in
+    let long : WORK ≤ length c.load_places.new.tables =
+        omega (arith, c.load_places.auto.tables, pre.1) in
+    simp length-set (omega (arith, c.load_firsts.auto.work, long))
 
 pub bounds-work-8194 : goal.bounds-work-8194
-bounds-work-8194 c = simp length-set (omega (arith, c.before.before.load_firsts.auto.work, long (to-places c)))
+bounds-work-8194 c =
+    let pre : let a = c.args in Passed a.file.now (the_file a.file.now) a.checked × (WORK ≤ length a.work.now) =
+        c.requires in
+    let long : WORK ≤ length c.load_places.new.tables =
+        omega (arith, c.load_places.auto.tables, pre.1) in
+    simp length-set (omega (arith, c.load_firsts.auto.work, long))
 
 pub shape_of-work : goal.shape_of-work
-shape_of-work c = simp length-set (omega (arith, c.before.before.load_firsts.auto.work, (to-places c).load-places.auto.1.0))
+shape_of-work c = simp length-set (omega (arith, c.load_firsts.auto.work, c.load-places.auto.1.0))
 
 pub returns : goal.returns
 returns c =
-    let placed = to-places c in
-    let lf = c.before.before.load_firsts in
-    opened (pre placed).0 (long placed) placed.load_places.ensures _ refl lf.new.0 lf.auto.0 lf.ensures
+    let pre : let a = c.args in Passed a.file.now (the_file a.file.now) a.checked × (WORK ≤ length a.work.now) =
+        c.requires in
+    let long : WORK ≤ length c.load_places.new.tables =
+        omega (arith, c.load_places.auto.tables, pre.1) in
+    let placed = c in
+    let lf = c.load_firsts in
+    opened pre.0 long placed.load_places.ensures _ refl lf.new.0 lf.auto.0 lf.ensures

@@ -4,22 +4,19 @@ use borrow.Author.Rules.{rules}
 use Rattle.session_steps.proofs.Bounds.{used_many, used_ready, used_onward}
 use Rattle.session_steps.proofs.bounded_step.Goals as goal
 
-abbrev to_start : goal.After-space_of-space → goal.Start
-to_start x = x.before.before.before.before.before.before
-
 pub slice_bounds-core_step-end-2 : goal.slice_bounds-core_step-end-2
-slice_bounds-core_step-end-2 c = let known = c.before.before.before in used_many (to_start known).args.output.now known.space_of-space.ensures
+slice_bounds-core_step-end-2 c = let known = c in used_many c.args.output.now known.space_of-space.ensures
 
 pub core_step-requires : goal.core_step-requires
 core_step-requires c =
-    let known = c.before.before.before in
-    let s = to_start known in
+    let known = c in
+    let s = c in
     used_ready s.args.output.now known.space_of-space.ensures s.pre
 
 pub returns : goal.returns
 returns c =
-    let stepped = c.before.before.before.before.before.before in
+    let stepped = c in
     let cs = stepped.core_step in
-    let known = stepped.before.before.before.before in
-    let s = to_start known in
+    let known = stepped in
+    let s = c in
     used_onward s.args.output.now known.space_of-space.ensures s.pre cs.new.1.0 cs.new.1.1.0 cs.new.1.1.1.0 cs.result cs.auto.1.1.1.0 cs.ensures

@@ -44,13 +44,13 @@ module _ {measure : Measure} {input : List ℕ} {f : File} {w words : List ℕ} 
   shown = subst (λ (b : Bool). Shows measure b f (length out) u.state u.past u.session) is_open u.shown
 
   -- The quote's add is the last one.
-  adds-are : p.adds ≡ length u.state.past + 1
-  adds-are = sym u.history.long ∙ ap length shown.1 ∙ length-append u.state.past (u.state.now ∷ [])
+  adds_are : p.adds ≡ length u.state.past + 1
+  adds_are = sym u.history.long ∙ ap length shown.1 ∙ length-append u.state.past (u.state.now ∷ [])
 
   slot : slot_for p.quoted u.left p.adds ≡ p.adds - 1
   slot =
       ap (λ (b : Bool). slot_for b u.left p.adds) is_open
-      ∙ cond_true (ltb (p.adds - 1) 16) (p.adds - 1) 0 (lt-ltb (p.adds - 1) 16 (omega (arith, u.few_adds, adds-are)))
+      ∙ cond_true (ltb (p.adds - 1) 16) (p.adds - 1) 0 (lt-ltb (p.adds - 1) 16 (omega (arith, u.few_adds, adds_are)))
 
   -- ---- a taking
 
@@ -84,17 +84,17 @@ module _ {measure : Measure} {input : List ℕ} {f : File} {w words : List ℕ} 
     row = ap (λ (k : ℕ). get_or rows k blank) (sym slot) ∙ r-is
 
     few : p.adds - 1 < p.adds
-    few = omega (arith, adds-are)
+    few = omega (arith, adds_are)
 
     flag : true ≡ true → p.forgets ≡ true
     flag q = u.quote_saved is_open
 
     drop-takes : (0 < p.adds) × Undoing true w p.depth (p.adds - 1) r
-    drop-takes = (omega (arith, adds-are), undoing true u few row flag)
+    drop-takes = (omega (arith, adds_are), undoing true u few row flag)
 
     -- The session before the quote's add is the one that the definitions have.
     last-at : p.adds - 1 ≡ length u.state.past
-    last-at = omega (arith, adds-are)
+    last-at = omega (arith, adds_are)
 
     was-now : u.state.now ≡ was true u few row flag
     was-now =

@@ -12,26 +12,30 @@ use Rattle.write_item.proofs.Puts.{no_room, has_room, put_byte}
 use Rattle.write_item.proofs.Counting.{put_counted}
 use Rattle.write_item.proofs.write_cons.Goals as goal
 
--- There is room for the byte, after the test.
-room : (x : goal.Else-not-fits) → x.before.before.before.args.counts.size + 1 ≤ length x.before.before.before.args.output.now
-room x = has_room (length x.before.before.before.args.output.now) _ _ x.before.fits2.ensures x.if-not-fits.false
-
 pub returns-then-not-fits : goal.returns-then-not-fits
 returns-then-not-fits c =
-    let a = c.before.before.before.args in
+    let a = c.args in
     let n = a.counts.size in
     record {
-      bytes = sym (put_full a.output.now n (0xff ∷ []) (no_room (length a.output.now) (n + 1) _ c.before.fits2.ensures c.if-not-fits.true));
+      bytes = sym (put_full a.output.now n (0xff ∷ []) (no_room (length a.output.now) (n + 1) _ c.fits2.ensures c.if-not-fits.true));
       counted = tt;
     }
 
 pub bounds-output-size : goal.bounds-output-size
-bounds-output-size c = omega (arith, room c)
+bounds-output-size c =
+    let room : c.args.counts.size + 1 ≤ length c.args.output.now =
+        has_room (length c.args.output.now) _ _ c.fits2.ensures c.if-not-fits.false in
+    omega (arith, room)
 
 pub overflow_add-size : goal.overflow_add-size
-overflow_add-size c = record { fits = omega (arith, room c) }
+overflow_add-size c =
+    let room : c.args.counts.size + 1 ≤ length c.args.output.now =
+        has_room (length c.args.output.now) _ _ c.fits2.ensures c.if-not-fits.false in
+    record { fits = omega (arith, room) }
 
 pub returns : goal.returns
 returns c =
-    let a = c.before.before.before.before.args in
-    put_counted a.output.now _ a.counts cons_item _ 0 (put_byte a.output.now a.counts.size 0xff (omega (arith, room c.before))) refl _ c.with_cons.ensures
+    let room : c.args.counts.size + 1 ≤ length c.args.output.now =
+        has_room (length c.args.output.now) _ _ c.fits2.ensures c.if-not-fits.false in
+    let a = c.args in
+    put_counted a.output.now _ a.counts cons_item _ 0 (put_byte a.output.now a.counts.size 0xff (omega (arith, room))) refl _ c.with_cons.ensures

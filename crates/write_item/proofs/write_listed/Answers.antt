@@ -10,37 +10,34 @@ use Rattle.write_item.proofs.Puts.{put_atom, put_atom_there}
 use Rattle.write_item.proofs.Counting.{few_prefixes, put_counted}
 use Rattle.write_item.proofs.write_listed.Goals as goal
 
-abbrev start : goal.In-Next-2 → goal.Start
-start x = x.before.before.before.before.before.before.before.before
-
 -- The atom was put there, and its prefix has the width that is told.
 module _ (x : goal.In-Next-2) where
-  there : record { answer = next x.in-Next.next; output = x.before.before.before.before.write_atom.new.output }
+  there : record { answer = next x.in-Next.next; output = x.write_atom.new.output }
       ≡ put (start x).args.output.now (start x).args.counts.size (some (item_bytes (atom_item (start x).args.blob.now)))
   there =
-      let w = x.before.before.before.before.write_atom in
+      let w = x.write_atom in
       let s = start x in
       put_atom s.args.output.now s.args.counts.size s.args.blob.now s.pre.1 _
       (sym (ap (λ r. answers.written r w.new.0) x.in-Next.is) ∙ w.ensures.0)
 
   told : item_prefix (atom_item (start x).args.blob.now) ≡ x.in-Next.width
-  told = ap width_or_0 (subst (answers.WidthTold (start x).args.blob.now) x.in-Next.is x.before.before.before.before.write_atom.ensures.1)
+  told = ap width_or_0 (subst (answers.WidthTold (start x).args.blob.now) x.in-Next.is x.write_atom.ensures.1)
 
 pub with_atom-requires : goal.with_atom-requires
 with_atom-requires c =
-    let s = start c.before in
-    few_prefixes s.args.output.now _ s.args.counts (atom_item s.args.blob.now) _ _ (there c.before) (told c.before) s.pre.0
+    let s = c in
+    few_prefixes s.args.output.now _ s.args.counts (atom_item s.args.blob.now) _ _ (there c) (told c) s.pre.0
 
 pub returns-in-Next : goal.returns-in-Next
 returns-in-Next c =
-    let x = c.before.before in
-    let s = start x in
+    let x = c in
+    let s = c in
     put_counted s.args.output.now _ s.args.counts (atom_item s.args.blob.now) _ _ (there x) (told x) _ c.with_atom.ensures
 
 pub returns-in-Full : goal.returns-in-Full
 returns-in-Full c =
-    let put = c.before.before.before.before in
-    let s = put.before.before.before.before in
+    let put = c in
+    let s = put in
     let w = put.write_atom in
     record {
       bytes =
@@ -51,8 +48,8 @@ returns-in-Full c =
 
 pub returns-in-TooLong : goal.returns-in-TooLong
 returns-in-TooLong c =
-    let put = c.before.before.before.before in
-    let s = put.before.before.before.before in
+    let put = c in
+    let s = put in
     let w = put.write_atom in
     put_atom_there s.args.output.now s.args.counts.size s.args.blob.now s.requires.1 w.new.0
     (sym (ap (λ r. answers.written r w.new.0) c.in-TooLong.is) ∙ w.ensures.0)

@@ -19,24 +19,24 @@ abbrev Searched : Type 0
 Searched = goal.After-find
 
 abbrev start : Searched → goal.Start
-start x = x.before.before.before.before.before.before.before.before.before.before
+start x = x
 
 -- The node is next.
 abbrev begun : Searched → Next
 begun x = Parse (start x).args.place (start x).args.node
 
 found : (x : Searched) (r : Path) → x.find.result ≡ r
-    → Found x.find.new.work (start x).args.output.now (start x).args.place (start x).args.node.0 x.before.before.entry_of-e.result.0 r
+    → Found x.find.new.work (start x).args.output.now (start x).args.place (start x).args.node.0 x.entry_of-e.result.0 r
 found x r q =
     let s = start x in
     let f = rw q at x.find.ensures in
     found_there x.find.auto.work f.kept s.args.place s.pre.1 s.args.node s.pre.2
-    (eqb-false _ s.args.node.0 (sym x.before.before.before.before.before.is_sentinel.ensures ∙ x.before.before.before.before.if-is_sentinel.false))
-    x.before.before.entry_of-e.ensures f.ready
+    (eqb-false _ s.args.node.0 (sym x.is_sentinel.ensures ∙ x.if-is_sentinel.false))
+    x.entry_of-e.ensures f.ready
 
 turns : (x : Searched) (path : Path) → x.find.result ≡ path → {w₂ out₂ : List ℕ} {r : Next}
     → TurnsFound (start x).args.file.now x.find.new.work w₂ (start x).args.output.now out₂ (start x).args.place (start x).args.node
-    x.before.before.entry_of-e.result.0 path r
+    x.entry_of-e.result.0 path r
     → (Turns (start x).args.measure (start x).args.file.now (start x).args.work.now w₂ (start x).args.output.now out₂ (begun x) r)
     × Falls (length (start x).args.output.now) (begun x) r
 turns x path q y =
@@ -49,27 +49,27 @@ turns x path q y =
     )
 
 pub returns-then-is_sentinel : goal.returns-then-is_sentinel
-returns-then-is_sentinel c = let s = c.before.before.before.before.before.before in (
-  turns_stop s.args.place s.args.node s.requires.1 s.requires.2 (eqb-true _ s.args.node.0 (sym c.before.is_sentinel.ensures ∙ c.if-is_sentinel.true)),
+returns-then-is_sentinel c = let s = c in (
+  turns_stop s.args.place s.args.node s.requires.1 s.requires.2 (eqb-true _ s.args.node.0 (sym c.is_sentinel.ensures ∙ c.if-is_sentinel.true)),
   omega arith,
 )
 
 pub refer-requires : goal.refer-requires
-refer-requires c = found c.before.before.before.before.before.before.before _ c.before.before.before.in-At.is
+refer-requires c = found c _ c.in-At.is
 
 pub write_full-requires : goal.write_full-requires
 write_full-requires c =
-    let x = c.before.before.before.before.before.before in
+    let x = c in
     let s = start x in
-    (search_places x.find.auto.work x.find.ensures.kept s.args.place s.pre.1 s.pre.0, found x _ c.before.before.in-NoPath.is)
+    (search_places x.find.auto.work x.find.ensures.kept s.args.place s.pre.1 s.pre.0, found x _ c.in-NoPath.is)
 
 pub returns-in-At : goal.returns-in-At
 returns-in-At c =
-    let after = c.before.before.before.before in
-    let x = after.before.before.before.before.before.before.before.before in
-    turns x _ after.before.before.before.before.in-At.is (after.refer.ensures (start x).args.file.now)
+    let after = c in
+    let x = after in
+    turns x _ after.in-At.is (after.refer.ensures (start x).args.file.now)
 
 pub returns-in-NoPath : goal.returns-in-NoPath
 returns-in-NoPath c =
-    let after = c.before.before.before.before in
-    turns after.before.before.before.before.before.before.before _ after.before.before.before.in-NoPath.is after.write_full.ensures
+    let after = c in
+    turns after _ after.in-NoPath.is after.write_full.ensures

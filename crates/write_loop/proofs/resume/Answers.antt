@@ -41,7 +41,7 @@ loop-next-smaller c =
     let k = at-close.loop-next in
     let s = at-close in
     let f = fine_now at-close.in-Close.is k.invariant in
-    loop_falls closed.close_up-next.result k.output-1 k.output-1 at-close.in-Close.is refl (closed.close_up-next.ensures s.args.measure s.args.file.now k.output-1 f).1
+    loop_falls closed.close_up-next.result k.output k.output at-close.in-Close.is refl (closed.close_up-next.ensures s.args.measure s.args.file.now k.output f).1
 
 pub loop-next-preserved : goal.loop-next-preserved
 loop-next-preserved c =
@@ -50,7 +50,7 @@ loop-next-preserved c =
     let k = at-close.loop-next in
     let s = at-close in
     let f = fine_now at-close.in-Close.is k.invariant in
-    loop_turns at-close.in-Close.is k.invariant closed.close_up-next.auto.work refl (closed.close_up-next.ensures s.args.measure s.args.file.now k.output-1 f).0
+    loop_turns at-close.in-Close.is k.invariant closed.close_up-next.auto.work refl (closed.close_up-next.ensures s.args.measure s.args.file.now k.output f).0
 
 pub shape_of-work-in-Done : goal.shape_of-work-in-Done
 shape_of-work-in-Done c = c.loop-next.invariant.long

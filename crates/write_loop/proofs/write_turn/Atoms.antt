@@ -7,7 +7,7 @@ use mathlib.Core.List.{List}
 use native.Mathlib.Omega.{arith}
 use lib.ListN.{length, take, drop, length-take, length-drop}
 use Rattle.words.specs.Words.{at}
-use Rattle.allocator.specs.Handle.{Node, pair, listed-atom, small-atom, unknown, node_of, index_of, is_atom, is_pair}
+use Rattle.allocator.specs.Handle.{Node, pair, listed_atom, small_atom, unknown, node_of, index_of, is_atom, is_pair}
 use Rattle.allocator.specs.SmallAtom.{small_bytes}
 use Rattle.allocator.specs.SmallAtomLaws.{len_at_most, length_small_bytes}
 use Rattle.spec_session.specs.File.{named}
@@ -26,8 +26,8 @@ use Rattle.write_loop.specs.Effects.{AtomPut}
 -- A node that is named and no pair is an atom.
 pub named_atom : (a p : ℕ) (n : Node) → named a p n ≡ true → is_pair n ≡ false → is_atom n ≡ true
 named_atom a p (pair i) q b = absurd (false≢true (sym b))
-named_atom a p (listed-atom i) q b = refl
-named_atom a p (small-atom v) q b = refl
+named_atom a p (listed_atom i) q b = refl
+named_atom a p (small_atom v) q b = refl
 named_atom a p (unknown k i) q b = absurd (false≢true q)
 
 -- A part of a short file is short.
@@ -49,7 +49,7 @@ module _ {file w : List ℕ} {h : ℕ} {out out' : List ℕ} {counts : Counts} {
         bytes = atom_bytes file w x;
         short = part_short file (start_of w x) (end_of w x - start_of w x) places.short;
         are = λ f t th.
-            ap (bytes_named f) (listed_is (node_of h) l ∙ ap listed-atom (sym q))
+            ap (bytes_named f) (listed_is (node_of h) l ∙ ap listed_atom (sym q))
             ∙ sym (th.bytes x (omega (arith, q, t.atom_count, listed_low w h wh n l)));
         answer = a;
       }
@@ -60,6 +60,6 @@ module _ {file w : List ℕ} {h : ℕ} {out out' : List ℕ} {counts : Counts} {
       record {
         bytes = small_bytes v;
         short = omega (arith, length_small_bytes v, len_at_most 3 v (omega (arith, q, index_low h)));
-        are = λ f t th. ap (bytes_named f) (small_is (node_of h) l b ∙ ap small-atom (sym q));
+        are = λ f t th. ap (bytes_named f) (small_is (node_of h) l b ∙ ap small_atom (sym q));
         answer = a;
       }

@@ -10,9 +10,9 @@ number_of-requires c = small_length c.args.v.now (sym c.if-is_small_atom.true �
 
 pub returns-then-is_small_atom : goal.returns-then-is_small_atom
 returns-then-is_small_atom c =
-    answer_small c.args.v.now c.number_of_lem.result
+    answer_small c.args.v.now c.number_of.result
     (sym c.if-is_small_atom.true ∙ c.is_small_atom.ensures)
-    c.number_of_lem.ensures
+    c.number_of.ensures
 
 pub returns-else-is_small_atom : goal.returns-else-is_small_atom
 returns-else-is_small_atom c = answer_listed c.args.v.now (sym c.if-is_small_atom.false ∙ c.is_small_atom.ensures)

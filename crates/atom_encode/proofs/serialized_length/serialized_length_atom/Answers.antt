@@ -16,9 +16,8 @@ overflow_add-result c =
 
 pub returns-in-Width : goal.returns-in-Width
 returns-in-Width c =
-    let width = c.width-1 in
     sym
-    (length_some c.args.atom.now width.given.0.0 (sym c.prefix_width.ensures ∙ ap width_of width.given.1))
+    (length_some c.args.atom.now c.in-Width.width (sym c.prefix_width.ensures ∙ ap width_of c.in-Width.is))
 
 pub returns-in-TooLong : goal.returns-in-TooLong
 returns-in-TooLong c = sym (length_none c.args.atom.now (sym c.prefix_width.ensures ∙ ap width_of c.in-TooLong.is))

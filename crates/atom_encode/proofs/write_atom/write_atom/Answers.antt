@@ -10,41 +10,47 @@ use Rattle.atom.specs.WriteLaws.{put_too_long, put_no_room, put_prefixed}
 use borrow.Author.Rules.{rules}
 use Rattle.atom_encode.proofs.write_atom.write_atom.Goals as goal
 
--- The prefix's width, once it is known.
-width-known : (x : goal.In-Width-2) → prefix_width x.before.before.before.before.before.args.atom.now ≡ some x.in-Width.width
-width-known x = sym x.before.before.prefix_width.ensures ∙ ap width_of x.in-Width.is
-
 pub returns-in_default : goal.returns-in_default
 returns-in_default c =
-    let a = c.before.before.before.before.before.args in
-    (put_too_long a.output-1.now a.position a.atom.now (sym c.before.before.prefix_width.ensures ∙ ap width_of c.in_default.is), tt)
+    let a = c.args in
+    (put_too_long a.output.now a.position a.atom.now (sym c.prefix_width.ensures ∙ ap width_of c.in_default.is), tt)
 
 pub overflow_add-total : goal.overflow_add-total
 overflow_add-total c =
-    let p = prefixed _ _ (width-known c.before) in omega (arith, p.five, p.limit)
+    let width-known : prefix_width c.args.atom.now ≡ some c.in-Width.width =
+        sym c.prefix_width.ensures ∙ ap width_of c.in-Width.is in
+    let p = prefixed _ _ width-known in omega (arith, p.five, p.limit)
 
 pub returns-then-output-total : goal.returns-then-output-total
 returns-then-output-total c =
-    let a = c.before.before.before.before.before.before.before.args in
-    (put_no_room a.output-1.now a.position a.atom.now _ (width-known c.before.before) (omega arith), tt)
+    let width-known : prefix_width c.args.atom.now ≡ some c.in-Width.width =
+        sym c.prefix_width.ensures ∙ ap width_of c.in-Width.is in
+    let a = c.args in
+    (put_no_room a.output.now a.position a.atom.now _ width-known (omega arith), tt)
 
 pub returns-then-output-total-2 : goal.returns-then-output-total-2
 returns-then-output-total-2 c =
-    let a = c.before.before.before.before.before.before.before.before.args in
-    (put_no_room a.output-1.now a.position a.atom.now _ (width-known c.before.before.before) (omega arith), tt)
+    let width-known : prefix_width c.args.atom.now ≡ some c.in-Width.width =
+        sym c.prefix_width.ensures ∙ ap width_of c.in-Width.is in
+    let a = c.args in
+    (put_no_room a.output.now a.position a.atom.now _ width-known (omega arith), tt)
 
 pub write_prefix-requires : goal.write_prefix-requires
 write_prefix-requires c =
-    let p = prefixed _ _ (width-known c.before.before.before.before) in
+    let width-known : prefix_width c.args.atom.now ≡ some c.in-Width.width =
+        sym c.prefix_width.ensures ∙ ap width_of c.in-Width.is in
+    let p = prefixed _ _ width-known in
     (p.five, p.limit, omega arith)
 
 pub returns : goal.returns
 returns c =
-    let copied = c.before.before.copy_bytes in
-    let prefix = c.before.before.before.before.before.before in
-    let known = prefix.before.before.before.before.before in
-    let a = known.before.before.before.before.before.args in (
-      put_prefixed a.output-1.now a.position a.atom.now _ prefix.write_prefix.new.output copied.new.1.0
-          (width-known known) (omega arith) prefix.write_prefix.ensures copied.ensures,
-      width-known known,
+    let width-known : prefix_width c.args.atom.now ≡ some c.in-Width.width =
+        sym c.prefix_width.ensures ∙ ap width_of c.in-Width.is in
+    let copied = c.copy_bytes in
+    let prefix = c in
+    let known = prefix in
+    let a = known.args in (
+      put_prefixed a.output.now a.position a.atom.now _ prefix.write_prefix.new.output copied.new.1.0
+          width-known (omega arith) prefix.write_prefix.ensures copied.ensures,
+      width-known,
     )

@@ -11,7 +11,7 @@ use borrow.Author.Rules.{rules}
 use Rattle.atom_encode.proofs.write_prefix.write_prefix.Goals as goal
 
 pub returns-then-width-eq0 : goal.returns-then-width-eq0
-returns-then-width-eq0 c = let a = c.args in rw c.if-width-eq0.true (paste-zero a.output-1.now a.position (prefix 0 a.size))
+returns-then-width-eq0 c = let a = c.args in rw c.if-width-eq0.true (paste-zero a.output.now a.position (prefix 0 a.size))
 
 pub overflow_add-mark_of : goal.overflow_add-mark_of
 overflow_add-mark_of c = omega (arith, c.mark_of.ensures, mark_bound c.args.width (omega arith))
@@ -19,4 +19,4 @@ overflow_add-mark_of c = omega (arith, c.mark_of.ensures, mark_bound c.args.widt
 pub returns : goal.returns
 returns c =
     let a = c.args in
-    c.write_number.ensures ∙ ap (λ (n : ℕ). paste a.output-1.now a.position (big_endian a.width (n + a.size)) a.width) c.mark_of.ensures
+    c.write_number.ensures ∙ ap (λ (n : ℕ). paste a.output.now a.position (big_endian a.width (n + a.size)) a.width) c.mark_of.ensures

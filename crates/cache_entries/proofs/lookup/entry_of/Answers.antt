@@ -8,23 +8,23 @@ use Rattle.cache_entries.proofs.lookup.Entries.{entry_of_atom, entry_of_pair}
 use borrow.Author.Rules.{rules}
 use Rattle.cache_entries.proofs.lookup.entry_of.Goals as goal
 
--- The handle is a pair's, after the test.
-is_pair : (x : goal.Else-is_atom) → node_of x.before.before.before.args.node.0 ≡ pair (index_of (node_of x.before.before.before.args.node.0))
-is_pair x = let s = x.before.before.before in names_pair s.args.work.now _ s.args.node.0 s.requires.1 (sym x.before.is_atom.ensures ∙ x.if-is_atom.false)
-
 pub atom_entry-requires : goal.atom_entry-requires
-atom_entry-requires c = let s = c.before.before.before in (s.requires.0, s.requires.1, sym c.before.is_atom.ensures ∙ c.if-is_atom.true)
+atom_entry-requires c = let s = c in (s.requires.0, s.requires.1, sym c.is_atom.ensures ∙ c.if-is_atom.true)
 
 pub returns-then-is_atom : goal.returns-then-is_atom
-returns-then-is_atom c = entry_of_atom (sym c.before.before.is_atom.ensures ∙ c.before.if-is_atom.true) c.atom_entry.ensures
+returns-then-is_atom c = entry_of_atom (sym c.is_atom.ensures ∙ c.if-is_atom.true) c.atom_entry.ensures
 
 pub pair_entry-requires : goal.pair_entry-requires
 pair_entry-requires c =
-    let s = c.before.before.before.before.before in
-    let l = pair_low s.args.work.now _ s.args.node.0 _ s.requires.1 (is_pair c.before.before) in
-    (s.requires.0, omega (arith, c.wide.ensures, c.before.index.ensures, l))
+    let is_pair : node_of c.args.node.0 ≡ pair (index_of (node_of c.args.node.0)) =
+        let s = c in names_pair s.args.work.now _ s.args.node.0 s.requires.1 (sym c.is_atom.ensures ∙ c.if-is_atom.false) in
+    let s = c in
+    let l = pair_low s.args.work.now _ s.args.node.0 _ s.requires.1 is_pair in
+    (s.requires.0, omega (arith, c.wide.ensures, c.index.ensures, l))
 
 pub returns : goal.returns
 returns c =
-    let x = c.before in
-    entry_of_pair (is_pair x.before.before ∙ ap pair (sym (x.wide.ensures ∙ x.before.index.ensures))) c.pair_entry.ensures
+    let is_pair : node_of c.args.node.0 ≡ pair (index_of (node_of c.args.node.0)) =
+        let s = c in names_pair s.args.work.now _ s.args.node.0 s.requires.1 (sym c.is_atom.ensures ∙ c.if-is_atom.false) in
+    let x = c in
+    entry_of_pair (is_pair ∙ ap pair (sym (x.wide.ensures ∙ x.index.ensures))) c.pair_entry.ensures

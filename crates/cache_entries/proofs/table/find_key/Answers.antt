@@ -8,41 +8,37 @@ use Rattle.cache_entries.specs.table.Effects.{find_row}
 use Rattle.cache_entries.proofs.table.Chain.{Sought, seek_start, seek_found, seek_less, seek_next, seek_none}
 use Rattle.cache_entries.proofs.table.find_key.Goals as goal
 
--- The call, from the loop.
-abbrev start : goal.At-loop-head → goal.Start
-start k = k.before.before.before.before.before
-
 pub loop-head-init : goal.loop-head-init
-loop-head-init c = let s = c.before.before.before.before in seek_start s.args.work.now s.requires _ _ c.before.slot_of-slot.result c.before.slot_of-slot.ensures
+loop-head-init c = let s = c in seek_start s.args.work.now s.requires _ _ c.slot_of-slot.result c.slot_of-slot.ensures
 
 pub returns-then-work-e-2 : goal.returns-then-work-e-2
 returns-then-work-e-2 c =
-    let f = c.before.before.before in
-    let t = f.before.before.before in
-    let k = t.before.before in
-    let s = start k in
-    let words = k.before.before.before.words_of-k.ensures in
-    seek_found s.args.work.now s.pre _ _ _ k.before.before.slot_of-slot.ensures k.loop-head.head t.wide-e.result k.loop-head.invariant t.before.loop-head-test.true t.wide-e.ensures
+    let f = c in
+    let t = f in
+    let k = t in
+    let s = c in
+    let words = k.words_of-k.ensures in
+    seek_found s.args.work.now s.pre _ _ _ k.slot_of-slot.ensures k.loop-head.head t.wide-e.result k.loop-head.invariant t.loop-head-test.true t.wide-e.ensures
     (f.if-work-e.true, c.if-work-e-2.true)
     ∙ (λ j. find_row (words.0 j) (words.1 j) (rows_of s.args.work.now))
 
 pub loop-head-smaller : goal.loop-head-smaller
 loop-head-smaller c =
-    let t = c.before.before.before.before in
-    let k = t.before.before in
-    let s = start k in
-    seek_less s.args.work.now s.pre _ _ _ k.before.before.slot_of-slot.ensures k.loop-head.head t.wide-e.result k.loop-head.invariant t.before.loop-head-test.true t.wide-e.ensures
+    let t = c in
+    let k = t in
+    let s = c in
+    seek_less s.args.work.now s.pre _ _ _ k.slot_of-slot.ensures k.loop-head.head t.wide-e.result k.loop-head.invariant t.loop-head-test.true t.wide-e.ensures
 
 pub loop-head-preserved : goal.loop-head-preserved
 loop-head-preserved c =
-    let t = c.before.before.before.before in
-    let k = t.before.before in
-    let s = start k in
-    seek_next s.args.work.now s.pre _ _ _ k.before.before.slot_of-slot.ensures k.loop-head.head t.wide-e.result k.loop-head.invariant t.before.loop-head-test.true t.wide-e.ensures
-    (λ has. ⊎_elim (λ x. x.3.left has.1) (λ x. x.left has.0) c.before.if-work-e.branch)
+    let t = c in
+    let k = t in
+    let s = c in
+    seek_next s.args.work.now s.pre _ _ _ k.slot_of-slot.ensures k.loop-head.head t.wide-e.result k.loop-head.invariant t.loop-head-test.true t.wide-e.ensures
+    (λ has. ⊎_elim (λ x. x.3.left has.1) (λ x. x.left has.0) c.if-work-e.branch)
 
 pub returns : goal.returns
 returns c =
-    let words = c.before.before.before.before.words_of-k.ensures in
-    seek_none _ _ _ _ c.before.loop-head.head c.before.loop-head.invariant c.loop-head-test.false
-    ∙ (λ j. find_row (words.0 j) (words.1 j) (rows_of (start c.before).args.work.now))
+    let words = c.words_of-k.ensures in
+    seek_none _ _ _ _ c.loop-head.head c.loop-head.invariant c.loop-head-test.false
+    ∙ (λ j. find_row (words.0 j) (words.1 j) (rows_of c.args.work.now))

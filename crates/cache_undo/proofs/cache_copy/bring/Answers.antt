@@ -9,71 +9,33 @@ use Rattle.cache_undo.specs.cache_copy.Effects.{copied_maps, copied_counts, copi
 use Rattle.cache_undo.proofs.cache_copy.BringLaws.{lists_asked, cache_brought}
 use Rattle.cache_undo.proofs.cache_copy.bring.Goals as goal
 
--- The places before, from each copy and from where the entries are taken off.
-abbrev to-entries : goal.After-take_off → goal.After-wide-n
-to-entries c = c.before.before.before.before
-
-abbrev start : goal.After-take_off → goal.Start
-start c = (to-entries c).before.before.before
-
-abbrev to-off : goal.After-copy_within → goal.After-take_off
-to-off c = c.before.before.before.before
-
-abbrev to-maps : goal.After-copy_within-2 → goal.After-copy_within
-to-maps c = c.before.before.before.before
-
-abbrev to-counts : goal.After-bring_first_links → goal.After-copy_within-2
-to-counts c = c.before.before.before.before
-
--- The map of pairs is that of the copy.
-maps-copied : (c : goal.After-copy_within) →
-    Copied (to-off c).take-off.new.0 c.copy_within.new.words (copied_maps (start (to-off c)).args.k) MAPS (to-off c).before.before.wide2.result
-maps-copied c =
-    let o = to-off c in
-    let s = start o in
-    let b = s.pre.1.1 in
-    let m = o.before.before.wide-pairs in
-    copied _ (copied_maps s.args.k) MAPS m.result (omega (arith, b.sound.long, o.take_off.ensures.len, m.ensures, b.few_pairs))
-    (omega (arith, b.sound.long, o.take_off.ensures.len, m.ensures, b.few_pairs)) _ c.copy_within.ensures
-
--- And so are the counts.
-counts-copied : (c : goal.After-copy_within-2) →
-    Copied (to-maps c).copy_within.new.0 c.copy_within-2.new.words (copied_counts (start (to-off (to-maps c))).args.k) COUNTS (to-entries (to-off (to-maps c))).wide.result
-counts-copied c =
-    let m = to-maps c in
-    let o = to-off m in
-    let s = start o in
-    let b = s.pre.1.1 in
-    let n = (to-entries o).wide in
-    let l = (maps-copied m).len in
-    copied _ (copied_counts s.args.k) COUNTS n.result (omega (arith, b.sound.long, o.take_off.ensures.len, n.ensures, b.copied.used, b.then_sound.used))
-    (omega (arith, b.sound.long, o.take_off.ensures.len, n.ensures, b.copied.used, b.then_sound.used)) _ c.copy_within-2.ensures
-
--- And the first words of the parents.
-firsts-copied : (c : goal.After-bring_first_links) →
-    let d = to-counts c in
-    let o = to-off (to-maps d) in
-    Copied d.copy_within-2.last.0 c.bring_first_links.new.work (copied_firsts (start o).args.k) PARENTS (to-entries o).wide.result
-firsts-copied c =
-    let d = to-counts c in
-    let m = to-maps d in
-    let o = to-off m in
-    let s = start o in
-    let b = s.pre.1.1 in
-    let n = (to-entries o).wide in
-    let l = (counts-copied d).len ∙ (maps-copied m).len in
-    copied _ (copied_firsts s.args.k) PARENTS n.result (omega (arith, b.sound.long, o.take_off.ensures.len, n.ensures, b.copied.used, b.then_sound.used))
-    (omega (arith, b.sound.long, o.take_off.ensures.len, n.ensures, b.copied.used, b.then_sound.used)) _ c.bring_first_links.ensures
-
 pub bring_first_links-requires : goal.bring_first_links-requires
 bring_first_links-requires c =
-    let d = c.before.before.before in
-    let m = to-maps d in
-    let o = to-off m in
-    let s = start o in
+    let start : goal.Start =
+        to-entries.before.before.before in
+    let maps-copied : Copied to-off.take-off.new.0 c.copy_within.new.words (copied_maps (start to-off).args.k) MAPS to-off.before.before.wide2.result =
+        let o = to-off in
+    let s = start in
     let b = s.pre.1.1 in
-    let n = (to-entries o).wide in
-    let l = (counts-copied d).len ∙ (maps-copied m).len in (
+    let m = o.wide-pairs in
+    copied _ (copied_maps s.args.k) MAPS m.result (omega (arith, b.sound.long, o.take_off.ensures.len, m.ensures, b.few_pairs))
+    (omega (arith, b.sound.long, o.take_off.ensures.len, m.ensures, b.few_pairs)) _ c.copy_within.ensures in
+    let counts-copied : Copied to-maps.copy_within.new.0 c.copy_within-2.new.words (copied_counts (start (to-off to-maps)).args.k) COUNTS (to-entries (to-off to-maps)).wide.result =
+        let m = to-maps in
+    let o = to-off in
+    let s = start in
+    let b = s.pre.1.1 in
+    let n = to-entries.wide in
+    let l = maps-copied.len in
+    copied _ (copied_counts s.args.k) COUNTS n.result (omega (arith, b.sound.long, o.take_off.ensures.len, n.ensures, b.copied.used, b.then_sound.used))
+    (omega (arith, b.sound.long, o.take_off.ensures.len, n.ensures, b.copied.used, b.then_sound.used)) _ c.copy_within-2.ensures in
+    let d = c in
+    let m = c in
+    let o = c in
+    let s = start in
+    let b = s.pre.1.1 in
+    let n = c.wide in
+    let l = counts-copied.len ∙ maps-copied.len in (
       omega (arith, b.sound.long, o.take_off.ensures.len),
       omega (arith, n.ensures, b.copied.used, b.then_sound.used),
       omega arith,
@@ -82,25 +44,55 @@ bring_first_links-requires c =
 
 pub bring_lists-requires : goal.bring_lists-requires
 bring_lists-requires c =
-    let f = c.before.before.before in
-    let d = to-counts f in
-    let m = to-maps d in
-    let o = to-off m in
-    let s = start o in
-    let n = (to-entries o).wide in
-    lists_asked s.pre.1.0 s.args.work.now _ _ _ _ s.args.k n.result _ s.pre.0 s.pre.1.1 n.ensures o.before.before.wide-pairs.ensures
-    o.take_off.ensures (maps-copied m) (counts-copied d)
-    (firsts-copied f)
+    let start : goal.Start =
+        to-entries.before.before.before in
+    let maps-copied : Copied to-off.take-off.new.0 c.copy_within.new.words (copied_maps (start to-off).args.k) MAPS to-off.before.before.wide2.result =
+        let o = to-off in
+    let s = start in
+    let b = s.pre.1.1 in
+    let m = o.wide-pairs in
+    copied _ (copied_maps s.args.k) MAPS m.result (omega (arith, b.sound.long, o.take_off.ensures.len, m.ensures, b.few_pairs))
+    (omega (arith, b.sound.long, o.take_off.ensures.len, m.ensures, b.few_pairs)) _ c.copy_within.ensures in
+    let counts-copied : Copied to-maps.copy_within.new.0 c.copy_within-2.new.words (copied_counts (start (to-off to-maps)).args.k) COUNTS (to-entries (to-off to-maps)).wide.result =
+        let m = to-maps in
+    let o = to-off in
+    let s = start in
+    let b = s.pre.1.1 in
+    let n = to-entries.wide in
+    let l = maps-copied.len in
+    copied _ (copied_counts s.args.k) COUNTS n.result (omega (arith, b.sound.long, o.take_off.ensures.len, n.ensures, b.copied.used, b.then_sound.used))
+    (omega (arith, b.sound.long, o.take_off.ensures.len, n.ensures, b.copied.used, b.then_sound.used)) _ c.copy_within-2.ensures in
+    let firsts-copied : let d = to-counts in
+    let o = to-off to-maps in
+    Copied d.copy_within-2.last.0 c.bring_first_links.new.work (copied_firsts start.args.k) PARENTS to-entries.wide.result =
+        let d = to-counts in
+    let m = to-maps in
+    let o = to-off in
+    let s = start in
+    let b = s.pre.1.1 in
+    let n = to-entries.wide in
+    let l = counts-copied.len ∙ maps-copied.len in
+    copied _ (copied_firsts s.args.k) PARENTS n.result (omega (arith, b.sound.long, o.take_off.ensures.len, n.ensures, b.copied.used, b.then_sound.used))
+    (omega (arith, b.sound.long, o.take_off.ensures.len, n.ensures, b.copied.used, b.then_sound.used)) _ c.bring_first_links.ensures in
+    let f = c in
+    let d = c in
+    let m = c in
+    let o = c in
+    let s = start in
+    let n = c.wide in
+    lists_asked s.pre.1.0 s.args.work.now _ _ _ _ s.args.k n.result _ s.pre.0 s.pre.1.1 n.ensures o.wide-pairs.ensures
+    o.take_off.ensures maps-copied counts-copied
+    firsts-copied
 
 pub returns : goal.returns
 returns c v b =
-    let l = c.before.before in
-    let f = l.before.before.before.before in
+    let l = c in
+    let f = l in
     let d = to-counts f in
     let m = to-maps d in
     let o = to-off m in
     let s = start o in
     let n = (to-entries o).wide in
-    cache_brought v s.args.work.now _ _ _ _ s.args.k n.result _ s.pre.0 b n.ensures o.before.before.wide-pairs.ensures
+    cache_brought v s.args.work.now _ _ _ _ s.args.k n.result _ s.pre.0 b n.ensures o.wide-pairs.ensures
     o.take_off.ensures (maps-copied m) (counts-copied d) (firsts-copied f) _
     l.bring_lists.ensures

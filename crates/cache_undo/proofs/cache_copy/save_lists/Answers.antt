@@ -14,31 +14,31 @@ use Rattle.cache_undo.proofs.cache_copy.save_lists.Goals as goal
 
 pub loop-e-init : goal.loop-e-init
 loop-e-init c =
-    let s = c.before in
+    let s = c in
     let w = s.args.work.now in
     (omega arith, omega (arith, further_none w), lists_saved_none w s.args.to)
 
 -- The count of the next entry is as it was.
 count-still : (l : goal.At-loop-e) →
-    let s = l.before.before in
+    let s = l in
     l.loop-e.e < s.args.n → at l.loop-e.work (COUNTS + l.loop-e.e) ≡ at s.args.work.now (COUNTS + l.loop-e.e)
-count-still l h = let s = l.before.before in l.loop-e.invariant.2.low (COUNTS + l.loop-e.e) (omega (arith, s.requires.1, s.requires.3))
+count-still l h = let s = l in l.loop-e.invariant.2.low (COUNTS + l.loop-e.e) (omega (arith, s.requires.1, s.requires.3))
 
 pub overflow_cast-entry : goal.overflow_cast-entry
-overflow_cast-entry c = let s = c.before.before.before in omega (arith, s.requires.1)
+overflow_cast-entry c = let s = c in omega (arith, s.requires.1)
 
 pub count_of-count-requires : goal.count_of-count-requires
 count_of-count-requires c =
-    let l = c.before.before in
-    let s = l.before.before in
+    let l = c in
+    let s = l in
     let h : l.loop-e.e < s.args.n = omega arith in
     (omega (arith, s.requires.0, l.loop-e.invariant.2.len), omega (arith, s.requires.1), omega (arith, s.requires.2 l.loop-e.e h, count-still l h))
 
 pub save_list-next-requires : goal.save_list-next-requires
 save_list-next-requires c =
-    let n = c.before in
-    let l = n.before.before.before in
-    let s = l.before.before in
+    let n = c in
+    let l = n in
+    let s = l in
     let w = s.args.work.now in
     let h : l.loop-e.e < s.args.n = omega arith in
     let k = ap further (n.count_of-count.ensures.0 ∙ count-still l h) in
@@ -53,10 +53,10 @@ save_list-next-requires c =
 
 pub loop-e-preserved : goal.loop-e-preserved
 loop-e-preserved c =
-    let m = c.before.before in
-    let n = m.before.before in
-    let l = n.before.before.before in
-    let s = l.before.before in
+    let m = c in
+    let n = m in
+    let l = n in
+    let s = l in
     let w = s.args.work.now in
     let h : l.loop-e.e < s.args.n = omega arith in
     let k = ap further (n.count_of-count.ensures.0 ∙ count-still l h) in (
@@ -67,11 +67,11 @@ loop-e-preserved c =
     )
 
 pub shape_of-work : goal.shape_of-work
-shape_of-work c = c.before.loop-e.invariant.2.len
+shape_of-work c = c.loop-e.invariant.2.len
 
 pub returns : goal.returns
 returns c =
-    let l = c.before in
-    let s = l.before.before in
+    let l = c in
+    let s = l in
     let done : l.loop-e.e ≡ s.args.n = omega arith in
     subst (λ (x : ℕ). ListsSaved s.args.work.now l.loop-e.work x s.args.to) done l.loop-e.invariant.2

@@ -10,13 +10,9 @@ use Rattle.work_layout.specs.Layout.{USED}
 use Rattle.cache_undo.proofs.cache_copy.TakeLaws.{Taking, taking_none, taking_more, taken_off}
 use Rattle.cache_undo.proofs.cache_copy.take_off.Goals as goal
 
--- The call, from the loop.
-abbrev start : goal.At-loop-e → goal.Start
-start l = l.before.before.before.before
-
 pub loop-e-init : goal.loop-e-init
 loop-e-init c =
-    let s = c.before.before.before in
+    let s = c in
     let q = c.wide-e.ensures in
     (omega (arith, s.requires.1), omega arith, taking_none s.args.work.now c.wide-e.result s.requires.0 q)
 
@@ -25,9 +21,9 @@ bounds-work-e-in-loop-e-3 c = simp length-set (omega arith)
 
 pub loop-e-preserved : goal.loop-e-preserved
 loop-e-preserved c =
-    let f = c.before in
-    let l = f.before.before.before.before in
-    let s = start l in
+    let f = c in
+    let l = f in
+    let s = c in
     let e = l.loop-e.e - 1 in (
       omega arith,
       omega arith,
@@ -35,12 +31,12 @@ loop-e-preserved c =
     )
 
 pub shape_of-work : goal.shape_of-work
-shape_of-work c = simp length-set c.before.loop-e.invariant.2.len
+shape_of-work c = simp length-set c.loop-e.invariant.2.len
 
 pub returns : goal.returns
 returns c =
-    let l = c.before in
-    let s = start l in
+    let l = c in
+    let s = c in
     let w = s.args.work.now in
     let done : l.loop-e.e ≡ s.args.n = omega arith in
     taken_off w l.loop-e.work s.args.n s.pre.0.long (subst (λ (x : ℕ). Taking w l.loop-e.work x) done l.loop-e.invariant.2) (omega (arith, s.pre.0.used))

@@ -14,12 +14,12 @@ pub loop-c-preserved : goal.loop-c-preserved
 loop-c-preserved c =
     let h = c in
     let l : h.loop-c.c < length h.args.buf.now = search rules in
-    (omega arith, zeros_more h.args.buf.now h.loop-c.c l h.loop-c.invariant.1 (eqb-true _ _ c.if-buf-c-eq0.true))
+    (omega arith, zeros_more h.args.buf.now h.loop-c.c l h.loop-c.invariant.1 c.if-buf-c-eq0.true)
 
 pub returns-else-buf-c-eq0 : goal.returns-else-buf-c-eq0
 returns-else-buf-c-eq0 c =
     let h = c in
-    zeros_stop h.args.buf.now h.loop-c.c (search rules) h.loop-c.invariant.1 (eqb-false _ _ c.if-buf-c-eq0.false)
+    zeros_stop h.args.buf.now h.loop-c.c (search rules) h.loop-c.invariant.1 c.if-buf-c-eq0.false
 
 pub returns-after-loop-c : goal.returns-after-loop-c
 returns-after-loop-c c =

@@ -14,20 +14,18 @@ use Rattle.path.specs.Measure.{counted_bytes}
 use Rattle.path_builder.proofs.Counting.{counted_same}
 use Rattle.path_builder.proofs.PathBuilder.serialized_length.Goals as goal
 
--- What the test says: there is a byte, the bits fill the last one, and the first is not small.
-full : (x : goal.Joined-n-gt0) → let a = x.before.before.args in
-    x.if-n-gt0.full ≡ ltb 0 a.self.in_use && (eqb a.self.bit_pos 7 && leb 80 (get_or a.store.now 0 0))
-full x = let s = x.before.before.args.self in
+pub returns : goal.returns
+returns c =
+    let full : let a = c.args in
+    c.if-n-gt0.full ≡ ltb 0 a.self.in_use && (eqb a.self.bit_pos 7 && leb 80 (get_or a.store.now 0 0)) =
+        let s = c.args.self in
     ⊎_elim
     (λ w. w.4 ∙ rw (lt-ltb 0 s.in_use w.0.taken, eq-eqb s.bit_pos 7 w.2.taken))
     (⊎_elim
     (λ w. w.3 ∙ rw (lt-ltb 0 s.in_use w.0.taken, ne_eqb s.bit_pos 7 w.2.left))
     (λ w. w.1 ∙ rw (le-ltb 0 s.in_use w.0.left)))
-    x.if-n-gt0.branch
-
-pub returns : goal.returns
-returns c =
-    let k = c.before.before.shared_slice_known-1 in
-    let o = c.before.before.before in
-    c.counted_bytes.ensures ∙ ap (λ (b : Bool). counted_bytes b o.args.self.in_use) (full c.before)
+    c.if-n-gt0.branch in
+    let k = c.shared-slice-known in
+    let o = c in
+    c.counted_bytes.ensures ∙ ap (λ (b : Bool). counted_bytes b o.args.self.in_use) full
     ∙ counted_same o.args.store.now o.args.self o.requires (all_of (λ (n : ℕ). n < 256) o.args.store.now 0 (λ i l. omega (arith, k.given i)))

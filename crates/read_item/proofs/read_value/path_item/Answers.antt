@@ -9,7 +9,7 @@ use Rattle.read_item.proofs.read_value.path_item.Goals as goal
 pub push_path-requires : goal.push_path-requires
 push_path-requires c =
     let s = c in
-    let g = c.found-1.given in
+    let g = c.found.given in
     (s.requires.0, record { start = g.0.0; there = sym (ap parse-of g.1) ∙ s.requires.1; found = refl })
 
 pub returns-in-SerializationError : goal.returns-in-SerializationError

@@ -15,7 +15,7 @@ pub list_at-requires : goal.list_at-requires
 list_at-requires c =
     let p = c.requires in
     let e = c.listed_among-i.ensures in
-    (p.work-1, record { all = fewer_listed _ _ _ (omega (arith, e)) p.lists; few = omega (arith, e, p.few) })
+    (p.work, record { all = fewer_listed _ _ _ (omega (arith, e)) p.lists; few = omega (arith, e, p.few) })
 
 pub loop-i-init : goal.loop-i-init
 loop-i-init c =
@@ -35,8 +35,8 @@ add_value-b-requires c =
     let p = h.requires in
     let some_left = c.loop-i-test.true in
     record {
-      work = omega (arith, p.work-1, h.loop-i.invariant.1);
-      pairs = omega (arith, p.pairs-1, h.loop-i.invariant.2);
+      work = omega (arith, p.work, h.loop-i.invariant.1);
+      pairs = omega (arith, p.pairs, h.loop-i.invariant.2);
       few = omega (arith, p.few, some_left);
       ghost = one_left _ _ _ _ _ _ _ _ _ _ h.loop-i.invariant.3 some_left p.ghost h.loop-i.invariant.4;
       room = omega (arith, p.room, h.loop-i.invariant.3.total);

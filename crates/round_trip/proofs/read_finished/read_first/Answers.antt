@@ -20,5 +20,5 @@ returns c =
     let l = cut.lesser-n in
     let r = read.nikvoldra_read in
     let a = cut.args in
-    first_read l.result a.session.size a.output.now l.ensures (slices a.work-1.now a.pairs-1.now a.atoms-1.now a.bytes-1.now)
+    first_read l.result a.session.size a.output.now l.ensures (slices a.work.now a.pairs.now a.atoms.now a.bytes.now)
     (read_result_of r.result r.new.1.0 r.new.1.1.0 r.new.1.1.1.0 r.new.1.1.1.1.0) r.ensures.0

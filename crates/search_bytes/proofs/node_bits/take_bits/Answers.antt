@@ -7,40 +7,42 @@ use Rattle.search_bytes.proofs.Taking.{Taking, taking_start, taking_fits, taking
 use Rattle.search_bytes.proofs.node_bits.take_bits.Goals as goal
 
 pub loop-taken-init : goal.loop-taken-init
-loop-taken-init c = (omega arith, taking_start c.before.requires.1)
-
--- One bit more fits into the number.
-fits : (x : goal.In-loop-taken) → x.before.loop-taken.number * 2 + 1 < 2 ^ 64
-fits x = taking_fits x.before.loop-taken.invariant.1 (omega (arith, x.loop-taken-test.true, x.before.before.before.requires.3))
+loop-taken-init c = (omega arith, taking_start c.requires.1)
 
 pub overflow_mul-number : goal.overflow_mul-number
-overflow_mul-number c = record { fits = omega (arith, fits c) }
+overflow_mul-number c =
+    let fits : c.loop-taken.number * 2 + 1 < 2 ^ 64 =
+        taking_fits c.loop-taken.invariant.1 (omega (arith, c.loop-taken-test.true, c.requires.3)) in
+    record { fits = omega (arith, fits) }
 
 pub overflow_add-number : goal.overflow_add-number
-overflow_add-number c = omega (arith, c.before.loop-taken.invariant.1.chain.few)
+overflow_add-number c = omega (arith, c.loop-taken.invariant.1.chain.few)
 
 pub offset_bounds-work-node : goal.offset_bounds-work-node
-offset_bounds-work-node c = omega (arith, c.before.loop-taken.invariant.1.chain.few)
+offset_bounds-work-node c = omega (arith, c.loop-taken.invariant.1.chain.few)
 
 pub bounds-work-node : goal.bounds-work-node
-bounds-work-node c = omega (arith, c.before.before.before.before.requires.0, c.before.before.loop-taken.invariant.1.chain.few)
+bounds-work-node c = omega (arith, c.requires.0, c.loop-taken.invariant.1.chain.few)
 
 pub overflow_add-number-in-loop-taken : goal.overflow_add-number-in-loop-taken
-overflow_add-number-in-loop-taken c = record { fits = omega (arith, fits c.before) }
+overflow_add-number-in-loop-taken c =
+    let fits : c.loop-taken.number * 2 + 1 < 2 ^ 64 =
+        taking_fits c.loop-taken.invariant.1 (omega (arith, c.loop-taken-test.true, c.requires.3)) in
+    record { fits = omega (arith, fits) }
 
 pub overflow_add-node : goal.overflow_add-node
-overflow_add-node c = omega (arith, c.before.before.loop-taken.invariant.1.chain.few)
+overflow_add-node c = omega (arith, c.loop-taken.invariant.1.chain.few)
 
 pub offset_bounds-work-node-in-loop-taken : goal.offset_bounds-work-node-in-loop-taken
-offset_bounds-work-node-in-loop-taken c = omega (arith, c.before.before.loop-taken.invariant.1.chain.few)
+offset_bounds-work-node-in-loop-taken c = omega (arith, c.loop-taken.invariant.1.chain.few)
 
 pub bounds-work-node-in-loop-taken : goal.bounds-work-node-in-loop-taken
-bounds-work-node-in-loop-taken c = omega (arith, c.before.before.before.before.before.requires.0, c.before.before.before.loop-taken.invariant.1.chain.few)
+bounds-work-node-in-loop-taken c = omega (arith, c.requires.0, c.loop-taken.invariant.1.chain.few)
 
 pub loop-taken-preserved : goal.loop-taken-preserved
 loop-taken-preserved c =
-    let t = c.before.before.before in
-    (omega arith, taking_more t.before.loop-taken.invariant.1 (omega (arith, t.loop-taken-test.true, t.before.before.before.requires.2)) c.wide-node.ensures)
+    let t = c in
+    (omega arith, taking_more t.loop-taken.invariant.1 (omega (arith, t.loop-taken-test.true, t.requires.2)) c.wide-node.ensures)
 
 pub returns : goal.returns
-returns c = let l = c.before.loop-taken in taken l.invariant.1 {c = c.before.before.before.args.count} (omega (arith, l.invariant.0, c.loop-taken-test.false))
+returns c = let l = c.loop-taken in taken l.invariant.1 {c = c.args.count} (omega (arith, l.invariant.0, c.loop-taken-test.false))

@@ -11,7 +11,7 @@ use Rattle.search_bytes.proofs.Pushing.{Pushing, one_holds, push_start, push_roo
 use Rattle.search_bytes.proofs.push_number.push_number.Goals as goal
 
 pub loop-left-init : goal.loop-left-init
-loop-left-init c = let a = c.args in push_start a.store-1.now a.builder a.count (with_number a.count a.number) c.requires.0
+loop-left-init c = let a = c.args in push_start a.store.now a.builder a.count (with_number a.count a.number) c.requires.0
 
 pub push-longer-requires : goal.push-longer-requires
 push-longer-requires c =
@@ -33,4 +33,4 @@ pub returns : goal.returns
 returns c =
     let l = c.loop-left in
     let e : l.left ≡ 0 = omega (arith, c.loop-left-test.false) in
-    push_end l.invariant (ap (λ (n : ℕ). with_number n l.rest (built l.store-1 l.longer)) e)
+    push_end l.invariant (ap (λ (n : ℕ). with_number n l.rest (built l.store l.longer)) e)

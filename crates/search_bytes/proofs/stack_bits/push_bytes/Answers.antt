@@ -10,7 +10,7 @@ use Rattle.search_bytes.proofs.Pushing.{Pushing, push_start, push_fits, push_mor
 use Rattle.search_bytes.proofs.stack_bits.push_bytes.Goals as goal
 
 pub loop-left-init : goal.loop-left-init
-loop-left-init c = let a = c.args in push_start a.store-1.now a.builder (8 * a.bytes) (trues (8 * a.bytes)) c.requires.0
+loop-left-init c = let a = c.args in push_start a.store.now a.builder (8 * a.bytes) (trues (8 * a.bytes)) c.requires.0
 
 pub push_eight-longer-requires : goal.push_eight-longer-requires
 push_eight-longer-requires c =
@@ -23,7 +23,7 @@ loop-left-preserved c =
     let t = c in
     let l = t.loop-left in
     push_more l.invariant _ _ p.ensures p.auto.0 (omega (arith, t.loop-left-test.true))
-    (ones_next (8 * l.left) (8 * (l.left - 1)) 8 (built l.store-1 l.longer) (omega (arith, t.loop-left-test.true)))
+    (ones_next (8 * l.left) (8 * (l.left - 1)) 8 (built l.store l.longer) (omega (arith, t.loop-left-test.true)))
 
 pub shape_of-store : goal.shape_of-store
 shape_of-store c = c.loop-left.invariant.len
@@ -32,4 +32,4 @@ pub returns : goal.returns
 returns c =
     let l = c.loop-left in
     let e : 8 * l.left ≡ 0 = omega (arith, c.loop-left-test.false) in
-    push_end l.invariant (ap (λ (n : ℕ). trues n (built l.store-1 l.longer)) e)
+    push_end l.invariant (ap (λ (n : ℕ). trues n (built l.store l.longer)) e)

@@ -12,64 +12,72 @@ use Rattle.search_bytes.specs.Built.{Holds}
 use Rattle.search_bytes.proofs.Pushing.{ones_hold, ones_fits, ones_more}
 use Rattle.search_bytes.proofs.stack_bits.push_ones.Goals as goal
 
--- The call, from where the last byte is filled, and what it has then.
-abbrev start : goal.After-push_number-filled → goal.Start
-start x = x.before.before.before.before.before
-
-abbrev bits : goal.After-push_number-filled → List Bool
-bits x = built (start x).args.store.now (start x).args.builder
-
-abbrev first : goal.After-push_number-filled → ℕ
-first x = ((start x).args.builder.bit_pos + 1) % 8
-
-few : (x : goal.After-push_number-filled) → first x ≤ (start x).args.ones
-few x = omega (arith, x.before.before.before.if-ones-lt8.false)
-
-ones_first : (x : goal.After-push_number-filled) → Holds x.push_number-filled.new.store x.push_number-filled.result (trues (first x) (bits x))
-ones_first x = ones_hold (first x) (bits x) (omega arith) x.push_number-filled.ensures
-
--- Where the whole bytes are pushed.
-abbrev filled : goal.After-push_bytes-whole → goal.After-push_number-filled
-filled x = x.before.before.before.before
-
-abbrev full : goal.After-push_number-filled → ℕ
-full x = 8 * (((start x).args.ones - first x) / 8)
-
-whole : (x : goal.After-push_bytes-whole) → Holds x.push_bytes-whole.new.store x.push_bytes-whole.result (trues (full (filled x) + first (filled x)) (bits (filled x)))
-whole x =
-    let f = filled x in
-    ones_more (bits f) (first f) (full f) (full f + first f) (ones_first f) x.push_bytes-whole.ensures refl
-
 pub returns-then-ones-lt8 : goal.returns-then-ones-lt8
 returns-then-ones-lt8 c =
-    let t = c.before.before.before.before in
-    let a = t.before.before.args in
-    ones_hold a.ones (built a.store-1.now a.builder) (omega (arith, t.if-ones-lt8.true)) c.before.before.push_number.ensures
+    let t = c in
+    let a = t.args in
+    ones_hold a.ones (built a.store.now a.builder) (omega (arith, t.if-ones-lt8.true)) c.push_number.ensures
 
 pub push_bytes-whole-requires : goal.push_bytes-whole-requires
 push_bytes-whole-requires c =
-    let x = c.before.before.before in
-    let s = start x in
+    let first : ℕ =
+        (start.args.builder.bit_pos + 1) % 8 in
+    let bits : List Bool =
+        built start.args.store.now start.args.builder in
+    let full : ℕ =
+        8 * ((start.args.ones - first) / 8) in
+    let ones_first : Holds c.push_number-filled.new.store c.push_number-filled.result (trues first bits) =
+        ones_hold first bits (omega arith) c.push_number-filled.ensures in
+    let few : first ≤ start.args.ones =
+        omega (arith, c.if-ones-lt8.false) in
+    let x = c in
+    let s = c in
     let f = x.push_number-filled in (
       f.ensures.sound,
-      ones_fits s.args.store.now f.new.0 f.result (bits x) (first x) (full x) s.args.ones s.pre.1 f.auto.0 (ones_first x) (omega (arith, few x)),
+      ones_fits s.args.store.now f.new.0 f.result bits first full s.args.ones s.pre.1 f.auto.0 ones_first (omega (arith, few)),
     )
 
 pub push_number-requires-2 : goal.push_number-requires-2
 push_number-requires-2 c =
-    let w = c.before.before.before in
-    let x = filled w in
-    let s = start x in
+    let first : ℕ =
+        (start.args.builder.bit_pos + 1) % 8 in
+    let bits : List Bool =
+        built start.args.store.now start.args.builder in
+    let full : ℕ =
+        8 * ((start.args.ones - first) / 8) in
+    let ones_first : Holds c.push_number-filled.new.store c.push_number-filled.result (trues first bits) =
+        ones_hold first bits (omega arith) c.push_number-filled.ensures in
+    let whole : Holds c.push_bytes-whole.new.store c.push_bytes-whole.result (trues (full + first filled) (bits filled)) =
+        let f = filled in
+    ones_more bits first full (full + first) ones_first c.push_bytes-whole.ensures refl in
+    let few : first ≤ start.args.ones =
+        omega (arith, c.if-ones-lt8.false) in
+    let w = c in
+    let x = c in
+    let s = c in
     let b = w.push_bytes-whole in (
       b.ensures.sound,
-      ones_fits s.args.store.now b.new.0 b.result (bits x) (full x + first x) ((s.args.ones - first x) % 8) s.args.ones s.pre.1
-          (b.auto.0 ∙ x.push_number-filled.kept.0) (whole w) (omega (arith, few x)),
+      ones_fits s.args.store.now b.new.0 b.result bits (full + first) ((s.args.ones - first) % 8) s.args.ones s.pre.1
+          (b.auto.0 ∙ x.push_number-filled.kept.0) whole (omega (arith, few)),
     )
 
 pub returns : goal.returns
 returns c =
-    let w = c.before.before.before.before.before.before in
-    let x = filled w in
-    let n = (start x).args.ones in
-    ones_more (bits x) (full x + first x) ((n - first x) % 8) n (whole w)
-    (ones_hold ((n - first x) % 8) (built w.push_bytes-whole.new.store w.push_bytes-whole.result) (omega arith) c.before.before.push_number-2.ensures) (omega (arith, few x))
+    let first : ℕ =
+        (start.args.builder.bit_pos + 1) % 8 in
+    let bits : List Bool =
+        built start.args.store.now start.args.builder in
+    let full : ℕ =
+        8 * ((start.args.ones - first) / 8) in
+    let ones_first : Holds c.push_number-filled.new.store c.push_number-filled.result (trues first bits) =
+        ones_hold first bits (omega arith) c.push_number-filled.ensures in
+    let whole : Holds c.push_bytes-whole.new.store c.push_bytes-whole.result (trues (full + first filled) (bits filled)) =
+        let f = filled in
+    ones_more bits first full (full + first) ones_first c.push_bytes-whole.ensures refl in
+    let few : first ≤ start.args.ones =
+        omega (arith, c.if-ones-lt8.false) in
+    let w = c in
+    let x = c in
+    let n = c.args.ones in
+    ones_more bits (full + first) ((n - first) % 8) n whole
+    (ones_hold ((n - first) % 8) (built w.push_bytes-whole.new.store w.push_bytes-whole.result) (omega arith) c.push_number-2.ensures) (omega (arith, few))

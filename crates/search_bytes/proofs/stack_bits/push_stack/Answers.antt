@@ -11,7 +11,7 @@ pub push_ones-requires : goal.push_ones-requires
 push_ones-requires c =
     let p = c in
     let t = p in
-    (p.push-longer.ensures.sound, stack_fits t.if-x-eq0.false t.requires.1 p.push-longer.auto.1.0 p.push-longer.ensures)
+    (p.push-longer.ensures.sound, stack_fits t.if-x-eq0.false t.requires.1 p.push-longer.auto.store p.push-longer.ensures)
 
 pub returns : goal.returns
 returns c =

@@ -6,29 +6,29 @@ use native.Mathlib.Omega.{arith}
 use Rattle.search_list.specs.State.{count_at}
 use Rattle.search_list.proofs.search_copies.add_copies.Goals as goal
 
--- The parent of this turn is one of the entry's.
-next : (x : goal.In-loop-i) → x.before.loop-i.i < count_at x.before.before.before.args.work.now x.before.before.before.args.e.0
-next x = omega (arith, x.loop-i-test.true, x.before.before.before.requires.1.3)
-
 pub loop-i-init : goal.loop-i-init
 loop-i-init c =
-    let s = c.before in
+    let s = c in
     copying_start s.args.work.now s.args.e.0 s.args.s.nodes s.args.first s.args.s.paths (omega (arith, s.requires.1.1, s.requires.1.3)) s.requires.0.2
 
 pub add_copy-paths-requires : goal.add_copy-paths-requires
 add_copy-paths-requires c =
-    let s = c.before.before.before.before in
-    copying_asks s.requires.0.0 s.requires.0.1 s.requires.1.0 (omega (arith, s.requires.1.2, s.requires.1.3)) c.before.before.loop-i.invariant (next c.before)
+    let next : c.loop-i.i < count_at c.args.work.now c.args.e.0 =
+        omega (arith, c.loop-i-test.true, c.requires.1.3) in
+    let s = c in
+    copying_asks s.requires.0.0 s.requires.0.1 s.requires.1.0 (omega (arith, s.requires.1.2, s.requires.1.3)) c.loop-i.invariant next
 
 pub loop-i-preserved : goal.loop-i-preserved
 loop-i-preserved c =
-    let s = c.before.before.before.before.before.before.before in
-    let a = c.before.before.add_copy-paths in
-    copying_more s.requires.0.0 s.requires.0.1 s.requires.1.0 c.before.before.before.before.before.loop-i.invariant (next c.before.before.before.before) a.auto.0 a.ensures
+    let next : c.loop-i.i < count_at c.args.work.now c.args.e.0 =
+        omega (arith, c.loop-i-test.true, c.requires.1.3) in
+    let s = c in
+    let a = c.add_copy-paths in
+    copying_more s.requires.0.0 s.requires.0.1 s.requires.1.0 c.loop-i.invariant next a.auto.0 a.ensures
 
 pub shape_of-work : goal.shape_of-work
-shape_of-work c = c.before.loop-i.invariant.len
+shape_of-work c = c.loop-i.invariant.len
 
 pub returns : goal.returns
 returns c =
-    copying_end c.before.loop-i.invariant (omega (arith, c.loop-i-test.false, c.before.before.before.requires.1.3))
+    copying_end c.loop-i.invariant (omega (arith, c.loop-i-test.false, c.requires.1.3))

@@ -10,37 +10,40 @@ use native.Mathlib.Omega.{arith}
 use borrow.Author.Rules.{rules}
 use Rattle.search_list.proofs.search_copies.add_copy.Goals as goal
 
--- The parent is an entry in use.
-low : (x : goal.After-parent_at-p) → x.parent_at-p.result.0 < 2 * at x.before.before.before.args.work.now USED
-low x =
-    let s = x.before.before.before in
-    omega (arith, x.parent_at-p.ensures, s.requires.0.0.links s.args.e.0 s.args.i s.requires.1.0 s.requires.1.1)
-
--- Whether it is seen.
-seen : (x : goal.After-is_seen) → x.is_seen.result ≡ seen_at x.before.before.before.before.before.before.args.work.now (x.before.before.before.parent_at-p.result.0 / 2)
-seen x = x.is_seen.ensures ∙ ap (seen_at x.before.before.before.before.before.before.args.work.now) x.before.entry.ensures
-
 pub parent_at-p-requires : goal.parent_at-p-requires
 parent_at-p-requires c =
-    let s = c.before.before in
+    let s = c in
     (s.requires.0.0.long, s.requires.1.0, omega (arith, s.requires.0.0.counts s.args.e.0 s.requires.1.0))
 
 pub is_seen-requires : goal.is_seen-requires
 is_seen-requires c =
-    let s = c.before.before.before.before.before in
-    (s.requires.0.0.long, omega (arith, c.entry.ensures, low c.before.before, s.requires.0.0.used))
+    let low : c.parent_at-p.result.0 < 2 * at c.args.work.now USED =
+        let s = c in
+    omega (arith, c.parent_at-p.ensures, s.requires.0.0.links s.args.e.0 s.args.i s.requires.1.0 s.requires.1.1) in
+    let s = c in
+    (s.requires.0.0.long, omega (arith, c.entry.ensures, low, s.requires.0.0.used))
 
 pub returns-then-is_seen : goal.returns-then-is_seen
 returns-then-is_seen c =
-    let v = c.before.before.before.before in
-    let s = v.before.before.before in
-    copy_seen s.args.work.now s.args.nodes s.args.paths s.requires.0.1 s.requires.0.2 s.requires.0.0 v.parent_at-p.result.0 _ v.parent_at-p.ensures (low v)
-    (sym c.if-is_seen.true ∙ seen c.before)
+    let seen : c.is_seen.result ≡ seen_at c.args.work.now (c.parent_at-p.result.0 / 2) =
+        c.is_seen.ensures ∙ ap (seen_at c.args.work.now) c.entry.ensures in
+    let low : c.parent_at-p.result.0 < 2 * at c.args.work.now USED =
+        let s = c in
+    omega (arith, c.parent_at-p.ensures, s.requires.0.0.links s.args.e.0 s.args.i s.requires.1.0 s.requires.1.1) in
+    let v = c in
+    let s = v in
+    copy_seen s.args.work.now s.args.nodes s.args.paths s.requires.0.1 s.requires.0.2 s.requires.0.0 v.parent_at-p.result.0 _ v.parent_at-p.ensures low
+    (sym c.if-is_seen.true ∙ seen)
 
 pub returns : goal.returns
 returns c =
-    let p = c.before.before.put_at_entry in
-    let v = c.before.before.before.before.before.before.before.before in
-    let s = v.before.before.before in
+    let seen : c.is_seen.result ≡ seen_at c.args.work.now (c.parent_at-p.result.0 / 2) =
+        c.is_seen.ensures ∙ ap (seen_at c.args.work.now) c.entry.ensures in
+    let low : c.parent_at-p.result.0 < 2 * at c.args.work.now USED =
+        let s = c in
+    omega (arith, c.parent_at-p.ensures, s.requires.0.0.links s.args.e.0 s.args.i s.requires.1.0 s.requires.1.1) in
+    let p = c.put_at_entry in
+    let v = c in
+    let s = v in
     copy_new s.args.work.now s.args.nodes s.args.paths s.requires.0.1 s.requires.0.2 s.requires.0.0 p.new.0 v.parent_at-p.result.0 _
-    v.parent_at-p.ensures (low v) s.requires.1.2 (sym c.before.before.before.before.if-is_seen.false ∙ seen c.before.before.before.before.before) p.ensures
+    v.parent_at-p.ensures low s.requires.1.2 (sym c.if-is_seen.false ∙ seen) p.ensures

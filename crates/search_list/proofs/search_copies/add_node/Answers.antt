@@ -11,43 +11,47 @@ use borrow.Author.Rules.{rules}
 use Rattle.work_layout.specs.Layout.{LENS}
 use Rattle.search_list.proofs.search_copies.add_node.Goals as goal
 
--- No node has more bits than there are nodes.
-short : (x : goal.After-len_of-l) → x.len_of_lem.result ≤ most_visits
-short x =
-    let s = x.before.before.before.before.before.before.before.before in
-    let a = x.before.before.before.before.before.node_of-a.ensures in
-    let l = x.before.wide in
-    omega (arith, s.requires.0.1.short l.result (omega (arith, a, s.requires.1.0, l.ensures)), x.len_of_lem.ensures, l.ensures, a, s.requires.1.0, s.requires.0.2)
-
 pub bounds-work-k-2 : goal.bounds-work-k-2
 bounds-work-k-2 c = simp length-set (omega arith)
 
 pub overflow_add-work-3 : goal.overflow_add-work-3
-overflow_add-work-3 c = omega (arith, short c)
+overflow_add-work-3 c =
+    let short : c.len_of-l.result ≤ most_visits =
+        let s = c in
+    let a = c.node_of-a.ensures in
+    let l = c.wide in
+    omega (arith, s.requires.0.1.short l.result (omega (arith, a, s.requires.1.0, l.ensures)), c.len_of-l.ensures, l.ensures, a, s.requires.1.0, s.requires.0.2) in
+    omega (arith, short)
 
 pub overflow_cast-work : goal.overflow_cast-work
-overflow_cast-work c = omega (arith, short c)
+overflow_cast-work c =
+    let short : c.len_of-l.result ≤ most_visits =
+        let s = c in
+    let a = c.node_of-a.ensures in
+    let l = c.wide in
+    omega (arith, s.requires.0.1.short l.result (omega (arith, a, s.requires.1.0, l.ensures)), c.len_of-l.ensures, l.ensures, a, s.requires.1.0, s.requires.0.2) in
+    omega (arith, short)
 
 pub bounds-work-k-3 : goal.bounds-work-k-3
 bounds-work-k-3 c = simp length-set (omega arith)
 
 pub mark_seen-requires : goal.mark_seen-requires
 mark_seen-requires c =
-    let s = c.before.before.before.before.before.before.before.before.before.before in
-    (simp length-set s.requires.0.0, omega (arith, s.requires.1.1, c.entry.ensures, c.before.before.before.before.before.parent_of-p.ensures))
+    let s = c in
+    (simp length-set s.requires.0.0, omega (arith, s.requires.1.1, c.entry.ensures, c.parent_of-p.ensures))
 
 pub shape_of-work : goal.shape_of-work
 shape_of-work c =
-    c.before.before.mark_seen.auto.work ∙ simp length-set
+    c.mark_seen.auto.work ∙ simp length-set
 
 pub returns : goal.returns
 returns c =
-    let l = c.before.before.before.before.before in
-    let p = l.before.before.before.parent_of-p in
-    let n = l.before.before.before.before.before.node_of-a in
-    let s = l.before.before.before.before.before.before.before.before in
-    let k = c.before.before.mark_seen in
-    node_added s.args.work.now k.new.0 s.args.slot s.args.nodes n.result p.result.0 l.len_of_lem.result
+    let l = c in
+    let p = l.parent_of-p in
+    let n = l.node_of-a in
+    let s = l in
+    let k = c.mark_seen in
+    node_added s.args.work.now k.new.0 s.args.slot s.args.nodes n.result p.result.0 l.len_of-l.result
     s.requires.0.0 s.requires.0.1 s.requires.0.2 s.requires.1.0 s.requires.1.1 n.ensures p.ensures
-    (l.len_of_lem.ensures ∙ ap (λ (k : ℕ). at s.args.work.now (LENS + k)) l.before.wide.ensures)
-    (rw c.before.before.before.entry.ensures at k.ensures)
+    (l.len_of-l.ensures ∙ ap (λ (k : ℕ). at s.args.work.now (LENS + k)) l.wide.ensures)
+    (rw c.entry.ensures at k.ensures)

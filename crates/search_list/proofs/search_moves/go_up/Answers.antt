@@ -5,16 +5,11 @@ use mathlib.Core.Path.{◌∙◌}
 use borrow.Author.Rules.{rules}
 use Rattle.search_list.proofs.search_moves.go_up.Goals as goal
 
--- The call, from where the path is stored.
-abbrev start : goal.After-put_at_entry → goal.Start
-start x = x.before.before.before.before
-
--- What is known there.
-up : (x : goal.After-put_at_entry)
-    → Up (start x).args.work.now x.put_at_entry.new.work (start x).args.slot (start x).args.s.paths (start x).args.s.nodes (start x).args.e.0
-    (start x).args.k.place (start x).args.s.depth (start x).args.k.parent.0 (start x).args.k.all
-up x =
-    let p = (start x).requires in
+pub add_copies-requires : goal.add_copies-requires
+add_copies-requires c =
+    let up : Up start.args.work.now c.put_at_entry.new.work start.args.slot start.args.s.paths start.args.s.nodes start.args.e.0
+    start.args.k.place start.args.s.depth start.args.k.parent.0 start.args.k.all =
+        let p = start.requires in
     record {
       links = p.0.0;
       tops = p.0.1;
@@ -26,24 +21,56 @@ up x =
       room = p.1.3;
       all = p.1.4;
       word = p.1.5;
-      stored = x.put_at_entry.ensures;
-      len = x.put_at_entry.auto.work;
-    }
-
-pub add_copies-requires : goal.add_copies-requires
-add_copies-requires c = up_asks (up c.before.before.before.before)
+      stored = c.put_at_entry.ensures;
+      len = c.put_at_entry.auto.work;
+    } in
+    up_asks up
 
 pub add_stacked-requires : goal.add_stacked-requires
 add_stacked-requires c =
-    let y = c.before.before.before in
-    up_asks_2 (up y.before.before.before.before.before) y.add_copies.ensures y.add_copies.auto.work
+    let up : Up start.args.work.now c.put_at_entry.new.work start.args.slot start.args.s.paths start.args.s.nodes start.args.e.0
+    start.args.k.place start.args.s.depth start.args.k.parent.0 start.args.k.all =
+        let p = start.requires in
+    record {
+      links = p.0.0;
+      tops = p.0.1;
+      nodes = p.0.2;
+      paths = p.0.3;
+      slot = p.1.0;
+      entry = p.1.1;
+      parent = p.1.2;
+      room = p.1.3;
+      all = p.1.4;
+      word = p.1.5;
+      stored = c.put_at_entry.ensures;
+      len = c.put_at_entry.auto.work;
+    } in
+    let y = c in
+    up_asks_2 up y.add_copies.ensures y.add_copies.auto.work
 
 pub shape_of-work : goal.shape_of-work
 shape_of-work c =
-    let y = c.before.before.before.before.before.before in
-    c.before.before.add_stacked.auto.work ∙ y.add_copies.auto.work ∙ y.before.before.before.before.before.put_at_entry.auto.work
+    let y = c in
+    c.add_stacked.auto.work ∙ y.add_copies.auto.work ∙ y.put_at_entry.auto.work
 
 pub returns : goal.returns
 returns c =
-    let y = c.before.before.before.before.before.before in
-    up_done (up y.before.before.before.before.before) y.add_copies.ensures y.add_copies.auto.work c.before.before.add_stacked.ensures
+    let up : Up start.args.work.now c.put_at_entry.new.work start.args.slot start.args.s.paths start.args.s.nodes start.args.e.0
+    start.args.k.place start.args.s.depth start.args.k.parent.0 start.args.k.all =
+        let p = start.requires in
+    record {
+      links = p.0.0;
+      tops = p.0.1;
+      nodes = p.0.2;
+      paths = p.0.3;
+      slot = p.1.0;
+      entry = p.1.1;
+      parent = p.1.2;
+      room = p.1.3;
+      all = p.1.4;
+      word = p.1.5;
+      stored = c.put_at_entry.ensures;
+      len = c.put_at_entry.auto.work;
+    } in
+    let y = c in
+    up_done up y.add_copies.ensures y.add_copies.auto.work c.add_stacked.ensures

@@ -8,48 +8,66 @@ use Rattle.search_list.proofs.TurnLaws.{few, At_entry, entry_low, entry_seen, en
 use borrow.Author.Rules.{rules}
 use Rattle.search_passes.proofs.search_visit.step_entry.Goals as goal
 
--- The call, from where the entry is read; and that the path is there.
-abbrev start : goal.After-entry_of → goal.Start
-start x = x.before.before.before
-
-there : (x : goal.After-entry_of)
-    → At_entry (start x).args.work.now (start x).args.s.depth (start x).args.slot (start x).args.s.paths (start x).args.s.nodes
-    x.entry_of.result.0
-there x =
-    let p = (start x).requires in
+pub is_seen-requires : goal.is_seen-requires
+is_seen-requires c =
+    let there : At_entry start.args.work.now start.args.s.depth start.args.slot start.args.s.paths start.args.s.nodes
+    c.entry_of.result.0 =
+        let p = start.requires in
     record {
       here = record { ok = p.0; slot = p.1 };
       none = p.2;
-      is = x.entry_of.ensures;
-    }
-
-pub is_seen-requires : goal.is_seen-requires
-is_seen-requires c = ((start c).requires.0.links.long, entry_low (there c))
+      is = c.entry_of.ensures;
+    } in
+    (c.requires.0.links.long, entry_low there)
 
 pub drop_path-requires : goal.drop_path-requires
 drop_path-requires c =
-    let x = c.before.before.before.before in
-    let s = start x in
+    let x = c in
+    let s = c in
     let a = s.args in
     let e : a.s.paths - 1 + 1 ≡ a.s.paths = omega (arith, s.pre.1) in
-    let p = subst (λ (k : ℕ). PathsOK a.work-1.now a.s.nodes k) (sym e) s.pre.0.paths in
+    let p = subst (λ (k : ℕ). PathsOK a.work.now a.s.nodes k) (sym e) s.pre.0.paths in
     (s.pre.0.links.long, s.pre.0.nodes, p, omega (arith, s.pre.1), omega (arith, few s.pre.0))
 
 pub returns-then-is_seen : goal.returns-then-is_seen
 returns-then-is_seen c =
-    let g = c.before.before.drop_path in
-    let x = c.before.before.before.before.before.before in
-    entry_seen (there x.before) (sym c.before.before.before.before.before.if-is_seen.true ∙ x.is_seen.ensures) g.auto.0 g.ensures
+    let there : At_entry start.args.work.now start.args.s.depth start.args.slot start.args.s.paths start.args.s.nodes
+    c.entry_of.result.0 =
+        let p = start.requires in
+    record {
+      here = record { ok = p.0; slot = p.1 };
+      none = p.2;
+      is = c.entry_of.ensures;
+    } in
+    let g = c.drop_path in
+    let x = c in
+    entry_seen there (sym c.if-is_seen.true ∙ x.is_seen.ensures) g.auto.0 g.ensures
 
 pub returns-then-s-eq-MOST_VISITS : goal.returns-then-s-eq-MOST_VISITS
 returns-then-s-eq-MOST_VISITS c =
-    let x = c.before.before.before in
-    entry_capped (there x.before) (sym c.before.before.if-is_seen.false ∙ x.is_seen.ensures) c.if-s-eq-MOST_VISITS.true
+    let there : At_entry start.args.work.now start.args.s.depth start.args.slot start.args.s.paths start.args.s.nodes
+    c.entry_of.result.0 =
+        let p = start.requires in
+    record {
+      here = record { ok = p.0; slot = p.1 };
+      none = p.2;
+      is = c.entry_of.ensures;
+    } in
+    let x = c in
+    entry_capped there (sym c.if-is_seen.false ∙ x.is_seen.ensures) c.if-s-eq-MOST_VISITS.true
 
 pub visit-requires : goal.visit-requires
 visit-requires c =
-    let x = c.before.before.before.before in
-    let t = there x.before in
-    let p = (start x.before).requires in
-    let new = rw t.is at (sym c.before.before.before.if-is_seen.false ∙ x.is_seen.ensures) in
-    (p.0, p.1, p.2, new, omega (arith, c.before.if-s-eq-MOST_VISITS.false, p.0.nodes.few))
+    let there : At_entry start.args.work.now start.args.s.depth start.args.slot start.args.s.paths start.args.s.nodes
+    c.entry_of.result.0 =
+        let p = start.requires in
+    record {
+      here = record { ok = p.0; slot = p.1 };
+      none = p.2;
+      is = c.entry_of.ensures;
+    } in
+    let x = c in
+    let t = there in
+    let p = c.requires in
+    let new = rw t.is at (sym c.if-is_seen.false ∙ x.is_seen.ensures) in
+    (p.0, p.1, p.2, new, omega (arith, c.if-s-eq-MOST_VISITS.false, p.0.nodes.few))

@@ -14,7 +14,6 @@ returns-in-Stopped c = c.moved-in-Stopped.ensures ∙ ap (after_outcome c.args.p
 
 pub returns-in-Refused : goal.returns-in-Refused
 returns-in-Refused c =
-    let o = c.o-in-Refused-1 in
     c.refuse.ensures
-    ∙ ap (λ (x : Progress). refused_at x o.given.0.0) c.moved-in-Refused.ensures
-    ∙ ap (after_outcome c.args.p) (sym o.given.1)
+    ∙ ap (λ (x : Progress). refused_at x c.in-Refused.n) c.moved-in-Refused.ensures
+    ∙ ap (after_outcome c.args.p) (sym c.in-Refused.is)

@@ -19,7 +19,7 @@ returns-then-forgets c =
     let br = c.bring in
     let test = c in
     let a = test.args in
-    subst (λ (b : Bool). CacheBack b a.work-1.now (set br.new.0 SENTINEL_ENTRY a.c.sentinel) a.number a.c) (sym test.if-forgets.true)
+    subst (λ (b : Bool). CacheBack b a.work.now (set br.new.0 SENTINEL_ENTRY a.c.sentinel) a.number a.c) (sym test.if-forgets.true)
     (λ v q. record { brought_words = br.new.0; brought_long = br.auto.0; brought = br.ensures v q; is = refl })
 
 pub returns-else-forgets : goal.returns-else-forgets
@@ -27,4 +27,4 @@ returns-else-forgets c =
     let br = c.bring_entry in
     let test = c in
     let a = test.args in
-    subst (λ (b : Bool). CacheBack b a.work-1.now br.new.0 a.number a.c) (sym test.if-forgets.false) br.ensures
+    subst (λ (b : Bool). CacheBack b a.work.now br.new.0 a.number a.c) (sym test.if-forgets.false) br.ensures

@@ -4,18 +4,14 @@ use borrow.Author.Rules.{rules}
 use Rattle.session_steps.proofs.undo_step.Undoing.{restore_asks}
 use Rattle.session_steps.proofs.undo_step.undo.Goals as goal
 
--- The beginning, where the cache is back.
-abbrev to_start : goal.After-bring_cache → goal.Start
-to_start x = x.before.before.before
-
 pub restore-requires : goal.restore-requires
 restore-requires c =
-    let br = c.before.before.before.before.before in
-    let s = to_start br in
+    let br = c in
+    let s = c in
     restore_asks s.args.forgets s.pre br.bring_cache.auto.work br.bring_cache.ensures
 
 pub returns : goal.returns
 returns c =
-    let re = c.before.before.restore in
-    let br = c.before.before.before.before.before.before.before.before.bring_cache in
+    let re = c.restore in
+    let br = c.bring_cache in
     record { cache_words = br.new.0; cache_long = br.auto.0; cache = br.ensures; restored = re.ensures }

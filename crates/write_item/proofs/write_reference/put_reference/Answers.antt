@@ -27,7 +27,7 @@ pub shape_of-output : goal.shape_of-output
 shape_of-output c =
     let w = c in
     let s = w in
-    c.put_path.auto.1.1.0 ∙ w.write_prefix.auto.output ∙ length-set s.args.output.now s.args.size 0xfe
+    c.put_path.auto.output ∙ w.write_prefix.auto.output ∙ length-set s.args.output.now s.args.size 0xfe
 
 pub returns : goal.returns
 returns c =

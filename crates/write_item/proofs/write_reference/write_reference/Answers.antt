@@ -20,7 +20,7 @@ returns-then-not-fits c =
     λ path e.
     record {
       bytes =
-          reference_full a.output-1.now a.counts.size b.result w.path_width-width.result (path_at a.work.now a.slot) path e b.ensures.0
+          reference_full a.output.now a.counts.size b.result w.path_width-width.result (path_at a.work.now a.slot) path e b.ensures.0
           w.path_width-width.ensures.1 (no_room _ _ _ c.fits2.ensures c.if-not-fits.true);
       counted = tt;
     }
@@ -40,7 +40,7 @@ overflow_add-size c =
     let w = t in
     let a = w.args in
     let total = 1 + (w.path_width-width.result + (w.path_bits-bits.result + 7) / 8) in
-    record { fits = omega (arith, has_room (length a.output-1.now) (a.counts.size + total) _ t.fits2.ensures t.if-not-fits.false) }
+    record { fits = omega (arith, has_room (length a.output.now) (a.counts.size + total) _ t.fits2.ensures t.if-not-fits.false) }
 
 pub with_reference-requires : goal.with_reference-requires
 with_reference-requires c =
@@ -55,7 +55,7 @@ returns c =
     let a = w.args in
     let r = c.put_reference in
     λ path e.
-    put_counted a.output-1.now _ a.counts (reference_item path) _ _
-    (reference_next a.output-1.now a.counts.size b.result w.path_width-width.result (path_at a.work.now a.slot) path e b.ensures.0
+    put_counted a.output.now _ a.counts (reference_item path) _ _
+    (reference_next a.output.now a.counts.size b.result w.path_width-width.result (path_at a.work.now a.slot) path e b.ensures.0
     w.path_width-width.ensures.1 r.new.1.1.0 (has_room _ _ _ t.fits2.ensures t.if-not-fits.false) r.ensures)
     (ap width_or_0 (w.path_width-width.ensures.1 path (b.ensures.0 ∙ ap length e))) _ c.with_reference.ensures

@@ -10,28 +10,28 @@ use Rattle.write_loop.proofs.write_turn.Atoms.{listed_put, small_put}
 use borrow.Author.Rules.{rules}
 use Rattle.write_loop.proofs.write_turn.write_atom.Goals as goal
 
--- The first test holds: the atom is a listed one.
-listed : (x : goal.After-wide) → is_listed (node_of x.before.before.before.before.before.before.before.before.args.node.0) ≡ true
-listed x = sym x.before.before.before.before.is_listed.ensures ∙ x.before.before.before.if-is_listed.true
-
 pub write_listed-requires : goal.write_listed-requires
 write_listed-requires c =
-    let s = c.before.before.before.before.before.before.before.before in
-    let low = listed_low s.args.work.now s.args.node.0 s.requires.1 s.requires.3 (listed c) in
-    (s.requires.0, s.requires.1, s.requires.2, omega (arith, c.wide.ensures, c.before.index.ensures, low))
+    let listed : is_listed (node_of c.args.node.0) ≡ true =
+        sym c.is_listed.ensures ∙ c.if-is_listed.true in
+    let s = c in
+    let low = listed_low s.args.work.now s.args.node.0 s.requires.1 s.requires.3 listed in
+    (s.requires.0, s.requires.1, s.requires.2, omega (arith, c.wide.ensures, c.index.ensures, low))
 
 pub returns-then-is_listed : goal.returns-then-is_listed
 returns-then-is_listed c =
-    let x = c.before.before.before in
-    let s = x.before.before.before.before.before.before.before.before in
-    listed_put s.requires.1 s.requires.3 x.wide.result s.requires.2 (listed x) (x.wide.ensures ∙ x.before.index.ensures) c.before.before.write_listed.ensures
+    let listed : is_listed (node_of c.args.node.0) ≡ true =
+        sym c.is_listed.ensures ∙ c.if-is_listed.true in
+    let x = c in
+    let s = x in
+    listed_put s.requires.1 s.requires.3 x.wide.result s.requires.2 listed (x.wide.ensures ∙ x.index.ensures) c.write_listed.ensures
 
 pub write_small-requires : goal.write_small-requires
-write_small-requires c = let s = c.before.before.before.before.before.before.before in (s.requires.0, omega (arith, c.index-2.ensures, index_low s.args.node.0))
+write_small-requires c = let s = c in (s.requires.0, omega (arith, c.index-2.ensures, index_low s.args.node.0))
 
 pub returns : goal.returns
 returns c =
-    let x = c.before.before.before in
-    let s = x.before.before.before.before.before.before.before in
-    small_put s.requires.1 s.requires.3 x.index-2.result (sym x.before.before.before.is_listed.ensures ∙ x.before.before.if-is_listed.false) s.requires.4 x.index-2.ensures
-    c.before.before.write_small.ensures
+    let x = c in
+    let s = x in
+    small_put s.requires.1 s.requires.3 x.index-2.result (sym x.is_listed.ensures ∙ x.if-is_listed.false) s.requires.4 x.index-2.ensures
+    c.write_small.ensures

@@ -10,42 +10,43 @@ use Rattle.write_loop.proofs.write_turn.Opening.{number_few, deep_turns, lacks_t
 use borrow.Author.Rules.{rules}
 use Rattle.write_loop.proofs.write_turn.open_pairs.open_pair.Goals as goal
 
--- The pair's number is in range.
-few : (s : goal.Start) → index_of (node_of s.args.node.0) < 1024
-few s = number_few s.args.node s.requires.0 s.requires.1
-
 pub returns-then-opens-ge-MAX_OPEN : goal.returns-then-opens-ge-MAX_OPEN
-returns-then-opens-ge-MAX_OPEN c = let s = c.before.before.before in deep_turns s.args.node s.requires.0 s.requires.1 c.if-opens-ge-MAX_OPEN.true
+returns-then-opens-ge-MAX_OPEN c = let s = c in deep_turns s.args.node s.requires.0 s.requires.1 c.if-opens-ge-MAX_OPEN.true
 
 pub left_of-left-requires : goal.left_of-left-requires
 left_of-left-requires c =
-    let written = c.before.before.before.before.before.before.before.before in
-    let s = written.before.before.before.before.before in
-    (s.requires.0.running.stands.whole.sound.long, omega (arith, c.wide.ensures, c.before.index.ensures, few s))
+    let few : index_of (node_of c.args.node.0) < 1024 =
+        number_few c.args.node c.requires.0 c.requires.1 in
+    let written = c in
+    let s = written in
+    (s.requires.0.running.stands.whole.sound.long, omega (arith, c.wide.ensures, c.index.ensures, few))
 
 pub overflow_mul-work : goal.overflow_mul-work
 overflow_mul-work c =
-    let written = c.before.before.before.before.before.before.before.before.before.before in
-    omega (arith, c.index-in-Next.ensures, few written.before.before.before.before.before)
+    let few : index_of (node_of c.args.node.0) < 1024 =
+        number_few c.args.node c.requires.0 c.requires.1 in
+    let written = c in
+    omega (arith, c.index-in-Next.ensures, few)
 
 pub overflow_add-work : goal.overflow_add-work
 overflow_add-work c =
-    let written = c.before.before.before.before.before.before.before.before.before.before in
-    omega (arith, c.index-in-Next.ensures, few written.before.before.before.before.before)
+    let few : index_of (node_of c.args.node.0) < 1024 =
+        number_few c.args.node c.requires.0 c.requires.1 in
+    let written = c in
+    omega (arith, c.index-in-Next.ensures, few)
 
 pub returns-in-Next : goal.returns-in-Next
 returns-in-Next c =
-    let written = c.before.before.before.before.before.before.before.before.before.before in
-    let s = written.before.before.before.before.before in
-    let counts = c.before.before.before.before.before.before.counts-1 in
-    opens_turns s.args.node s.requires.0 s.requires.1 written.before.before.if-opens-ge-MAX_OPEN.false written.write_cons.new.output counts.given.0.0 c.index-in-Next.result
-    c.before.left_of-left.result c.index-in-Next.ensures
-    (c.before.left_of-left.ensures ∙ ap (λ (k : ℕ). at s.args.work.now (PAIRS + 2 * k)) (c.before.before.wide.ensures ∙ c.before.before.before.index.ensures))
-    (rw counts.given.1 at written.write_cons.ensures)
+    let written = c in
+    let s = written in
+    opens_turns s.args.node s.requires.0 s.requires.1 written.if-opens-ge-MAX_OPEN.false written.write_cons.new.output c.in-Next.counts c.index-in-Next.result
+    c.left_of-left.result c.index-in-Next.ensures
+    (c.left_of-left.ensures ∙ ap (λ (k : ℕ). at s.args.work.now (PAIRS + 2 * k)) (c.wide.ensures ∙ c.index.ensures))
+    (rw c.in-Next.is at written.write_cons.ensures)
 
 pub returns-in-Full : goal.returns-in-Full
 returns-in-Full c =
-    let written = c.before.before.before.before in
-    let s = written.before.before.before.before.before in
-    lacks_turns s.args.node s.requires.0 s.requires.1 written.before.before.if-opens-ge-MAX_OPEN.false written.write_cons.new.output
+    let written = c in
+    let s = written in
+    lacks_turns s.args.node s.requires.0 s.requires.1 written.if-opens-ge-MAX_OPEN.false written.write_cons.new.output
     (rw c.in-Full.is at written.write_cons.ensures)
