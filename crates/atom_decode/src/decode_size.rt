@@ -1,7 +1,7 @@
 // The prefix of an atom or a path, read: how many bytes it takes, and the size that it carries.
 ghost use Rattle.std.specs.Prelude.{◌≡◌, ◌+◌, ◌-◌, ◌^◌, ◌≤◌, ◌<◌, length, get_or, drop};
 ghost use Rattle.atom.specs.Parse.{ones, «one_byte», decode_size};
-ghost use Rattle.atom_decode.specs.decode_size.Answers.{decoded-size};
+ghost use Rattle.atom_decode.specs.decode_size.Answers.{decoded_size};
 
 use atom::{SIZE_LIMIT, least_size};
 
@@ -42,7 +42,7 @@ fn leading_ones(byte: u8) -> Ones
 
 // A prefix that carries the size 1: the byte has to follow, and not be one that stands for itself.
 fn one_byte(input: &[u8], position: usize, offset: usize) -> DecodeSize
-    ensures { decoded-size result ≡ «one_byte» offset (drop position input.now) }
+    ensures { decoded_size result ≡ «one_byte» offset (drop position input.now) }
 {
     if input.len() <= position {
         return DecodeSize::SerializationError;
@@ -56,7 +56,7 @@ fn one_byte(input: &[u8], position: usize, offset: usize) -> DecodeSize
 // The prefix at a place whose byte is no single one.
 pub fn decode_size_with_offset(input: &[u8], position: usize) -> DecodeSize
     requires { (position < length input.now) × (0x80 ≤ get_or input.now position 0) }
-    ensures { decoded-size result ≡ decode_size (drop position input.now) }
+    ensures { decoded_size result ≡ decode_size (drop position input.now) }
 {
     let first = leading_ones(input[position]);
     let width = first.width;

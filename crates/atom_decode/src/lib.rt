@@ -5,7 +5,7 @@ mod decode_size;
 
 ghost use Rattle.std.specs.Prelude.{◌≡◌, ◌+◌, ◌≤◌, cond, ltb, length};
 ghost use Rattle.atom.specs.Parse.{parse_at, blob_of, blob, refused};
-ghost use Rattle.atom_decode.specs.Answers.{parse-of};
+ghost use Rattle.atom_decode.specs.Answers.{parse_of};
 
 use decode_size::DecodeSize;
 
@@ -21,7 +21,7 @@ pub enum ParseAtom {
 
 // The atom or path at a place of the input.
 pub fn parse_atom(input: &[u8], position: usize) -> ParseAtom
-    ensures { parse-of result ≡ parse_at input.now position }
+    ensures { parse_of result ≡ parse_at input.now position }
 {
     if input.len() <= position {
         return ParseAtom::SerializationError;
@@ -42,7 +42,7 @@ pub fn parse_atom(input: &[u8], position: usize) -> ParseAtom
 // The bytes of an atom of this size that begin at `start`.
 fn whole_atom(input: &[u8], start: usize, size: u64) -> ParseAtom
     requires { start ≤ length input.now }
-    ensures { parse-of result ≡ cond (ltb (length input.now) (start + size)) (refused 14) (blob start (start + size)) }
+    ensures { parse_of result ≡ cond (ltb (length input.now) (start + size)) (refused 14) (blob start (start + size)) }
 {
     let left = (input.len() - start) as u64;
     if left < size {
@@ -69,7 +69,7 @@ fn part_of(input: &[u8], start: usize, end: usize) -> &[u8]
 
 // The found atom or path, as a part of the input; no bytes where it was refused.
 pub fn parse_atom_ptr(input: &[u8], found: ParseAtom) -> &[u8]
-    ensures { result.now ≡ blob_of input.now (parse-of found) }
+    ensures { result.now ≡ blob_of input.now (parse_of found) }
 {
     match found {
         ParseAtom::Blob { start, end } => part_of(input, start, end),

@@ -2,7 +2,7 @@
 ghost use Rattle.std.specs.Prelude.{◌≡◌, [], ◌≤◌, length, drop};
 ghost use Rattle.spec_session.specs.File.{version_1};
 ghost use Rattle.spec_session.specs.File as file_format;
-ghost use Rattle.file_parts.specs.Answers.{Answers, itself, sized, counted, atom-of};
+ghost use Rattle.file_parts.specs.Answers.{Answers, itself, sized, counted, atom_of};
 
 use allocator::{FitsInSmallAtom, fits_in_small_atom};
 use file_parts::{Part, session_file};
@@ -54,7 +54,7 @@ pub fn count(file: &[u8], at: usize, most: u32) -> Part
 // An atom of `size` bytes from `start` on, where `used` atom bytes are there already.
 fn atom_bytes(file: &[u8], start: usize, size: u32, used: u32) -> Part
     requires { (start ≤ length file.now) × (used ≤ 32768) }
-    ensures { Answers file.now sized result (atom-of used size (drop start file.now)) }
+    ensures { Answers file.now sized result (atom_of used size (drop start file.now)) }
 {
     let n = size as usize;
     let left = file.len() - start;

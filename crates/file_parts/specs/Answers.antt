@@ -7,7 +7,7 @@ use Rattle.spec_session.specs.File.{Got, got, refused, and_then, asked, bytes_of
 -- A value that was read, as the word v, with the bytes after it.
 pub record Gives (input : List ℕ) (v : ℕ) (rest : List ℕ) (p : Part) : Type 0 where
   pub number_is : p.number ≡ 0
-  pub value-is : p.value ≡ v
+  pub value_is : p.value ≡ v
   pub next_is : rest ≡ drop p.next input
   pub inside : p.next ≤ length input
 
@@ -47,5 +47,5 @@ operand_word take_quote = 0
 
 -- ---- an atom after its length n
 
-abbrev pub atom-of : (used n : ℕ) → List ℕ → Got (List ℕ)
-atom-of used n rest = and_then (bytes_of n rest) (λ b s. asked 5 (leb (used + n) 32768) (asked 6 (listed (fits_in_small_atom b)) (got b s)))
+abbrev pub atom_of : (used n : ℕ) → List ℕ → Got (List ℕ)
+atom_of used n rest = and_then (bytes_of n rest) (λ b s. asked 5 (leb (used + n) 32768) (asked 6 (listed (fits_in_small_atom b)) (got b s)))

@@ -49,24 +49,24 @@ long w p a b e =
       bytes = leb-true 65536 (length b) h.1;
     }
 
-zeroed-length : (l l' : List ℕ) → l' ≡ zeroed l → length l' ≡ length l
-zeroed-length l l' e = ap length e ∙ length-replicate (length l) 0
+zeroed_length : (l l' : List ℕ) → l' ≡ zeroed l → length l' ≡ length l
+zeroed_length l l' e = ap length e ∙ length-replicate (length l) 0
 
 -- A slice that was cleared is zero from its first word on.
 zeroed_rest : (l l' : List ℕ) → l' ≡ zeroed l → drop 0 l' ≡ replicate (length l' - 0) 0
 zeroed_rest l l' e =
-    let n : length l ≡ length l' - 0 = omega (arith, zeroed-length l l' e) in
+    let n : length l ≡ length l' - 0 = omega (arith, zeroed_length l l' e) in
     e ∙ ap (λ (k : ℕ). replicate k 0) n
 
-pub lent-start : (input w p a b p' a' b' : List ℕ) → long_enough (slices w p a b) ≡ true → length input ≤ 65535
+pub lent_start : (input w p a b p' a' b' : List ℕ) → long_enough (slices w p a b) ≡ true → length input ≤ 65535
     → p' ≡ zeroed p → a' ≡ zeroed a → b' ≡ zeroed b → Lent input w p' a' b' start
-lent-start input w p a b p' a' b' e short ep ea eb =
+lent_start input w p a b p' a' b' e short ep ea eb =
     let l = long w p a b e in
     record {
       work = l.work;
-      pairs_room = omega (arith, l.pairs, zeroed-length p p' ep);
-      atoms_room = omega (arith, l.atoms, zeroed-length a a' ea);
-      bytes_room = omega (arith, l.bytes, zeroed-length b b' eb);
+      pairs_room = omega (arith, l.pairs, zeroed_length p p' ep);
+      atoms_room = omega (arith, l.atoms, zeroed_length a a' ea);
+      bytes_room = omega (arith, l.bytes, zeroed_length b b' eb);
       short = short;
       inside = omega arith;
       pairs_in = omega arith;
@@ -80,17 +80,17 @@ lent-start input w p a b p' a' b' e short ep ea eb =
 -- ---- what was read
 
 -- Used words and the zeros after them are the whole slice; l is the slice at entry.
-filled-whole : (l l' : List ℕ) (n : ℕ) → length l' ≡ length l → n ≤ length l' → drop n l' ≡ replicate (length l' - n) 0 → l' ≡ filled l (take n l')
-filled-whole l l' n e i z =
+filled_whole : (l l' : List ℕ) (n : ℕ) → length l' ≡ length l → n ≤ length l' → drop n l' ≡ replicate (length l' - n) 0 → l' ≡ filled l (take n l')
+filled_whole l l' n e i z =
     let k : length l' - n ≡ length l - length (take n l') = omega (arith, length-take-le n l' i) in
     sym (take-append-drop n l') ∙ ap (λ (r : List ℕ). take n l' ++ r) (z ∙ ap (λ (m : ℕ). replicate m 0) k)
 
 module _ (input w p a b : List ℕ) (r : Reader) (h : Ends input w p a b r) where
-  pairs-length : length (take (2 * r.pairs) p) ≡ 2 * r.pairs
-  pairs-length = length-take-le (2 * r.pairs) p h.lent.pairs_in
+  pairs_length : length (take (2 * r.pairs) p) ≡ 2 * r.pairs
+  pairs_length = length-take-le (2 * r.pairs) p h.lent.pairs_in
 
-  atoms-length : length (take (2 * r.atoms) a) ≡ 2 * r.atoms
-  atoms-length = length-take-le (2 * r.atoms) a h.lent.atoms_in
+  atoms_length : length (take (2 * r.atoms) a) ≡ 2 * r.atoms
+  atoms_length = length-take-le (2 * r.atoms) a h.lent.atoms_in
 
   bytes_length : length (take r.bytes b) ≡ r.bytes
   bytes_length = length-take-le r.bytes b h.lent.bytes_in
@@ -102,8 +102,8 @@ module _ (input w p a b : List ℕ) (r : Reader) (h : Ends input w p a b r) wher
   counts =
       record {
         value_in = omega (arith, h.lent.work);
-        pairs_fit = omega (arith, bounds.pair_words, pairs-length);
-        atoms_fit = omega (arith, bounds.atom_words, atoms-length);
+        pairs_fit = omega (arith, bounds.pair_words, pairs_length);
+        atoms_fit = omega (arith, bounds.atom_words, atoms_length);
         bytes_fit = omega (arith, bounds.atom_bytes, bytes_length);
         ghosts_fit = omega (arith, bounds.pairs_and_ghosts);
       }
@@ -117,23 +117,23 @@ module _ (input w p a b : List ℕ) (r : Reader) (h : Ends input w p a b r) wher
 
   answered : read_answer_at w r ≡ answer_of (stored_of w p a b r)
   answered =
-      let np : r.pairs ≡ length (take (2 * r.pairs) p) / 2 = omega (arith, pairs-length) in
-      let na : r.atoms ≡ length (take (2 * r.atoms) a) / 2 = omega (arith, atoms-length) in
+      let np : r.pairs ≡ length (take (2 * r.pairs) p) / 2 = omega (arith, pairs_length) in
+      let na : r.atoms ≡ length (take (2 * r.atoms) a) / 2 = omega (arith, atoms_length) in
       λ i. record { number = 0; root = root i; pairs = np i; atoms = na i; bytes = sym bytes_length i; ghosts = r.ghosts }
 
 pub counted : (input w p a b : List ℕ) (o : Verdict) → ReadAll input w p a b (read_stored input) o → Counted w o
 counted input w p a b (verdict.Accepted r) t = counts input w p a b r t.ends
 counted input w p a b (verdict.Refused n) t = tt
 
-zeroed-same : (l l₁ : List ℕ) → length l₁ ≡ length l → zeroed l₁ ≡ zeroed l
-zeroed-same l l₁ e = ap (λ (n : ℕ). replicate n 0) e
+zeroed_same : (l l₁ : List ℕ) → length l₁ ≡ length l → zeroed l₁ ≡ zeroed l
+zeroed_same l l₁ e = ap (λ (n : ℕ). replicate n 0) e
 
 -- What the outcome of all items leaves is what the definition says, where the slices are as long as at the call.
 module _ (input w p a b w₁ p₁ a₁ b₁ : List ℕ) where
-  pub ended-after : (o : Verdict) → ReadAll input w₁ p₁ a₁ b₁ (read_stored input) o
+  pub ended_after : (o : Verdict) → ReadAll input w₁ p₁ a₁ b₁ (read_stored input) o
       → length w₁ ≡ length w → length p₁ ≡ length p → length a₁ ≡ length a → length b₁ ≡ length b
       → (x : Result) → x ≡ ended o (slices w₁ p₁ a₁ b₁) → x ≡ after (read_stored input) (slices w p a b)
-  ended-after (verdict.Accepted r) t lw lp la lb x e =
+  ended_after (verdict.Accepted r) t lw lp la lb x e =
       let l = t.ends.lent in
       e
       ∙ (λ i.
@@ -141,19 +141,19 @@ module _ (input w p a b w₁ p₁ a₁ b₁ : List ℕ) where
         answer = answered input w₁ p₁ a₁ b₁ r t.ends i;
         slices =
             record {
-              work = zeroed-same w w₁ lw i;
-              pairs = filled-whole p p₁ (2 * r.pairs) lp l.pairs_in l.pairs_rest i;
-              atoms = filled-whole a a₁ (2 * r.atoms) la l.atoms_in l.atoms_rest i;
-              bytes = filled-whole b b₁ r.bytes lb l.bytes_in l.bytes-rest i;
+              work = zeroed_same w w₁ lw i;
+              pairs = filled_whole p p₁ (2 * r.pairs) lp l.pairs_in l.pairs_rest i;
+              atoms = filled_whole a a₁ (2 * r.atoms) la l.atoms_in l.atoms_rest i;
+              bytes = filled_whole b b₁ r.bytes lb l.bytes_in l.bytes-rest i;
             };
       })
       ∙ ap (λ (d : Read Stored). after d (slices w p a b)) (sym t.same)
-  ended-after (verdict.Refused n) t lw lp la lb x e =
+  ended_after (verdict.Refused n) t lw lp la lb x e =
       e
       ∙ (λ i.
       record {
         answer = refusal n;
-        slices = slices (zeroed-same w w₁ lw i) (zeroed-same p p₁ lp i) (zeroed-same a a₁ la i) (zeroed-same b b₁ lb i);
+        slices = slices (zeroed_same w w₁ lw i) (zeroed_same p p₁ lp i) (zeroed_same a a₁ la i) (zeroed_same b b₁ lb i);
       })
       ∙ ap (λ (d : Read Stored). after d (slices w p a b)) (sym t.same)
 
@@ -164,21 +164,21 @@ abbrev cases : List ℕ → Slices → Bool → Bool → Result
 cases input l x y = cond x (cond y (after (read_stored input) l) (record { answer = refusal 2; slices = l })) (record { answer = refusal 1; slices = l })
 
 module _ (input w p a b : List ℕ) (t : Bool) (test : t ≡ long_enough (slices w p a b)) where
-  reading-cases : (x y : Bool) → t ≡ x → leb (length input) 65535 ≡ y → cases input (slices w p a b) x y ≡ reading input (slices w p a b)
+  reading_cases : (x y : Bool) → t ≡ x → leb (length input) 65535 ≡ y → cases input (slices w p a b) x y ≡ reading input (slices w p a b)
   unfolding reading
-  reading-cases x y e f = λ i. cases input (slices w p a b) ((sym e ∙ test) i) (sym f i)
+  reading_cases x y e f = λ i. cases input (slices w p a b) ((sym e ∙ test) i) (sym f i)
 
   untouched : (n : ℕ) (r : ReadAnswer) → read_answer_of r ≡ refusal n → read_result_of r w p a b ≡ record { answer = refusal n; slices = slices w p a b }
   untouched n r e = λ i. record { answer = e i; slices = slices w p a b }
 
   pub too_short : t ≡ false → (r : ReadAnswer) → read_answer_of r ≡ refusal 1 → read_result_of r w p a b ≡ reading input (slices w p a b)
-  too_short e r h = untouched 1 r h ∙ reading-cases false (leb (length input) 65535) e refl
+  too_short e r h = untouched 1 r h ∙ reading_cases false (leb (length input) 65535) e refl
 
   pub too_long : t ≡ true → 65535 < length input → (r : ReadAnswer) → read_answer_of r ≡ refusal 2 → read_result_of r w p a b ≡ reading input (slices w p a b)
-  too_long e l r h = untouched 2 r h ∙ reading-cases true false e (lt-leb _ _ l)
+  too_long e l r h = untouched 2 r h ∙ reading_cases true false e (lt-leb _ _ l)
 
   pub within : t ≡ true → length input ≤ 65535 → (x : Result) → x ≡ after (read_stored input) (slices w p a b) → x ≡ reading input (slices w p a b)
-  within e l x h = h ∙ reading-cases true true e (le-leb _ _ l)
+  within e l x h = h ∙ reading_cases true true e (le-leb _ _ l)
 
 -- ---- the promise
 

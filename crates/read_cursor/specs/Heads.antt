@@ -1,7 +1,7 @@
 -- What stands at a place of the input, from the format of a serialized tree, and what the code's answers mean.
 use Rattle.std.specs.Prelude.{ℕ, ◌+◌, cond, List, [], ◌∷◌, eqb, drop}
 use Rattle.atom.specs.Parse.{Parse, parse_at}
-use Rattle.atom_decode.specs.Answers.{parse-of}
+use Rattle.atom_decode.specs.Answers.{parse_of}
 use Rattle.read_cursor.specs.declared.First.{First}
 use Rattle.read_cursor.specs.declared.First.TheVariants as first
 use Rattle.read_cursor.specs.declared.Head.{Head}
@@ -17,8 +17,8 @@ pub data There : Type 0 where
 abbrev pub there_of : Head → There
 there_of head.End = end
 there_of head.Pair = pair
-there_of (head.Path z) = path (parse-of z)
-there_of (head.Atom z) = atom (parse-of z)
+there_of (head.Path z) = path (parse_of z)
+there_of (head.Atom z) = atom (parse_of z)
 
 -- What begins with the byte b at the place p: `ff` is a pair's mark; after `fe` stands a path; anything else begins an atom.
 abbrev pub begun : ℕ → List ℕ → ℕ → There

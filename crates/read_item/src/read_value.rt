@@ -5,7 +5,7 @@ ghost use Rattle.read_store.specs.Layout.{PushedValue};
 ghost use Rattle.read_item.specs.Whole.{Stands};
 ghost use Rattle.read_item.specs.Values.{AtomRoom, AtomPushed, SteppedAtom, node_pushed, BeforePath, PathFound, SteppedPath};
 ghost use Rattle.atom.specs.Parse.{blob_of, parse_at};
-ghost use Rattle.atom_decode.specs.Answers.{parse-of};
+ghost use Rattle.atom_decode.specs.Answers.{parse_of};
 
 use crate::settle;
 use crate::settle::{Item, Reader};
@@ -23,9 +23,9 @@ fn push_atom(
     found: ParseAtom,
     end: usize,
 ) -> Reader
-    requires { AtomRoom work.old atoms.old bytes.old r (blob_of input.now (parse-of found)) }
+    requires { AtomRoom work.old atoms.old bytes.old r (blob_of input.now (parse_of found)) }
     ensures { AtomPushed work.old atoms.old bytes.old r
-        (blob_of input.now (parse-of found)) end work.new atoms.new
+        (blob_of input.now (parse_of found)) end work.new atoms.new
         bytes.new result }
 {
     let blob = atom_decode::parse_atom_ptr(input, found);
@@ -49,7 +49,7 @@ pub fn atom_item(
     r: Reader,
     found: ParseAtom,
 ) -> Item
-    requires { (Stands input.now work.old pairs.old atoms.old bytes.old r) × (parse-of found ≡ parse_at input.now r.position) }
+    requires { (Stands input.now work.old pairs.old atoms.old bytes.old r) × (parse_of found ≡ parse_at input.now r.position) }
     ensures { SteppedAtom input.now work.old pairs.old atoms.old
         bytes.old r work.new pairs.new atoms.new bytes.new result }
 {
@@ -87,7 +87,7 @@ fn push_path(
     found: ParseAtom,
     end: usize,
 ) -> Item
-    requires { (BeforePath input.now work.old pairs.old r) × (PathFound input.now r (parse-of found) end) }
+    requires { (BeforePath input.now work.old pairs.old r) × (PathFound input.now r (parse_of found) end) }
     ensures { SteppedPath input.now work.old pairs.old r work.new pairs.new result }
 {
     let path = atom_decode::parse_atom_ptr(input, found);
@@ -113,7 +113,7 @@ pub fn path_item(
     r: Reader,
     found: ParseAtom,
 ) -> Item
-    requires { (BeforePath input.now work.old pairs.old r) × (parse-of found ≡ parse_at input.now (r.position + 1)) }
+    requires { (BeforePath input.now work.old pairs.old r) × (parse_of found ≡ parse_at input.now (r.position + 1)) }
     ensures { SteppedPath input.now work.old pairs.old r work.new pairs.new result }
 {
     match found {

@@ -20,7 +20,7 @@ use Rattle.search_find.specs.declared.find_path.Path.{Path}
 use Rattle.search_find.specs.declared.find_path.Path.TheVariants.{At, NoPath}
 use Rattle.search_list.specs.State.{parents_of_all, path_at}
 use Rattle.search_list.specs.Steps.{Kept}
-use Rattle.search_find.specs.Answers.{path-of, FoundPath}
+use Rattle.search_find.specs.Answers.{path_of, FoundPath}
 use Rattle.search_find.specs.Answers as found
 use Rattle.cache_stack.specs.marks.Effects.{marked_at}
 use Rattle.search_find.specs.Effects.{LengthOf, steps_of, Ready, FindsIn}
@@ -49,11 +49,11 @@ module _ {m : Measure} {w : List ℕ} {d h e : ℕ} where
 
 -- ---- the search
 
-steps_are : (w : List ℕ) (r : Path) → map without_terminator (path-of w r) ≡ steps_of w r
+steps_are : (w : List ℕ) (r : Path) → map without_terminator (path_of w r) ≡ steps_of w r
 steps_are w (At i) = refl
 steps_are w NoPath = refl
 
-ready_of : (m : Measure) (w w' : List ℕ) (d n e : ℕ) (r : Path) → used (measure_of m) n (search (parents_of_all w) (stack_of w d) n e) ≡ path-of w' r → found.Ready w' r → Ready w' r
+ready_of : (m : Measure) (w w' : List ℕ) (d n e : ℕ) (r : Path) → used (measure_of m) n (search (parents_of_all w) (stack_of w d) n e) ≡ path_of w' r → found.Ready w' r → Ready w' r
 ready_of m w w' d n e (At i) q u =
     (u, search_ends (parents_of_all w) (stack_of w d) n e (path_at w' i) (used_some (measure_of m) n (search (parents_of_all w) (stack_of w d) n e) (path_at w' i) q).given)
 ready_of m w w' d n e NoPath q u = tt

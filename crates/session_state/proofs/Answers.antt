@@ -23,8 +23,8 @@ module _ (m : Measure) (input : List ℕ) (f : File) (w words : List ℕ) (rows 
   pub stands_on : t.done ≡ false → Underway m input f w words rows out t → Stands m input f w words rows out t t.done
   stands_on d u = subst (λ (b : Bool). Stands m input f w words rows out t b) (sym d) u
 
-  pub stands-off : t.done ≡ true → Ended m f words out t → Stands m input f w words rows out t t.done
-  stands-off d u = subst (λ (b : Bool). Stands m input f w words rows out t b) (sym d) u
+  pub stands_off : t.done ≡ true → Ended m f words out t → Stands m input f w words rows out t t.done
+  stands_off d u = subst (λ (b : Bool). Stands m input f w words rows out t b) (sym d) u
 
   pub under : t.done ≡ false → Stands m input f w words rows out t t.done → Underway m input f w words rows out t
   under d s = subst (λ (b : Bool). Stands m input f w words rows out t b) d s
@@ -34,9 +34,9 @@ module _ (m : Measure) (input : List ℕ) (f : File) (w words : List ℕ) (rows 
 
 module _ (input : List ℕ) (f : File) (w words out : List ℕ) (p : Progress) (c : Checkpoint) (none_open : p.quoted ≡ false) where
   -- The run from the session that is held, where no quote is open.
-  pub same-standing : (m : Measure) (rows : List Checkpoint) (u : Underway m input f w words rows out p)
+  pub same_standing : (m : Measure) (rows : List Checkpoint) (u : Underway m input f w words rows out p)
       → whole_run m f (length out) ≡ after_words p.steps (take (3 * p.steps) words) (run_steps (measure_of m) (length out) f u.left (standing u.past u.session))
-  same-standing m rows u =
+  same_standing m rows u =
       u.same
       ∙ ap (λ (st : State). after_words p.steps (take (3 * p.steps) words) (run_steps (measure_of m) (length out) f u.left st))
       (subst (λ (b : Bool). Shows m b f (length out) u.state u.past u.session) none_open u.shown)
@@ -52,7 +52,7 @@ module _ (input : List ℕ) (f : File) (w words out : List ℕ) (p : Progress) (
         short = u.present.running.short;
         few_steps = omega (arith, u.few_steps);
         many_words = u.many_words;
-        same = same-standing m rows u ∙ ap (λ (r : Run). after_words p.steps (take (3 * p.steps) words) r) e ∙ words_ended p.steps (take (3 * p.steps) words) n u.session;
+        same = same_standing m rows u ∙ ap (λ (r : Run). after_words p.steps (take (3 * p.steps) words) r) e ∙ words_ended p.steps (take (3 * p.steps) words) n u.session;
       }
 
   -- The answer of a step that is refused, or of the end.

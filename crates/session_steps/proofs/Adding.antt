@@ -51,7 +51,7 @@ use Rattle.session_steps.specs.Effects.{StateSaved, Adding, Added, place_at}
 use Rattle.write_place.proofs.Sizes.{size_written}
 use Rattle.write_place.proofs.Frames.{places_kept, atoms_kept, whole_kept, holds_kept, unmapped_kept, all_counts_kept}
 use Rattle.session_state.proofs.Runs.{after_tried, tried, tried_went, add_settles, run_add, shows_tried, words_ended}
-use Rattle.session_state.proofs.Answers.{same-standing}
+use Rattle.session_state.proofs.Answers.{same_standing}
 use Rattle.session_state.proofs.States.{roomy_later, copied_kept, at_kept, history_more, go_on}
 
 -- ---- what an add takes
@@ -313,7 +313,7 @@ module _ {measure : Measure} {input : List ℕ} {f : File} {w words : List ℕ} 
       ≡ after_words p.steps (take (3 * p.steps) words) (after_step (after_tried b h r (standing u.past s)) (λ t. run_steps (measure_of measure) (length out') f rest t))
   run r q =
       subst (λ (n : ℕ). whole_run measure f n ≡ after_words p.steps (take (3 * p.steps) words) (run_steps (measure_of measure) n f u.left (standing u.past s))) (sym a.out_long)
-      (same-standing input f w words out p (record_of w p) none_open measure rows u)
+      (same_standing input f w words out p (record_of w p) none_open measure rows u)
       ∙ ap (λ (ss : List Step). after_words p.steps (take (3 * p.steps) words) (run_steps (measure_of measure) (length out') f ss (standing u.past s))) e
       ∙ ap (λ (y : Run). after_words p.steps (take (3 * p.steps) words) y)
       (run_add measure (length out') f u.past s b h rest (todo_of f w p.opens) r waiting few_past q)

@@ -33,15 +33,15 @@ use Rattle.session_state.specs.Steps.{Comes, Ready, Onward}
 use Rattle.session_steps.specs.Effects.{told_add, Adding, Added}
 use Rattle.session_state.proofs.Runs.{run_ends, run_none_open, run_finished, run_full}
 use Rattle.session_steps.proofs.Adding.{adding, added_on, added_off}
-use Rattle.session_state.proofs.Answers.{stands_on, stands-off, stops}
+use Rattle.session_state.proofs.Answers.{stands_on, stands_off, stops}
 
-pub bit-most : (b : Bool) → bit b ≤ 1
-bit-most true = omega arith
-bit-most false = omega arith
+pub bit_most : (b : Bool) → bit b ≤ 1
+bit_most true = omega arith
+bit_most false = omega arith
 
 -- Neither question gets no.
-pub not-asked : (p : Progress) {n : ℕ} → n ≡ question_of p.finished p.adds → n ≡ 0 → (p.finished ≡ false) × (p.adds < 16)
-not-asked p {n} e z = go p.finished refl (ltb p.adds 16) refl (sym z ∙ e)
+pub not_asked : (p : Progress) {n : ℕ} → n ≡ question_of p.finished p.adds → n ≡ 0 → (p.finished ≡ false) × (p.adds < 16)
+not_asked p {n} e z = go p.finished refl (ltb p.adds 16) refl (sym z ∙ e)
   where
     go : (b : Bool) → p.finished ≡ b → (d : Bool) → ltb p.adds 16 ≡ d → ◌≡◌ {A = ℕ} 0 (cond b 9 (cond d 0 10)) → (p.finished ≡ false) × (p.adds < 16)
     go true fin d m q = absurd (omega (arith, q))
@@ -50,15 +50,15 @@ not-asked p {n} e z = go p.finished refl (ltb p.adds 16) refl (sym z ∙ e)
 
 module _ {input : List ℕ} {f : File} {w words out : List ℕ} {p : Progress} {c : Checkpoint} (ready : Ready input f w words out p c)
     (none_open : p.quoted ≡ false) where
-  pub stops-at-end : {a : StepAnswer} → a ≡ stopped_at p 0 c → Comes input p.at next_step.End → Onward input f w words out p c w words out a
-  stops-at-end {a} is comes =
+  pub stops_at_end : {a : StepAnswer} → a ≡ stopped_at p 0 c → Comes input p.at next_step.End → Onward input f w words out p c w words out a
+  stops_at_end {a} is comes =
       stops input f w words out p c none_open 0 a is (λ measure rows u.
       let e = comes u.left u.steps_there in
       ap (λ (ss : List Step). run_steps (measure_of measure) (length out) f ss (standing u.past u.session)) e ∙ run_ends measure (length out) f u.past u.session)
 
   -- A taking with no quote open.
-  pub stops-17 : {next : ℕ} {a : StepAnswer} → a ≡ stopped_at p 17 c → Comes input p.at (next_step.Take next) → Onward input f w words out p c w words out a
-  stops-17 {next} {a} is comes =
+  pub stops_17 : {next : ℕ} {a : StepAnswer} → a ≡ stopped_at p 17 c → Comes input p.at (next_step.Take next) → Onward input f w words out p c w words out a
+  stops_17 {next} {a} is comes =
       stops input f w words out p c none_open 17 a is (λ measure rows u.
       let e = comes u.left u.steps_there in
       ap (λ (ss : List Step). run_steps (measure_of measure) (length out) f ss (standing u.past u.session)) e.1 ∙ run_none_open measure (length out) f u.past u.session e.0)
@@ -73,8 +73,8 @@ module _ {input : List ℕ} {f : File} {w words out : List ℕ} {p : Progress} {
         go true q = q
 
     -- Question 9.
-    stops-9 : (a : StepAnswer) → a ≡ stopped_at p 9 c → p.finished ≡ true → Onward input f w words out p c w words out a
-    stops-9 a is fin =
+    stops_9 : (a : StepAnswer) → a ≡ stopped_at p 9 c → p.finished ≡ true → Onward input f w words out p c w words out a
+    stops_9 a is fin =
         stops input f w words out p c none_open 9 a is (λ measure rows u.
         let e = comes u.left u.steps_there in
         ap (λ (ss : List Step). run_steps (measure_of measure) (length out) f ss (standing u.past u.session)) e.1
@@ -82,8 +82,8 @@ module _ {input : List ℕ} {f : File} {w words out : List ℕ} {p : Progress} {
         (u.present.waiting ∙ ap (λ (b : Bool). waits b (todo_of f w p.opens)) fin))
 
     -- Question 10.
-    stops-10 : (a : StepAnswer) → a ≡ stopped_at p 10 c → p.finished ≡ false → 16 ≤ p.adds → Onward input f w words out p c w words out a
-    stops-10 a is fin full =
+    stops_10 : (a : StepAnswer) → a ≡ stopped_at p 10 c → p.finished ≡ false → 16 ≤ p.adds → Onward input f w words out p c w words out a
+    stops_10 a is fin full =
         stops input f w words out p c none_open 10 a is (λ measure rows u.
         let e = comes u.left u.steps_there in
         ap (λ (ss : List Step). run_steps (measure_of measure) (length out) f ss (standing u.past u.session)) e.1
@@ -91,30 +91,30 @@ module _ {input : List ℕ} {f : File} {w words out : List ℕ} {p : Progress} {
         (u.present.waiting ∙ ap (λ (b : Bool). waits b (todo_of f w p.opens)) fin) (omega (arith, u.history.long)))
 
     -- Both questions.
-    pub stops-asked : {n : ℕ} → n ≡ question_of p.finished p.adds → (n ≡ 0 → ⊥) → {a : StepAnswer} → a ≡ stopped_at p n c
+    pub stops_asked : {n : ℕ} → n ≡ question_of p.finished p.adds → (n ≡ 0 → ⊥) → {a : StepAnswer} → a ≡ stopped_at p n c
         → Onward input f w words out p c w words out a
-    stops-asked {n} e nz {a} is = go p.finished refl (ltb p.adds 16) refl e
+    stops_asked {n} e nz {a} is = go p.finished refl (ltb p.adds 16) refl e
       where
         go : (b : Bool) → p.finished ≡ b → (d : Bool) → ltb p.adds 16 ≡ d → n ≡ cond b 9 (cond d 0 10) → Onward input f w words out p c w words out a
-        go true fin d m q = stops-9 a (is ∙ ap (λ (x : ℕ). stopped_at p x c) q) fin
+        go true fin d m q = stops_9 a (is ∙ ap (λ (x : ℕ). stopped_at p x c) q) fin
         go false fin true m q = absurd (nz q)
-        go false fin false m q = stops-10 a (is ∙ ap (λ (x : ℕ). stopped_at p x c) q) fin (ltb-false p.adds 16 m)
+        go false fin false m q = stops_10 a (is ∙ ap (λ (x : ℕ). stopped_at p x c) q) fin (ltb-false p.adds 16 m)
 
     module _ (free : (p.finished ≡ false) × (p.adds < 16)) where
-      pub add-asks : Adding input w out p node.0
-      add-asks =
+      pub add_asks : Adding input w out p node.0
+      add_asks =
           let u = ready.underway in
           let e = comes u.left u.steps_there in
           adding quotes u e.1 free.0 free.1
 
       module _ {w' out' : List ℕ} {q : Progress} (ad : Added input w out w' out' p node q) where
-        steps-same : (o : Outcome) → (after_outcome p o).steps ≡ p.steps
-        steps-same (outcome.Done pl) = refl
-        steps-same (outcome.Stopped pl) = refl
-        steps-same (outcome.Refused n pl) = refl
+        steps_same : (o : Outcome) → (after_outcome p o).steps ≡ p.steps
+        steps_same (outcome.Done pl) = refl
+        steps_same (outcome.Stopped pl) = refl
+        steps_same (outcome.Refused n pl) = refl
 
-        same-steps : q.steps ≡ p.steps
-        same-steps = ap (λ (x : Progress). x.steps) ad.is ∙ steps-same ad.outcome
+        same_steps : q.steps ≡ p.steps
+        same_steps = ap (λ (x : Progress). x.steps) ad.is ∙ steps_same ad.outcome
 
         fits : (o : Outcome) → Fine w' out' (ended_at o) → (after_outcome p o).done ≡ false
             → ((after_outcome p o).counts.size ≤ 65535) × Bounded (after_outcome p o).counts
@@ -122,36 +122,36 @@ module _ {input : List ℕ} {f : File} {w words out : List ℕ} {p : Progress} {
         fits (outcome.Stopped pl) r d = (omega (arith, r.fits, r.short), r.bounded)
         fits (outcome.Refused n pl) r d = clash cc
 
-        pub note-asks : q.done ≡ false → {k : Progress} → k ≡ with_quote q quotes → Noting words k
-        note-asks d {k} is =
+        pub note_asks : q.done ≡ false → {k : Progress} → k ≡ with_quote q quotes → Noting words k
+        note_asks d {k} is =
             let u = ready.underway in
             let e = comes u.left u.steps_there in
             let l : length u.left ≡ suc (length e.0) = ap length e.1 in
             let z : (q.counts.size ≤ 65535) × Bounded q.counts =
             subst (λ (x : Progress). x.done ≡ false → (x.counts.size ≤ 65535) × Bounded x.counts) (sym ad.is) (fits ad.outcome ad.resumed.fine) d in
             subst (Noting words) (sym is)
-            (record { room = omega (arith, u.few_steps, u.many_words, same-steps); short = z.0; bounded = z.1; few_steps = omega (arith, u.few_steps, same-steps) })
+            (record { room = omega (arith, u.few_steps, u.many_words, same_steps); short = z.0; bounded = z.1; few_steps = omega (arith, u.few_steps, same_steps) })
 
         -- A refused add.
-        pub adds-off : (saved : Checkpoint) {t : Progress} → q.done ≡ true → t ≡ refusal_of quotes p q
+        pub adds_off : (saved : Checkpoint) {t : Progress} → q.done ≡ true → t ≡ refusal_of quotes p q
             → Onward input f w words out p c w' words out' (record { state = t; saved = saved })
-        adds-off saved {t} d is measure rows u r-is =
+        adds_off saved {t} d is measure rows u r_is =
             let e = comes u.left u.steps_there in
-            let r = refused-so quotes in (
-              stands-off measure input f w' words (set rows (slot_for p.quoted u.left p.adds) saved) out' t (ap (λ (x : Progress). x.done) is ∙ r.0)
+            let r = refused_so quotes in (
+              stands_off measure input f w' words (set rows (slot_for p.quoted u.left p.adds) saved) out' t (ap (λ (x : Progress). x.done) is ∙ r.0)
                   (added_off quotes next u none_open e.1 e.2 free.0 free.1 ad d is),
-              omega (arith, ap (λ (x : Progress). x.steps) is, r.1, ap (λ (x : Progress). bit x.done) is, ap bit r.0, bit-most (not p.quoted)),
+              omega (arith, ap (λ (x : Progress). x.steps) is, r.1, ap (λ (x : Progress). bit x.done) is, ap bit r.0, bit_most (not p.quoted)),
             )
           where
-            refused-so : (b : Bool) → ((refusal_of b p q).done ≡ true) × ((refusal_of b p q).steps ≡ p.steps)
-            refused-so false = (d, same-steps)
-            refused-so true = (refl, refl)
+            refused_so : (b : Bool) → ((refusal_of b p q).done ≡ true) × ((refusal_of b p q).steps ≡ p.steps)
+            refused_so false = (d, same_steps)
+            refused_so true = (refl, refl)
 
         -- An add that is not refused.
         pub adds_on : {words' : List ℕ} {saved : Checkpoint} {t : Progress} → saved ≡ record_of w p → q.done ≡ false
             → {k : Progress} → k ≡ with_quote q quotes → words' ≡ noted_words words k → t ≡ noted_at k next
             → Onward input f w words out p c w' words' out' (record { state = t; saved = saved })
-        adds_on {words'} {saved} {t} sv d {k} kept ws is measure rows u r-is =
+        adds_on {words'} {saved} {t} sv d {k} kept ws is measure rows u r_is =
             let e = comes u.left u.steps_there in
             let is' : t ≡ noted_at (with_quote q quotes) next = is ∙ ap (λ (x : Progress). noted_at x next) kept in
             let ws' : words' ≡ noted_words words q =
@@ -160,5 +160,5 @@ module _ {input : List ℕ} {f : File} {w words out : List ℕ} {p : Progress} {
               stands_on measure input f w' words' (set rows (slot_for p.quoted u.left p.adds) saved) out' t (ap (λ (x : Progress). x.done) is' ∙ d)
                   (subst (λ (x : Checkpoint). Underway measure input f w' words' (set rows (slot_for p.quoted u.left p.adds) x) out' t) (sym sv)
                   (added_on quotes next u none_open e.1 e.2 free.0 free.1 ad d ws' is')),
-              omega (arith, same-steps, bit-most (not p.quoted)),
+              omega (arith, same_steps, bit_most (not p.quoted)),
             )

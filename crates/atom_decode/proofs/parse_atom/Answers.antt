@@ -1,6 +1,6 @@
 -- `atom_decode::parse_atom` meets its contract.
 -- Assumes nothing.
-use Rattle.atom_decode.specs.decode_size.Answers.{decoded-size}
+use Rattle.atom_decode.specs.decode_size.Answers.{decoded_size}
 use Rattle.atom_decode.proofs.Parsing.{parsed_refused, parsed_there, parsed_sized}
 use mathlib.Core.Path.{sym, ap, ◌∙◌}
 use native.Mathlib.Omega.{arith}
@@ -21,14 +21,14 @@ overflow_add-position c =
     omega (
       arith,
       parsed_there a.input.now a.position (omega arith) c.if-input-position-le-MAX_SINGLE_BYTE.false c.in-Size.offset c.in-Size.size
-          (sym c.decode_size_with_offset.ensures ∙ ap decoded-size c.in-Size.is),
+          (sym c.decode_size_with_offset.ensures ∙ ap decoded_size c.in-Size.is),
     )
 
 pub whole_atom-requires : goal.whole_atom-requires
 whole_atom-requires c =
     let a = c.args in
     parsed_there a.input.now a.position (omega arith) c.if-input-position-le-MAX_SINGLE_BYTE.false c.in-Size.offset c.in-Size.size
-    (sym c.decode_size_with_offset.ensures ∙ ap decoded-size c.in-Size.is)
+    (sym c.decode_size_with_offset.ensures ∙ ap decoded_size c.in-Size.is)
 
 pub returns-in-Size : goal.returns-in-Size
 returns-in-Size c =
@@ -36,16 +36,16 @@ returns-in-Size c =
     c.whole_atom.ensures
     ∙ parsed_sized a.input.now a.position (omega arith) c.if-input-position-le-MAX_SINGLE_BYTE.false
     c.in-Size.offset c.in-Size.size
-    (sym c.decode_size_with_offset.ensures ∙ ap decoded-size c.in-Size.is)
+    (sym c.decode_size_with_offset.ensures ∙ ap decoded_size c.in-Size.is)
 
 pub returns-in-SerializationError : goal.returns-in-SerializationError
 returns-in-SerializationError c =
     let a = c.args in
     parsed_refused a.input.now a.position (omega arith) c.if-input-position-le-MAX_SINGLE_BYTE.false 14
-    (sym c.decode_size_with_offset.ensures ∙ ap decoded-size c.in-SerializationError.is)
+    (sym c.decode_size_with_offset.ensures ∙ ap decoded_size c.in-SerializationError.is)
 
 pub returns-in-NonCanonicalSerialization : goal.returns-in-NonCanonicalSerialization
 returns-in-NonCanonicalSerialization c =
     let a = c.args in
     parsed_refused a.input.now a.position (omega arith) c.if-input-position-le-MAX_SINGLE_BYTE.false 15
-    (sym c.decode_size_with_offset.ensures ∙ ap decoded-size c.in-NonCanonicalSerialization.is)
+    (sym c.decode_size_with_offset.ensures ∙ ap decoded_size c.in-NonCanonicalSerialization.is)

@@ -3,7 +3,7 @@ use Rattle.atom.specs.Parse.{Size, sized, bad_size}
 use Rattle.atom_decode.specs.declared.decode_size.DecodeSize.{DecodeSize}
 use Rattle.atom_decode.specs.declared.decode_size.DecodeSize.TheVariants as decode_size
 
-abbrev pub decoded-size : DecodeSize → Size
-decoded-size (decode_size.Size w n) = sized w n
-decoded-size decode_size.SerializationError = bad_size 14
-decoded-size decode_size.NonCanonicalSerialization = bad_size 15
+abbrev pub decoded_size : DecodeSize → Size
+decoded_size (decode_size.Size w n) = sized w n
+decoded_size decode_size.SerializationError = bad_size 14
+decoded_size decode_size.NonCanonicalSerialization = bad_size 15

@@ -15,7 +15,7 @@ use Rattle.cache_entries.proofs.atom_key.Goals as goal
 pub first_of-first-requires : goal.first_of-first-requires
 first_of-first-requires c =
     let listed : is_listed (node_of c.args.h.0) ≡ true =
-        sym c.is_listed.ensures ∙ c.if-is_listed.true in
+    sym c.is_listed.ensures ∙ c.if-is_listed.true in
     let s = c in
     let l = listed_few s.args.work.now s.args.h.0 s.requires.0 s.requires.1 listed in
     (s.requires.0.sound.long, omega (arith, c.wide-i.ensures, c.index.ensures))
@@ -23,7 +23,7 @@ first_of-first-requires c =
 pub bytes-requires : goal.bytes-requires
 bytes-requires c =
     let listed : is_listed (node_of c.args.h.0) ≡ true =
-        sym c.is_listed.ensures ∙ c.if-is_listed.true in
+    sym c.is_listed.ensures ∙ c.if-is_listed.true in
     let s = c in
     let l = first_few s.args.work.now s.args.h.0 s.requires.0 s.requires.1 listed in
     let i = c.wide-i.ensures ∙ c.index.ensures in
@@ -33,7 +33,7 @@ bytes-requires c =
 pub returns-then-is_listed : goal.returns-then-is_listed
 returns-then-is_listed c =
     let listed : is_listed (node_of c.args.h.0) ≡ true =
-        sym c.is_listed.ensures ∙ c.if-is_listed.true in
+    sym c.is_listed.ensures ∙ c.if-is_listed.true in
     let s = c in
     let i = c.wide-i.ensures ∙ c.index.ensures in
     let f = c.first_of-first.ensures ∙ ap (λ (k : ℕ). at s.args.work.now (FIRST + k)) i in

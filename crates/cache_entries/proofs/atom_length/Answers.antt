@@ -17,7 +17,7 @@ use Rattle.cache_entries.proofs.atom_length.Goals as goal
 pub listed_length-requires : goal.listed_length-requires
 listed_length-requires c =
     let listed : is_listed (node_of c.args.h.0) ≡ true =
-        sym c.is_listed.ensures ∙ c.if-is_listed.true in
+    sym c.is_listed.ensures ∙ c.if-is_listed.true in
     let s = c in
     let l = listed_few s.args.work.now s.args.h.0 s.requires.0 s.requires.1 listed in
     (s.requires.0.sound.long, omega (arith, c.wide-i.ensures, c.index.ensures))
@@ -25,7 +25,7 @@ listed_length-requires c =
 pub returns-then-is_listed : goal.returns-then-is_listed
 returns-then-is_listed c =
     let listed : is_listed (node_of c.args.h.0) ≡ true =
-        sym c.is_listed.ensures ∙ c.if-is_listed.true in
+    sym c.is_listed.ensures ∙ c.if-is_listed.true in
     let s = c in
     let i = c.wide-i.ensures ∙ c.index.ensures in
     measured_listed s.args.work.now s.args.h.0 s.requires.0 s.requires.1 listed c.listed_length.result

@@ -17,7 +17,7 @@ pub loop-d-preserved : goal.loop-d-preserved
 loop-d-preserved c =
     let l = c.loop-d in
     let p = c.pop in
-    (p.auto.0 ∙ l.invariant.0, p.ensures.stacked, only_both _ _ _ l.invariant.2 p.ensures.only)
+    (p.auto.work ∙ l.invariant.0, p.ensures.stacked, only_both _ _ _ l.invariant.2 p.ensures.only)
 
 pub shape_of-work : goal.shape_of-work
 shape_of-work c = c.loop-d.invariant.0

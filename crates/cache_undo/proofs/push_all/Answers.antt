@@ -24,7 +24,7 @@ loop-i-preserved c =
     let s = c in
     let l = c.loop-i in
     let p = c.push in
-    (omega arith, p.auto.0 ∙ l.invariant.1, pushed_more s.args.work.now s.args.from s.requires.3 _ _ l.i l.invariant.2 p.ensures)
+    (omega arith, p.auto.work ∙ l.invariant.1, pushed_more s.args.work.now s.args.from s.requires.3 _ _ l.i l.invariant.2 p.ensures)
 
 pub shape_of-work : goal.shape_of-work
 shape_of-work c = c.loop-i.invariant.1

@@ -12,7 +12,7 @@ pub push_all-requires : goal.push_all-requires
 push_all-requires c =
     let s = c in
     let p = c.pop_all in
-    (omega (arith, p.auto.0), p.ensures.stacked, s.requires.4, omega arith, omega arith, entries_still _ _ s.args.k s.args.depth p.ensures s.requires.5)
+    (omega (arith, p.auto.work), p.ensures.stacked, s.requires.4, omega arith, omega arith, entries_still _ _ s.args.k s.args.depth p.ensures s.requires.5)
 
 pub returns : goal.returns
 returns c =
@@ -26,5 +26,5 @@ returns c =
     restored s.args.k s.requires.3
     p.ensures
     q.ensures
-    (copied _ (copied_open s.args.k) OPEN s.args.opens (omega (arith, p.auto.0, q.auto.0)) (omega (arith, p.auto.0, q.auto.0)) _ a.ensures)
-    (copied _ (copied_marks s.args.k) WRITTEN 96 (omega (arith, p.auto.0, q.auto.0, a.auto.0)) (omega (arith, p.auto.0, q.auto.0, a.auto.0)) _ m.ensures)
+    (copied _ (copied_open s.args.k) OPEN s.args.opens (omega (arith, p.auto.work, q.auto.work)) (omega (arith, p.auto.work, q.auto.work)) _ a.ensures)
+    (copied _ (copied_marks s.args.k) WRITTEN 96 (omega (arith, p.auto.work, q.auto.work, a.auto.words)) (omega (arith, p.auto.work, q.auto.work, a.auto.words)) _ m.ensures)

@@ -14,9 +14,9 @@ use Rattle.cache_update.proofs.take_sentinel.Goals as goal
 pub take_parents-requires : goal.take_parents-requires
 take_parents-requires c =
     let entry : ℕ =
-        c.in-At.e.0 in
+    c.in-At.e.0 in
     let is : some entry ≡ entry_or_none (at c.args.work.now SENTINEL_ENTRY) =
-        sym (ap option_of c.in-At.is) ∙ c.sentinel_entry.ensures in
+    sym (ap option_of c.in-At.is) ∙ c.sentinel_entry.ensures in
     let x = c in
     let s = x in
     (s.requires.sound, sentinel_low s.args.work.now s.args.work.now entry 0 s.requires is)
@@ -24,9 +24,9 @@ take_parents-requires c =
 pub returns-in-At : goal.returns-in-At
 returns-in-At c =
     let entry : ℕ =
-        c.in-At.e.0 in
+    c.in-At.e.0 in
     let is : some entry ≡ entry_or_none (at c.args.work.now SENTINEL_ENTRY) =
-        sym (ap option_of c.in-At.is) ∙ c.sentinel_entry.ensures in
+    sym (ap option_of c.in-At.is) ∙ c.sentinel_entry.ensures in
     let t = c in
     let x = t in
     let s = x in

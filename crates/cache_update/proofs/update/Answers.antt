@@ -26,4 +26,4 @@ returns c =
     let taken = entered in
     let s = taken in
     let e = entered.enter-e in
-    updated s.args.root.0 s.requires.0.0 s.requires.0.1 s.requires.1 taken.take_sentinel-n.ensures e.ensures e.auto.0 c.place_parents.ensures
+    updated s.args.root.0 s.requires.0.0 s.requires.0.1 s.requires.1 taken.take_sentinel-n.ensures e.ensures e.auto.work c.place_parents.ensures

@@ -29,7 +29,7 @@ returns-then-code-eq5 c =
 pub returns-then-left-lt5 : goal.returns-then-left-lt5
 returns-then-left-lt5 c =
     let of-handle : let v = c.number_at-code.result in (v ≡ 1) ⊎ (v ≡ 4) =
-        ⊎_elim (λ w. inl w.taken) (λ w. inr (eqb-true c.number_at-code.result 4 w.1.taken)) c.if-code-eq1.branch in
+    ⊎_elim (λ w. inl w.taken) (λ w. inr (eqb-true c.number_at-code.result 4 w.1.taken)) c.if-code-eq1.branch in
     let a = c.args in
     let code = c.number_at-code in
     (step_short a.file.now a.at code.result code.ensures 5 (handle_size a.file.now a.at code.result of-handle) (omega arith), tt)
@@ -46,7 +46,7 @@ returns-then-code-eq4-2 c =
 pub returns-then-code-eq1 : goal.returns-then-code-eq1
 returns-then-code-eq1 c =
     let of-handle : let v = c.number_at-code.result in (v ≡ 1) ⊎ (v ≡ 4) =
-        ⊎_elim (λ w. inl w.taken) (λ w. inr (eqb-true c.number_at-code.result 4 w.1.taken)) c.if-code-eq1.branch in
+    ⊎_elim (λ w. inl w.taken) (λ w. inr (eqb-true c.number_at-code.result 4 w.1.taken)) c.if-code-eq1.branch in
     let a = c.args in
     let code = c.number_at-code in
     let operand = c.number_at in

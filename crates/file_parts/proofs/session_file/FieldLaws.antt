@@ -24,7 +24,7 @@ use Rattle.allocator.specs.declared.FitsInSmallAtom.TheVariants.{Small, Listed}
 use Rattle.file_parts.specs.declared.session_file.Part.{Part}
 use Rattle.spec_session.specs.File as format
 use Rattle.spec_session.specs.File.{Got, got, refused, and_then, asked, bytes_of, field, count, version_1, listed, named, handle, one_pair, operand, one_step, add, restore, forget, quote, take_quote}
-use Rattle.file_parts.specs.Answers.{Answers, itself, sized, pair_word, operand_word, atom-of}
+use Rattle.file_parts.specs.Answers.{Answers, itself, sized, pair_word, operand_word, atom_of}
 use Rattle.spec_session.specs.Sentinel.{sentinel_word}
 
 -- ---- questions
@@ -58,10 +58,10 @@ module _ {A : Type 0} (input : List ℕ) (word : A → ℕ) (p : Part) where
 
   -- A value, however it came.
   pub gives : (g : Got A) (a : A) → g ≡ got a (drop p.next input) → p.number ≡ 0 → p.value ≡ word a → p.next ≤ length input → Answers input word p g
-  gives g a e q v h = subst (Answers input word p) (sym e) (record { number_is = q; value-is = v; next_is = refl; inside = h })
+  gives g a e q v h = subst (Answers input word p) (sym e) (record { number_is = q; value_is = v; next_is = refl; inside = h })
 
   pub taken : (g : Got A) → Answers input word p g → p.number ≡ 0 → Taken input word p g
-  taken (got a rest) h z = record { value = a; is = ap (got a) h.next_is; word_is = h.value-is; inside = h.inside }
+  taken (got a rest) h z = record { value = a; is = ap (got a) h.next_is; word_is = h.value_is; inside = h.inside }
   taken (refused n) h z = absurd (omega (arith, h.number_is, h.low))
 
   pub turned : (g : Got A) → Answers input word p g → (p.number ≡ 0 → ⊥) → Turned p g
@@ -83,7 +83,7 @@ then_taken {A} {B} input word word' p q g f t h = subst (Answers input word' q) 
 -- A value put under a constructor that keeps its word.
 pub mapped : {A B : Type 0} (input : List ℕ) (word : A → ℕ) (word' : B → ℕ) (q : Part) (g : Got A) (f : A → B) → ((a : A) → word' (f a) ≡ word a)
     → Answers input word q g → Answers input word' q (and_then g (λ a r. got (f a) r))
-mapped input word word' q (got a rest) f same h = record { number_is = h.number_is; value-is = h.value-is ∙ sym (same a); next_is = h.next_is; inside = h.inside }
+mapped input word word' q (got a rest) f same h = record { number_is = h.number_is; value_is = h.value_is ∙ sym (same a); next_is = h.next_is; inside = h.inside }
 mapped input word word' q (refused n) f same h = h
 
 -- ---- a number's field
@@ -130,16 +130,16 @@ module _ (input : List ℕ) (p : Part) (at most : ℕ) (h : Answers input itself
 
 module _ (input : List ℕ) (p : Part) (at used : ℕ) (h : Answers input itself p (field 2 (drop at input))) where
   pub atom_refused : (p.number ≡ 0 → ⊥) → Answers input sized p (format.atom version_1 used (drop at input))
-  atom_refused z = then_refused input itself sized p (field 2 (drop at input)) (λ n r. atom-of used n r) h z
+  atom_refused z = then_refused input itself sized p (field 2 (drop at input)) (λ n r. atom_of used n r) h z
 
   pub atom_inside : p.number ≡ 0 → p.next ≤ length input
   atom_inside z = (taken input itself p (field 2 (drop at input)) h z).inside
 
-  pub atom_then : p.number ≡ 0 → (q : Part) → Answers input sized q (atom-of used p.value (drop p.next input)) → Answers input sized q (format.atom version_1 used (drop at input))
+  pub atom_then : p.number ≡ 0 → (q : Part) → Answers input sized q (atom_of used p.value (drop p.next input)) → Answers input sized q (format.atom version_1 used (drop at input))
   atom_then z q a =
       let t = taken input itself p (field 2 (drop at input)) h z in
-      then_taken input itself sized p q (field 2 (drop at input)) (λ n r. atom-of used n r) t
-      (subst (λ (n : ℕ). Answers input sized q (atom-of used n (drop p.next input))) t.word_is a)
+      then_taken input itself sized p q (field 2 (drop at input)) (λ n r. atom_of used n r) t
+      (subst (λ (n : ℕ). Answers input sized q (atom_of used n (drop p.next input))) t.word_is a)
 
 -- The answer of `fits_in_small_atom` is question 6's.
 small_no : (o : Option ℕ) (v : ℕ) → Small v ≡ fits_answer o → listed o ≡ false
@@ -151,21 +151,21 @@ listed_yes none e = refl
 listed_yes (some w) e = clash cc
 
 module _ (input : List ℕ) (q : Part) (start n used : ℕ) (h : start ≤ length input) where
-  pub atom_short : length input - start < n → q.number ≡ 4 → Answers input sized q (atom-of used n (drop start input))
+  pub atom_short : length input - start < n → q.number ≡ 4 → Answers input sized q (atom_of used n (drop start input))
   atom_short l e =
-      refuses input sized q (atom-of used n (drop start input)) 4
+      refuses input sized q (atom_of used n (drop start input)) 4
       (ap (λ (g : Got (List ℕ)). and_then g (λ b s. asked 5 (leb (used + n) 32768) (asked 6 (listed (fits_in_small_atom b)) (got b s))))
       (no_asked 4 (leb n (length (drop start input))) _ (lt-leb n (length (drop start input)) (simp length-drop (omega arith)))))
       e (omega arith) (omega arith)
 
   module _ (l : n ≤ length input - start) where
     -- The bytes are there.
-    there : atom-of used n (drop start input) ≡ asked 5 (leb (used + n) 32768) (asked 6 (listed (fits_in_small_atom (part input start n))) (got (part input start n) (drop (start + n) input)))
+    there : atom_of used n (drop start input) ≡ asked 5 (leb (used + n) 32768) (asked 6 (listed (fits_in_small_atom (part input start n))) (got (part input start n) (drop (start + n) input)))
     there = ap (λ (g : Got (List ℕ)). and_then g (λ b s. asked 5 (leb (used + n) 32768) (asked 6 (listed (fits_in_small_atom b)) (got b s)))) (bytes_there input q start n h l)
 
-    pub atom_large : used ≤ 32768 → 32768 - used < n → q.number ≡ 5 → Answers input sized q (atom-of used n (drop start input))
+    pub atom_large : used ≤ 32768 → 32768 - used < n → q.number ≡ 5 → Answers input sized q (atom_of used n (drop start input))
     atom_large u m e =
-        refuses input sized q (atom-of used n (drop start input)) 5
+        refuses input sized q (atom_of used n (drop start input)) 5
         (there ∙ no_asked 5 (leb (used + n) 32768) _ (lt-leb (used + n) 32768 (omega arith)))
         e (omega arith) (omega arith)
 
@@ -174,21 +174,21 @@ module _ (input : List ℕ) (q : Part) (start n used : ℕ) (h : start ≤ lengt
       unfolding part
       here = let e : start + n - start ≡ n = omega arith in ap (λ (k : ℕ). take k (drop start input)) e
 
-      few : atom-of used n (drop start input) ≡ asked 6 (listed (fits_in_small_atom (part input start n))) (got (part input start n) (drop (start + n) input))
+      few : atom_of used n (drop start input) ≡ asked 6 (listed (fits_in_small_atom (part input start n))) (got (part input start n) (drop (start + n) input))
       few = there ∙ yes_asked 5 (leb (used + n) 32768) _ (le-leb (used + n) 32768 (omega arith))
 
       answer : r ≡ fits_answer (fits_in_small_atom (part input start n))
       answer = f ∙ ap (λ (b : List ℕ). fits_answer (fits_in_small_atom b)) here
 
-      pub atom_small : (v : ℕ) → r ≡ Small v → q.number ≡ 6 → Answers input sized q (atom-of used n (drop start input))
+      pub atom_small : (v : ℕ) → r ≡ Small v → q.number ≡ 6 → Answers input sized q (atom_of used n (drop start input))
       atom_small v k e =
-          refuses input sized q (atom-of used n (drop start input)) 6
+          refuses input sized q (atom_of used n (drop start input)) 6
           (few ∙ no_asked 6 (listed (fits_in_small_atom (part input start n))) _ (small_no (fits_in_small_atom (part input start n)) v (sym k ∙ answer)))
           e (omega arith) (omega arith)
 
-      pub atom_there : r ≡ Listed → q.number ≡ 0 → q.value ≡ n → q.next ≡ start + n → Answers input sized q (atom-of used n (drop start input))
+      pub atom_there : r ≡ Listed → q.number ≡ 0 → q.value ≡ n → q.next ≡ start + n → Answers input sized q (atom_of used n (drop start input))
       atom_there k z v e =
-          gives input sized q (atom-of used n (drop start input)) (part input start n)
+          gives input sized q (atom_of used n (drop start input)) (part input start n)
           (few ∙ yes_asked 6 (listed (fits_in_small_atom (part input start n))) _ (listed_yes (fits_in_small_atom (part input start n)) (sym k ∙ answer))
           ∙ ap (λ (j : ℕ). got (part input start n) (drop j input)) (sym e))
           z (v ∙ sym (part_length input start n (omega arith))) (omega arith)

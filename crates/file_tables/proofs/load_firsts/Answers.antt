@@ -19,7 +19,7 @@ loop-i-preserved c =
     let s = c in
     let l = c.loop-i in
     let t = c.load_atom in
-    (omega arith, t.auto.0 ∙ l.invariant.1, load_more _ _ _ s.requires l.work l.i l.invariant.2 _ (omega arith) t.ensures)
+    (omega arith, t.auto.work ∙ l.invariant.1, load_more _ _ _ s.requires l.work l.i l.invariant.2 _ (omega arith) t.ensures)
 
 pub shape_of-work : goal.shape_of-work
 shape_of-work c = c.loop-i.invariant.1

@@ -246,10 +246,10 @@ module _ {M : Type 1} {𝓤 : Ura M} (𝓛 : Logic 𝓤) (mem : Memory → SProp
         split ! $ move ! (1 ∷ []) $ use1 𝓛 (raw (fact 𝓤 ((r.input ≡ s) × (r.position ≡ p + n)))) (advance-said n r) $
         heard ! ((r.input ≡ s) × (r.position ≡ p + n)) (λ er. split ! $ move ! (1 ∷ []) $
         -- [what the cursor owns; the token; what the input owns; _9; …]
-        peeks ! (B (κ, tt)) (Is (B (κ, tt))) (shows 𝓛 (B (κ, tt))) r (u₃ ∷ []) (λ r-is.
-        land ! (from ! (stop !)) (init ! 9 refl ((LL.lawful (T.the_type αᵉ) (T'.the_laws αᵉ) 𝓛).typed r _ r-is).0) $
+        peeks ! (B (κ, tt)) (Is (B (κ, tt))) (shows 𝓛 (B (κ, tt))) r (u₃ ∷ []) (λ r_is.
+        land ! (from ! (stop !)) (init ! 9 refl ((LL.lawful (T.the_type αᵉ) (T'.the_laws αᵉ) 𝓛).typed r _ r_is).0) $
         -- what stands there
-        assigns ! (of_opd ! (load ! (from ! (stop !)) (look ! 9 refl))) (from ! (stop !)) (init ! 3 refl ((LL.lawful (T.the_type αᵉ) (T'.the_laws αᵉ) 𝓛).typed r _ r-is).0) $
+        assigns ! (of_opd ! (load ! (from ! (stop !)) (look ! 9 refl))) (from ! (stop !)) (init ! 3 refl ((LL.lawful (T.the_type αᵉ) (T'.the_laws αᵉ) 𝓛).typed r _ r_is).0) $
         use2 𝓛 (raw ((Parse 𝓛 mem run).pre (to-parse r u₃ f u₁))) (goes-parse r u₃ f u₁ f-is) $
         calls_at ! fm (Parse 𝓛 mem run) known-parse (to-parse r u₃ f u₁)
         (and_then ! (load ! (from ! (stop !)) (look ! 2 refl)) (and_then ! (load ! (from ! (stop !)) (look ! 12 refl)) (no_more !))) (λ u₄.

@@ -36,7 +36,7 @@ returns-in-Pair c =
     let h = c in
     let p = h.requires in
     let t = told _ _ _ head.Pair h.head_at.ensures c.in-Pair.is in
-    items.pair_stepped _ _ _ _ _ _ t.0 p _ q.auto.0 q.ensures.0 t.1 _ q.ensures.1
+    items.pair_stepped _ _ _ _ _ _ t.0 p _ q.auto.work q.ensures.0 t.1 _ q.ensures.1
 
 pub returns-in-Path : goal.returns-in-Path
 returns-in-Path c =

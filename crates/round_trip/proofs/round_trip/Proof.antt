@@ -109,8 +109,8 @@ mach-s s = LL.val R.the_type R'.the_laws s
 
 both-are : (s : SessionAnswer) (u : Val) → Is R.the_row s (u ∷ []) → (r : ReadAnswer) (y : Val) → Is Q.the_row r (y ∷ []) → Is RT.the_row (both s r)
     (mach (both s r) ∷ [])
-both-are s u s-is r y r-is = LL.owes RT.the_type RT'.the_laws (both s r)
-    ((subst (Is R.the_row s) (LL.tells R.the_type R'.the_laws s _ s-is) s-is), ((subst (Is Q.the_row r) (LL.tells Q.the_type Q'.the_laws r _ r-is) r-is), tt))
+both-are s u s-is r y r_is = LL.owes RT.the_type RT'.the_laws (both s r)
+    ((subst (Is R.the_row s) (LL.tells R.the_type R'.the_laws s _ s-is) s-is), ((subst (Is Q.the_row r) (LL.tells Q.the_type Q'.the_laws r _ r_is) r_is), tt))
 
 module _ {M : Type 1} {𝓤 : Ura M} (𝓛 : Logic 𝓤) (mem : Memory → SProp 𝓤) (run : Routine → Fun 𝓤) where
   -- The contracts that the proof cites.
@@ -401,16 +401,16 @@ module _ {M : Type 1} {𝓤 : Ura M} (𝓛 : Logic 𝓤) (mem : Memory → SProp
           fsplit ! $ drop ! $ fsplit ! $ drop ! $ fsplit ! $ fsplit ! $ move ! (1 ∷ []) $ feq_l ! (λ d₁. move ! (1 ∷ []) $ fsplit ! $ fsplit ! $
           move ! (1 ∷ []) $ feq_l ! (λ e₅. move ! (1 ∷ []) $ fsplit ! $ fsplit ! $ move ! (1 ∷ []) $ feq_l ! (λ e₆. move ! (1 ∷ []) $ fsplit ! $ fsplit ! $
           move ! (1 ∷ []) $ feq_l ! (λ e₇. move ! (1 ∷ []) $ drop ! $ move ! (4 ∷ []) $ split ! $ move ! (1 ∷ []) $
-          facts ! Q.the_row (Is Q.the_row) (shows 𝓛 Q.the_row) r (y ∷ []) (λ r-is.
-          land ! (from ! (stop !)) (init ! 48 refl ((LL.lawful Q.the_type Q'.the_laws 𝓛).typed r _ r-is).0) $
-          rewrite ! 48 (λ (z : Val). ‵ (fat full_share Q'.mir l₁₀ 0 z)) (ap only (LL.tells Q.the_type Q'.the_laws r _ r-is)) refl $ split ! $ move ! (1 ∷ []) $
+          facts ! Q.the_row (Is Q.the_row) (shows 𝓛 Q.the_row) r (y ∷ []) (λ r_is.
+          land ! (from ! (stop !)) (init ! 48 refl ((LL.lawful Q.the_type Q'.the_laws 𝓛).typed r _ r_is).0) $
+          rewrite ! 48 (λ (z : Val). ‵ (fat full_share Q'.mir l₁₀ 0 z)) (ap only (LL.tells Q.the_type Q'.the_laws r _ r_is)) refl $ split ! $ move ! (1 ∷ []) $
           split ! $ move ! (1 ∷ []) $ split ! $ move ! (1 ∷ []) $ split ! $ move ! (1 ∷ []) $ split ! $ move ! (1 ∷ []) $ drop ! $ move ! (4 ∷ []) $
           lft_end ! tt $ move ! (0 ∷ 9 ∷ []) $
           use2 𝓛 (later (‵ ((MutSlice (named 4) κ₄ u8).own_val (at_last x₄ zs.1.1.1.1.0) (v₄ ∷ [])) ⊛ ‵ (flft κ₄ q₄)))
           (returns_at u8 κ₄ (ν ∷ []) q₄ 𝓛 (named 4) (named 0) x₄ zs.1.1.1.1.0 n₄ e₄ room₄) $ await ! tt $ split ! $
           -- Both answers.
           assigns ! (agg ! (and_then ! (load ! (from ! (stop !)) (look ! 54 refl)) (and_then ! (load ! (from ! (stop !)) (look ! 52 refl)) (no_more !))))
-          (from ! (stop !)) (init ! 72 refl ((LL.lawful RT.the_type RT'.the_laws 𝓛).typed (both s r) _ (both-are s u s-is r y r-is)).0) $
+          (from ! (stop !)) (init ! 72 refl ((LL.lawful RT.the_type RT'.the_laws 𝓛).typed (both s r) _ (both-are s u s-is r y r_is)).0) $
           returns ! (look ! 72 refl) $ forget ! 72 refl $ forget ! 70 refl $ forget ! 68 refl $ forget ! 66 refl $ forget ! 64 refl $ forget ! 62 refl $
           forget ! 60 refl $ forget ! 58 refl $ forget ! 56 refl $ forget ! 54 refl $ forget ! 52 refl $ forget ! 50 refl $ forget ! 48 refl $
           forget ! 46 refl $ forget ! 44 refl $ forget ! 42 refl $ forget ! 40 refl $ forget ! 38 refl $ forget ! 36 refl $ forget ! 34 refl $
@@ -425,7 +425,7 @@ module _ {M : Type 1} {𝓤 : Ura M} (𝓛 : Logic 𝓤) (mem : Memory → SProp
           move ! (18 ∷ 19 ∷ []) $ free1 ! $ move ! (16 ∷ 17 ∷ []) $ free1 ! $ free0 ! $
           move ! (15 ∷ 12 ∷ 5 ∷ 11 ∷ 10 ∷ 1 ∷ 4 ∷ 3 ∷ 2 ∷ 9 ∷ 14 ∷ 13 ∷ 0 ∷ 8 ∷ 7 ∷ []) $
           by ! (exits s zs.1.0 zs.1.1.0 zs.1.1.1.0 zs.1.1.1.1.0 e₁ e₂ e₃ e₄ ran back r ls.1.1.0 ls.1.1.1.0 ls.1.1.1.1.0
-          ls.1.1.1.1.1.0 d₁ e₅ e₆ e₇ was_read (both-are s u s-is r y r-is))))))))))))))))))))))))))))))))))))))))))))))))))))))
+          ls.1.1.1.1.1.0 d₁ e₅ e₆ e₇ was_read (both-are s u s-is r y r_is))))))))))))))))))))))))))))))))))))))))))))))))))))))
 
   meets : (𝓣 : Tables 𝓤 H) → Triple 𝓤 (𝓣.C #call) Session → Triple 𝓤 (𝓣.C #reads) Reading → Meets 𝓛 this.signature (WpFn 𝓤 H 𝓣.C 𝓣.Λ code.function)
       (this.spec 𝓛 mem run)

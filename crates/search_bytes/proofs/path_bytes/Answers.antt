@@ -41,4 +41,4 @@ returns c =
     let x = n in
     let s = start x in
     path_done s.pre.1 (node x) (extra x) n.push_node-node.ensures k.push_stack-whole.ensures d.ensures
-    (d.auto.1.0 ∙ k.push_stack-whole.auto.store ∙ n.push_node-node.auto.store ∙ s.pre.2)
+    (d.auto.store ∙ k.push_stack-whole.auto.store ∙ n.push_node-node.auto.store ∙ s.pre.2)

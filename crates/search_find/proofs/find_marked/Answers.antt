@@ -18,7 +18,7 @@ returns-then-not-is_marked c = λ h named.
 pub returns-then-len-lt-MIN_SERIALIZED_LENGTH : goal.returns-then-len-lt-MIN_SERIALIZED_LENGTH
 returns-then-len-lt-MIN_SERIALIZED_LENGTH c =
     let marked : marked_at start.args.work.now start.args.e.0 ≡ true =
-        sym c.is_marked.ensures ∙ not-false c.is_marked.result c.if-not-is_marked.false in
+    sym c.is_marked.ensures ∙ not-false c.is_marked.result c.if-not-is_marked.false in
     λ h named. let x = c in finds_short named c.requires.3 marked x.length_at-len.ensures c.if-len-lt-MIN_SERIALIZED_LENGTH.true
 
 pub find_path-requires : goal.find_path-requires
@@ -29,7 +29,7 @@ find_path-requires c =
 pub returns : goal.returns
 returns c =
     let marked : marked_at start.args.work.now start.args.e.0 ≡ true =
-        sym c.is_marked.ensures ∙ not-false c.is_marked.result c.if-not-is_marked.false in
+    sym c.is_marked.ensures ∙ not-false c.is_marked.result c.if-not-is_marked.false in
     λ h named.
     let x = c in
     let s = c in

@@ -11,4 +11,4 @@ unfolding part
 returns c =
     let s = c in
     let r = c.visit in
-    marked s.args.work.now r.new.0 s.requires.0 (r.auto.0 ∙ seen_length s.args.work.now s.requires.0) s.args.e.0 s.requires.1 r.ensures.1
+    marked s.args.work.now r.new.bits s.requires.0 (r.auto.bits ∙ seen_length s.args.work.now s.requires.0) s.args.e.0 s.requires.1 r.ensures.1

@@ -20,4 +20,4 @@ returns c =
     let n : ℕ = SEEN + (x.wide-used.result + 31) / 32 - SEEN in
     let few : n ≤ 96 = omega (arith, x.wide-used.ensures, s.requires.1) in
     let len : length (part s.args.work.now SEEN n) ≡ n = part_length s.args.work.now SEEN n (omega (arith, s.requires.0)) in
-    cleared s.args.work.now r.new.0 n s.requires.0 few (omega (arith, x.wide-used.ensures)) (r.auto.0 ∙ len) (r.ensures ∙ rw len)
+    cleared s.args.work.now r.new.words n s.requires.0 few (omega (arith, x.wide-used.ensures)) (r.auto.words ∙ len) (r.ensures ∙ rw len)

@@ -19,7 +19,7 @@ loop-slot-smaller c = (rw c.in-On.is at c.turn.ensures).fine.2
 pub loop-slot-preserved : goal.loop-slot-preserved
 loop-slot-preserved c =
     let t = c.turn in
-    walking_more c.loop-slot.invariant t.auto.0 (rw c.in-On.is at t.ensures)
+    walking_more c.loop-slot.invariant t.auto.work (rw c.in-On.is at t.ensures)
 
 pub shape_of-work-in-Result : goal.shape_of-work-in-Result
 shape_of-work-in-Result c = c.turn.auto.work ∙ c.loop-slot.invariant.len
@@ -27,7 +27,7 @@ shape_of-work-in-Result c = c.turn.auto.work ∙ c.loop-slot.invariant.len
 pub returns-in-Result : goal.returns-in-Result
 returns-in-Result c =
     let t = c.turn in
-    walking_result c.loop-slot.invariant t.auto.0 (rw c.in-Result.is at t.ensures)
+    walking_result c.loop-slot.invariant t.auto.work (rw c.in-Result.is at t.ensures)
 
 pub shape_of-work-in-Capped : goal.shape_of-work-in-Capped
 shape_of-work-in-Capped c = c.turn.auto.work ∙ c.loop-slot.invariant.len
@@ -35,7 +35,7 @@ shape_of-work-in-Capped c = c.turn.auto.work ∙ c.loop-slot.invariant.len
 pub returns-in-Capped : goal.returns-in-Capped
 returns-in-Capped c =
     let t = c.turn in
-    walking_capped c.loop-slot.invariant t.auto.0 (rw c.in-Capped.is at t.ensures)
+    walking_capped c.loop-slot.invariant t.auto.work (rw c.in-Capped.is at t.ensures)
 
 pub shape_of-work : goal.shape_of-work
 shape_of-work c = c.loop-slot.invariant.len

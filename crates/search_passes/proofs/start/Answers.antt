@@ -21,5 +21,5 @@ returns c =
     let x = p in
     let s = x in
     let k = x.clear_seen in
-    started s.args.work.now k.new.0 p.put_at_entry.new.work s.args.e.0 (omega (arith, k.auto.0, s.requires.0)) s.requires.2
+    started s.args.work.now k.new.work p.put_at_entry.new.work s.args.e.0 (omega (arith, k.auto.work, s.requires.0)) s.requires.2
     k.ensures (rw p.new.ensures at p.put_at_entry.ensures)

@@ -173,13 +173,13 @@ module _ {M : Type 1} {𝓤 : Ura M} (𝓛 : Logic 𝓤) (mem : Memory → SProp
 
     exits : (r : SessionAnswer) (w₁ w₂ w₃ : List ℕ) → length w₁ ≡ n₁ → length w₂ ≡ n₂ → length w₃ ≡ n₃ → Is R.the_row r (mach r ∷ [])
         → ent 𝓤 (⋆ 𝓛 (Ends w₁ w₂ w₃)) (Post (mach r))
-    exits r w₁ w₂ w₃ e₁ e₂ e₃ r-is =
+    exits r w₁ w₂ w₃ e₁ e₂ e₃ r_is =
         qed 𝓛 (Ends w₁ w₂ w₃) ∵ suffices ! _ (ends_at 𝓛 this.ended stayed (this.clauses 𝓛 mem run) bound (mach r) r (tt, (w₁, (w₂, (w₃, tt))))
         (tt, (e₁, (e₂, (e₃, tt))))) $
         -- The tokens; and what is had of the parameters.
         nothing ! $ move ! (5 ∷ []) $ join ! $ move ! (4 ∷ []) $ join ! $ move ! (3 ∷ []) $ join ! $ move ! (2 ∷ []) $ join ! $ nothing ! $ move ! (5 ∷ []) $
         fjoin ! $ move ! (4 ∷ []) $ fjoin ! $ move ! (3 ∷ []) $ fjoin ! $ move ! (2 ∷ []) $ fjoin ! $
-        owned ! R.the_row (Is R.the_row) (LL.makes R.the_type R'.the_plain 𝓛) r _ r-is $ move ! (1 ∷ []) $ join ! $ move ! (1 ∷ []) $
+        owned ! R.the_row (Is R.the_row) (LL.makes R.the_type R'.the_plain 𝓛) r _ r_is $ move ! (1 ∷ []) $ join ! $ move ! (1 ∷ []) $
         join ! $ frame ! $ done !
 
     module _ (𝓣 : Tables 𝓤 H) (fm : FmC 𝓤 H 𝓛.laws 𝓣.C) (known-call : Triple 𝓤 (𝓣.C #call) Call) where
@@ -242,9 +242,9 @@ module _ {M : Type 1} {𝓤 : Ura M} (𝓛 : Logic 𝓤) (mem : Memory → SProp
           -- Each last list, and its length.
           fsplit ! $ drop ! $ fsplit ! $ fsplit ! $ move ! (1 ∷ []) $ feq_l ! (λ e₁. move ! (1 ∷ []) $ fsplit ! $ fsplit ! $ move ! (1 ∷ []) $ feq_l ! (λ e₂.
           move ! (1 ∷ []) $ fsplit ! $ fsplit ! $ move ! (1 ∷ []) $ feq_l ! (λ e₉. move ! (1 ∷ []) $ fsplit ! $ fsplit ! $ move ! (1 ∷ []) $ feq_l ! (λ e₃.
-          move ! (1 ∷ []) $ drop ! $ move ! (4 ∷ []) $ split ! $ move ! (1 ∷ []) $ facts ! R.the_row (Is R.the_row) (shows 𝓛 R.the_row) r (w ∷ []) (λ r-is.
-          land ! (from ! (stop !)) (init ! 34 refl ((LL.lawful R.the_type R'.the_laws 𝓛).typed r _ r-is).0) $
-          rewrite ! 34 (λ (z : Val). ‵ (fat full_share R'.mir l₀ 0 z)) (ap only (LL.tells R.the_type R'.the_laws r _ r-is)) refl $ split ! $ move ! (1 ∷ []) $
+          move ! (1 ∷ []) $ drop ! $ move ! (4 ∷ []) $ split ! $ move ! (1 ∷ []) $ facts ! R.the_row (Is R.the_row) (shows 𝓛 R.the_row) r (w ∷ []) (λ r_is.
+          land ! (from ! (stop !)) (init ! 34 refl ((LL.lawful R.the_type R'.the_laws 𝓛).typed r _ r_is).0) $
+          rewrite ! 34 (λ (z : Val). ‵ (fat full_share R'.mir l₀ 0 z)) (ap only (LL.tells R.the_type R'.the_laws r _ r_is)) refl $ split ! $ move ! (1 ∷ []) $
           split ! $ move ! (1 ∷ []) $ split ! $ move ! (1 ∷ []) $ split ! $ move ! (1 ∷ []) $ split ! $ move ! (1 ∷ []) $ drop ! $
           -- The lifetime is ended, and the room of the array comes back.
           move ! (1 ∷ []) $ lft_end ! tt $ move ! (0 ∷ 10 ∷ 6 ∷ []) $
@@ -257,7 +257,7 @@ module _ {M : Type 1} {𝓤 : Ura M} (𝓛 : Logic 𝓤) (mem : Memory → SProp
           move ! (12 ∷ 13 ∷ []) $ free1 ! $ move ! (10 ∷ 11 ∷ []) $ free1 ! $ move ! (8 ∷ 9 ∷ []) $ free1 ! $ free0 ! $
           move ! (7 ∷ 3 ∷ 2 ∷ 1 ∷ 0 ∷ 6 ∷ 5 ∷ []) $
           by ! (exits r zs.1.0 zs.1.1.0 zs.1.1.1.1.0 e₁ e₂ e₃
-          (subst (Is R.the_row r) (LL.tells R.the_type R'.the_laws r _ r-is) r-is))))))))))))))))))))))))))))
+          (subst (Is R.the_row r) (LL.tells R.the_type R'.the_laws r _ r_is) r_is))))))))))))))))))))))))))))
 
   meets : (𝓣 : Tables 𝓤 H) → Triple 𝓤 (𝓣.C #call) Call → Meets 𝓛 this.signature (WpFn 𝓤 H 𝓣.C 𝓣.Λ code.function) (this.spec 𝓛 mem run)
   meets 𝓣 known-call =

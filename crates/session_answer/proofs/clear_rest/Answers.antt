@@ -18,5 +18,5 @@ returns c =
     let s = run in
     let a = s.args in
     cleared_all a.p a.work.now a.words.now a.output.now _ _ _ a.refused run.if-refused.false work-clear.clear.ensures
-    (tail_cleared a.words.now words.new.0 (3 * a.p.steps) s.requires.0 words.ensures)
-    (tail_cleared a.output.now output.new.0 a.p.counts.size s.requires.1 output.ensures)
+    (tail_cleared a.words.now words.new.words (3 * a.p.steps) s.requires.0 words.ensures)
+    (tail_cleared a.output.now output.new.bytes a.p.counts.size s.requires.1 output.ensures)

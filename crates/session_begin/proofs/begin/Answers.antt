@@ -15,7 +15,7 @@ use Rattle.session_begin.proofs.begin.Goals as goal
 pub returns-then-not-long_enough : goal.returns-then-not-long_enough
 returns-then-not-long_enough c =
     let bytes : Bytes c.args.file.now =
-        all_of (λ (n : ℕ). n < 256) c.args.file.now 0 (λ i m. omega (arith, c.type_inv.file i)) in
+    all_of (λ (n : ℕ). n < 256) c.args.file.now 0 (λ i m. omega (arith, c.type_inv.file i)) in
     let l = c.long_enough in
     let known = c in
     let a = known.args in
@@ -24,9 +24,9 @@ returns-then-not-long_enough c =
 pub returns-then-checked-ne0 : goal.returns-then-checked-ne0
 returns-then-checked-ne0 c =
     let long : let a = c.args in are_long (length a.work.now) a.words a.records ≡ true =
-        let l = c.long_enough in sym l.ensures ∙ not-false l.result c.if-not-long_enough.false in
+    let l = c.long_enough in sym l.ensures ∙ not-false l.result c.if-not-long_enough.false in
     let bytes : Bytes c.args.file.now =
-        all_of (λ (n : ℕ). n < 256) c.args.file.now 0 (λ i m. omega (arith, c.type_inv.file i)) in
+    all_of (λ (n : ℕ). n < 256) c.args.file.now 0 (λ i m. omega (arith, c.type_inv.file i)) in
     let checked = c in
     let known = checked in
     let a = known.args in
@@ -36,7 +36,7 @@ returns-then-checked-ne0 c =
 pub open-requires : goal.open-requires
 open-requires c =
     let long : let a = c.args in are_long (length a.work.now) a.words a.records ≡ true =
-        let l = c.long_enough in sym l.ensures ∙ not-false l.result c.if-not-long_enough.false in
+    let l = c.long_enough in sym l.ensures ∙ not-false l.result c.if-not-long_enough.false in
     let checked = c in
     let a = checked.args in
     let k = checked.check-checked in
@@ -45,9 +45,9 @@ open-requires c =
 pub returns : goal.returns
 returns c =
     let long : let a = c.args in are_long (length a.work.now) a.words a.records ≡ true =
-        let l = c.long_enough in sym l.ensures ∙ not-false l.result c.if-not-long_enough.false in
+    let l = c.long_enough in sym l.ensures ∙ not-false l.result c.if-not-long_enough.false in
     let bytes : Bytes c.args.file.now =
-        all_of (λ (n : ℕ). n < 256) c.args.file.now 0 (λ i m. omega (arith, c.type_inv.file i)) in
+    all_of (λ (n : ℕ). n < 256) c.args.file.now 0 (λ i m. omega (arith, c.type_inv.file i)) in
     let o = c.open in
     let passed = c in
     let checked = passed in
@@ -56,5 +56,5 @@ returns c =
     let k = checked.check-checked in (
       bytes,
       begin_run a.measure a.file.now a.work.now a.words a.records long k.result k.ensures passed.if-checked-ne0.false
-          o.new.1.0 o.auto.1.0 o.ensures c.has_forget-forgets.ensures c.started.ensures,
+          o.new.work o.auto.work o.ensures c.has_forget-forgets.ensures c.started.ensures,
     )

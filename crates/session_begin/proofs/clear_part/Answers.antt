@@ -19,4 +19,4 @@ returns c =
     let a = s.args.from in
     let b = s.args.to in
     let len : length (part w a (b - a)) ≡ b - a = part_length w a (b - a) (omega (arith, s.requires)) in
-    part_clear w r.new.0 a b s.requires.0 s.requires.1 (r.auto.0 ∙ len) (r.ensures ∙ rw len)
+    part_clear w r.new.words a b s.requires.0 s.requires.1 (r.auto.words ∙ len) (r.ensures ∙ rw len)

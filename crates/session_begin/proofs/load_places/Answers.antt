@@ -16,7 +16,7 @@ load_atoms-requires c =
     let cleared = c in
     let cl = cleared.clear_tables in
     let pre = cleared.requires in
-    (atoms_to_load pre.0, omega (arith, (few_twice pre.0).0, part_length cl.new.0 0 2048 (omega (arith, cl.auto.0, pre.1))))
+    (atoms_to_load pre.0, omega (arith, (few_twice pre.0).0, part_length cl.new.work 0 2048 (omega (arith, cl.auto.work, pre.1))))
 
 pub load_pairs-requires : goal.load_pairs-requires
 unfolding part
@@ -26,7 +26,7 @@ load_pairs-requires c =
     let la = loaded.load_atoms in
     let cl = cleared.clear_tables in
     let pre = cleared.requires in
-    (pairs_to_load pre.0, omega (arith, (few_twice pre.0).1, pairs_room pre.1 cl.new.0 la.new.1.0 cl.auto.0 la.auto.1.0))
+    (pairs_to_load pre.0, omega (arith, (few_twice pre.0).1, pairs_room pre.1 cl.new.work la.new.table cl.auto.work la.auto.table))
 
 pub returns : goal.returns
 unfolding part
@@ -39,5 +39,5 @@ returns c =
     let cl = cleared.clear_tables in
     let la = loaded.load_atoms in
     let lp = c.load_pairs in
-    placed p s.requires.1 cl.new.0 la.new.1.0 lp.new.1.0 cl.auto.0 cl.ensures
-    la.auto.1.0 (la.ensures f.atoms (sym p.atoms_are) p.atoms_there) lp.auto.1.0 (lp.ensures f.pairs (sym p.pairs_are) p.pairs_there)
+    placed p s.requires.1 cl.new.work la.new.table lp.new.table cl.auto.work cl.ensures
+    la.auto.table (la.ensures f.atoms (sym p.atoms_are) p.atoms_there) lp.auto.table (lp.ensures f.pairs (sym p.pairs_are) p.pairs_there)

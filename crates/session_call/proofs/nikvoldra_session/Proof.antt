@@ -156,7 +156,7 @@ module _ {M : Type 1} {𝓤 : Ura M} (𝓛 : Logic 𝓤) (mem : Memory → SProp
     exits : (r : SessionAnswer) (w ws : List ℕ) (cs : List Checkpoint) (o : List ℕ) → length w ≡ n₁ → length ws ≡ n₂ → length cs ≡ n₃ → length o ≡ n₄
         → Is R.the_row r (mach-r r ∷ [])
         → Said r w ws cs o → Reads r w ws cs o → ent 𝓤 (⋆ 𝓛 (Ends w ws cs o)) (Post (mach-r r))
-    exits r w ws cs o lw lws lcs lo r-is e reads =
+    exits r w ws cs o lw lws lcs lo r_is e reads =
         qed 𝓛 (Ends w ws cs o) ∵
         suffices ! _ (via 𝓤 (sep 𝓤 (Leaves r w ws cs o) (sep 𝓤 (fact 𝓤 (Said r w ws cs o)) (fact 𝓤 (Reads r w ws cs o))))
         (assoc∗ 𝓤 (Leaves r w ws cs o) (fact 𝓤 (Said r w ws cs o)) (fact 𝓤 (Reads r w ws cs o)))
@@ -165,7 +165,7 @@ module _ {M : Type 1} {𝓤 : Ura M} (𝓛 : Logic 𝓤) (mem : Memory → SProp
         -- The tokens; and what is had of the parameters.
         nothing ! $ move ! (5 ∷ []) $ join ! $ move ! (4 ∷ []) $ join ! $ move ! (3 ∷ []) $ join ! $ move ! (2 ∷ []) $ join ! $ move ! (1 ∷ []) $ join ! $
         nothing ! $ move ! (6 ∷ []) $ fjoin ! $ move ! (5 ∷ []) $ fjoin ! $ move ! (4 ∷ []) $ fjoin ! $ move ! (3 ∷ []) $ fjoin ! $ move ! (2 ∷ []) $ fjoin ! $
-        move ! (1 ∷ []) $ frame ! $ frame ! $ owned ! R.the_row (Is R.the_row) (LL.makes R.the_type R'.the_plain 𝓛) r _ r-is $ done !
+        move ! (1 ∷ []) $ frame ! $ frame ! $ owned ! R.the_row (Is R.the_row) (LL.makes R.the_type R'.the_plain 𝓛) r _ r_is $ done !
 
     abbrev given-one-run : Bor (List ℕ) × (Bor (List ℕ) × (Bor (List ℕ) × (Bor (List Checkpoint) × (Bor (List ℕ) × (Measure × Unit {0})))))
     given-one-run = (x₀, (x₁, (x₂, (x₃, (x₄, (Counted, tt))))))
@@ -249,9 +249,9 @@ module _ {M : Type 1} {𝓤 : Ura M} (𝓛 : Logic 𝓤) (mem : Memory → SProp
           -- Each last list, and its length.
           fsplit ! $ drop ! $ fsplit ! $ fsplit ! $ move ! (1 ∷ []) $ feq_l ! (λ e₁. move ! (1 ∷ []) $ fsplit ! $ fsplit ! $ move ! (1 ∷ []) $ feq_l ! (λ e₂.
           move ! (1 ∷ []) $ fsplit ! $ fsplit ! $ move ! (1 ∷ []) $ feq_l ! (λ e₃. move ! (1 ∷ []) $ fsplit ! $ fsplit ! $ move ! (1 ∷ []) $ feq_l ! (λ e₄.
-          move ! (1 ∷ []) $ drop ! $ move ! (4 ∷ []) $ split ! $ move ! (1 ∷ []) $ facts ! R.the_row (Is R.the_row) (shows 𝓛 R.the_row) r (u ∷ []) (λ r-is.
-          land ! (from ! (stop !)) (init ! 34 refl ((LL.lawful R.the_type R'.the_laws 𝓛).typed r _ r-is).0) $
-          rewrite ! 34 (λ (z : Val). ‵ (fat full_share R'.mir l₀ 0 z)) (ap only (LL.tells R.the_type R'.the_laws r _ r-is)) refl $ split ! $ move ! (1 ∷ []) $
+          move ! (1 ∷ []) $ drop ! $ move ! (4 ∷ []) $ split ! $ move ! (1 ∷ []) $ facts ! R.the_row (Is R.the_row) (shows 𝓛 R.the_row) r (u ∷ []) (λ r_is.
+          land ! (from ! (stop !)) (init ! 34 refl ((LL.lawful R.the_type R'.the_laws 𝓛).typed r _ r_is).0) $
+          rewrite ! 34 (λ (z : Val). ‵ (fat full_share R'.mir l₀ 0 z)) (ap only (LL.tells R.the_type R'.the_laws r _ r_is)) refl $ split ! $ move ! (1 ∷ []) $
           split ! $ move ! (1 ∷ []) $ split ! $ move ! (1 ∷ []) $ split ! $ move ! (1 ∷ []) $ split ! $ move ! (1 ∷ []) $ drop ! $
           returns ! (look ! 38 refl) $ forget ! 38 refl $ forget ! 36 refl $ forget ! 34 refl $ forget ! 32 refl $ forget ! 30 refl $ forget ! 28 refl $
           forget ! 26 refl $ forget ! 24 refl $ forget ! 22 refl $ forget ! 20 refl $ forget ! 18 refl $ forget ! 16 refl $ forget ! 14 refl $
@@ -261,7 +261,7 @@ module _ {M : Type 1} {𝓤 : Ura M} (𝓛 : Logic 𝓤) (mem : Memory → SProp
           move ! (16 ∷ 17 ∷ []) $ free1 ! $ move ! (14 ∷ 15 ∷ []) $ free1 ! $ move ! (12 ∷ 13 ∷ []) $ free1 ! $ move ! (10 ∷ 11 ∷ []) $ free1 ! $ free0 ! $
           move ! (4 ∷ 3 ∷ 2 ∷ 1 ∷ 0 ∷ 9 ∷ 8 ∷ 7 ∷ 6 ∷ []) $
           by ! (exits r zs.1.0 zs.1.1.0 zs.1.1.1.0 zs.1.1.1.1.0 e₁ e₂ e₃ e₄
-          (subst (Is R.the_row r) (LL.tells R.the_type R'.the_laws r _ r-is) r-is) said reads))))))))))))))))))))))))))
+          (subst (Is R.the_row r) (LL.tells R.the_type R'.the_laws r _ r_is) r_is) said reads))))))))))))))))))))))))))
 
   meets : (𝓣 : Tables 𝓤 H) → Triple 𝓤 (𝓣.C #one-run) Run → Meets 𝓛 this.signature (WpFn 𝓤 H 𝓣.C 𝓣.Λ code.function) (this.spec 𝓛 mem run)
   meets 𝓣 known-one-run =

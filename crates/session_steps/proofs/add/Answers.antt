@@ -9,14 +9,14 @@ pub update-requires : goal.update-requires
 update-requires c =
     let saved = c in
     let sv = saved.save_state in
-    update_asks saved.requires sv.auto.0 sv.ensures
+    update_asks saved.requires sv.auto.work sv.ensures
 
 pub resume-o-requires : goal.resume-o-requires
 resume-o-requires c =
     let updated = c in
     let saved = updated in
     let sv = saved.save_state in
-    resume_asks saved.requires sv.auto.0 sv.ensures updated.update.ensures
+    resume_asks saved.requires sv.auto.work sv.ensures updated.update.ensures
 
 pub shape_of-work : goal.shape_of-work
 shape_of-work c =
@@ -33,15 +33,15 @@ returns c =
     let up = updated.update in
     let sv = updated.save_state in
     record {
-      saved_words = sv.new.0;
-      updated_words = up.new.0;
+      saved_words = sv.new.work;
+      updated_words = up.new.work;
       outcome = re.result;
       saved = sv.ensures;
-      saved_long = sv.auto.0;
+      saved_long = sv.auto.work;
       updated = up.ensures;
-      updated_long = up.auto.0 ∙ sv.auto.0;
+      updated_long = up.auto.work ∙ sv.auto.work;
       resumed = re.ensures;
-      long = re.auto.0 ∙ up.auto.0 ∙ sv.auto.0;
-      out_long = re.auto.1.1.0;
+      long = re.auto.work ∙ up.auto.work ∙ sv.auto.work;
+      out_long = re.auto.output;
       is = c.after_outcome.ensures;
     }

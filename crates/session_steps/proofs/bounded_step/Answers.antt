@@ -19,4 +19,4 @@ returns c =
     let cs = stepped.core_step in
     let known = stepped in
     let s = c in
-    used_onward s.args.output.now known.space_of-space.ensures s.pre cs.new.1.0 cs.new.1.1.0 cs.new.1.1.1.0 cs.result cs.auto.1.1.1.0 cs.ensures
+    used_onward s.args.output.now known.space_of-space.ensures s.pre cs.new.work cs.new.words cs.new.output cs.result cs.auto.output cs.ensures

@@ -5,7 +5,7 @@ use borrow.Author.Rules.{rules}
 use Rattle.file_parts.specs.Loaded.{FirstStep}
 use Rattle.file_parts.specs.declared.session_file.NextStep.{NextStep}
 use Rattle.session_state.specs.Steps.{Comes}
-use Rattle.session_steps.proofs.Answers.{stops-at-end, stops-17}
+use Rattle.session_steps.proofs.Answers.{stops_at_end, stops_17}
 use Rattle.session_steps.proofs.core_step.Goals as goal
 
 -- The next step is what the file says.
@@ -40,9 +40,9 @@ add_step-requires-in-Quote c =
 pub returns-in-Take : goal.returns-in-Take
 returns-in-Take c =
     let read = c in
-    stops-17 c.requires read.if-p.false c.stop.ensures (comes read _ c.in-Take.is)
+    stops_17 c.requires read.if-p.false c.stop.ensures (comes read _ c.in-Take.is)
 
 pub returns-in-End : goal.returns-in-End
 returns-in-End c =
     let read = c in
-    stops-at-end c.requires read.if-p.false c.stop-in-End.ensures (comes read _ c.in-End.is)
+    stops_at_end c.requires read.if-p.false c.stop-in-End.ensures (comes read _ c.in-End.is)

@@ -54,9 +54,9 @@ module _ {measure : Measure} {input : List ℕ} {f : File} {w words : List ℕ} 
 
   -- ---- a taking
 
-  taken-on : (next : ℕ) {rest : List Step} → u.left ≡ take_quote ∷ rest → StepsAt input next rest → {words' : List ℕ}
+  taken_on : (next : ℕ) {rest : List Step} → u.left ≡ take_quote ∷ rest → StepsAt input next rest → {words' : List ℕ}
       → words' ≡ noted_words words p → Underway measure input f w words' rows out (noted_at (with_quote p false) next)
-  taken-on next {rest} e there {words'} ws =
+  taken_on next {rest} e there {words'} ws =
       go_on measure input f w words words' rows out (with_quote p false) next rest u.past u.session (standing u.past u.session) u.present later
       (history_later out out refl f w w (λ j l. refl) p.forgets p.steps (p.steps + 1) (omega arith) rows p.counts.size p.adds u.past u.session.cache
       (λ j x y. refl) refl u.history)
@@ -79,9 +79,9 @@ module _ {measure : Measure} {input : List ℕ} {f : File} {w words : List ℕ} 
 
   -- ---- a drop
 
-  module _ {r : Checkpoint} (r-is : get_or rows (slot_for p.quoted u.left p.adds) blank ≡ r) where
+  module _ {r : Checkpoint} (r_is : get_or rows (slot_for p.quoted u.left p.adds) blank ≡ r) where
     row : get_or rows (p.adds - 1) blank ≡ r
-    row = ap (λ (k : ℕ). get_or rows k blank) (sym slot) ∙ r-is
+    row = ap (λ (k : ℕ). get_or rows k blank) (sym slot) ∙ r_is
 
     few : p.adds - 1 < p.adds
     few = omega (arith, adds_are)
@@ -89,25 +89,25 @@ module _ {measure : Measure} {input : List ℕ} {f : File} {w words : List ℕ} 
     flag : true ≡ true → p.forgets ≡ true
     flag q = u.quote_saved is_open
 
-    drop-takes : (0 < p.adds) × Undoing true w p.depth (p.adds - 1) r
-    drop-takes = (omega (arith, adds_are), undoing true u few row flag)
+    drop_takes : (0 < p.adds) × Undoing true w p.depth (p.adds - 1) r
+    drop_takes = (omega (arith, adds_are), undoing true u few row flag)
 
     -- The session before the quote's add is the one that the definitions have.
-    last-at : p.adds - 1 ≡ length u.state.past
-    last-at = omega (arith, adds_are)
+    last_at : p.adds - 1 ≡ length u.state.past
+    last_at = omega (arith, adds_are)
 
-    was-now : u.state.now ≡ was true u few row flag
-    was-now =
+    was_now : u.state.now ≡ was true u few row flag
+    was_now =
         some-injective u.state.now (was true u few row flag)
-        (sym (nth_end u.state.past u.state.now) ∙ (λ i. nth (sym shown.1 i) (sym last-at i)) ∙ (found true u few row flag).is)
+        (sym (nth_end u.state.past u.state.now) ∙ (λ i. nth (sym shown.1 i) (sym last_at i)) ∙ (found true u few row flag).is)
 
-    past-before : u.state.past ≡ take (p.adds - 1) u.past
-    past-before =
-        sym (take_at u.state.past (u.state.now ∷ []) (p.adds - 1) (sym last-at)) ∙ ap (take (p.adds - 1)) (sym shown.1)
+    past_before : u.state.past ≡ take (p.adds - 1) u.past
+    past_before =
+        sym (take_at u.state.past (u.state.now ∷ []) (p.adds - 1) (sym last_at)) ∙ ap (take (p.adds - 1)) (sym shown.1)
 
-    dropped-on : {w' : List ℕ} → length w' ≡ length w → Undone true w w' (p.adds - 1) r → IfAny (λ x. x ≢ take_quote) (nth u.left 0)
+    dropped_on : {w' : List ℕ} → length w' ≡ length w → Undone true w w' (p.adds - 1) r → IfAny (λ x. x ≢ take_quote) (nth u.left 0)
         → Underway measure input f w' words rows out (undone_at p r (p.adds - 1))
-    dropped-on {w'} long a other =
+    dropped_on {w'} long a other =
         record {
           left = u.left;
           past = take (p.adds - 1) u.past;
@@ -131,7 +131,7 @@ module _ {measure : Measure} {input : List ℕ} {f : File} {w words : List ℕ} 
               u.same
               ∙ ap (λ (y : Run). after_words p.steps (take (3 * p.steps) words) y)
               (sym (run_unseen (measure_of measure) (length out) f u.left other none u.state)
-              ∙ (λ i. run_steps (measure_of measure) (length out) f u.left (standing (past-before i) (was-now i))));
+              ∙ (λ i. run_steps (measure_of measure) (length out) f u.left (standing (past_before i) (was_now i))));
         }
 
 -- ---- the answers
@@ -141,14 +141,14 @@ module _ {input : List ℕ} {f : File} {w words out : List ℕ} {p : Progress} {
   -- The run goes on, with the record as it was.
   goes_on : (measure : Measure) {w' words' : List ℕ} {t : Progress} (a : StepAnswer) → a ≡ record { state = t; saved = c } → (rows : List Checkpoint) (k : ℕ) → get_or rows k blank ≡ c → t.done ≡ false
       → Underway measure input f w' words' rows out t → Stands measure input f w' words' (set rows k a.saved) out a.state a.state.done
-  goes_on measure {w'} {words'} {t} a is rows k r-is d u =
+  goes_on measure {w'} {words'} {t} a is rows k r_is d u =
       subst (λ (x : StepAnswer). Stands measure input f w' words' (set rows k x.saved) out x.state x.state.done) (sym is)
       (stands_on measure input f w' words' (set rows k c) out t d
-      (subst (λ (y : List Checkpoint). Underway measure input f w' words' y out t) (sym (ap (set rows k) (sym r-is) ∙ set-get_or rows k blank)) u))
+      (subst (λ (y : List Checkpoint). Underway measure input f w' words' y out t) (sym (ap (set rows k) (sym r_is) ∙ set-get_or rows k blank)) u))
 
   module _ (next : ℕ) (comes : Comes input p.at (next_step.Take next)) where
-    pub take-asks : Noting words p
-    take-asks =
+    pub take_asks : Noting words p
+    take_asks =
         let u = ready.underway in
         let e = comes u.left u.steps_there in
         let l : length u.left ≡ suc (length e.0) = ap length e.1 in
@@ -160,24 +160,24 @@ module _ {input : List ℕ} {f : File} {w words out : List ℕ} {p : Progress} {
           few_steps = omega (arith, u.few_steps);
         }
 
-    pub takes-on : {words' : List ℕ} {a : StepAnswer} → words' ≡ noted_words words p
+    pub takes_on : {words' : List ℕ} {a : StepAnswer} → words' ≡ noted_words words p
         → a ≡ record { state = noted_at (with_quote p false) next; saved = c } → Onward input f w words out p c w words' out a
-    takes-on {words'} {a} ws is measure rows u r-is =
+    takes_on {words'} {a} ws is measure rows u r_is =
         let e = comes u.left u.steps_there in
         let k = slot_for p.quoted u.left p.adds in (
-          goes_on measure a is rows k r-is u.goes (taken-on u is_open next e.1 e.2 ws),
+          goes_on measure a is rows k r_is u.goes (taken_on u is_open next e.1 e.2 ws),
           omega (arith, ap (λ (b : Bool). bit (not b)) is_open, ap (λ (x : StepAnswer). x.state.steps) is, ap (λ (x : StepAnswer). bit (not x.state.quoted)) is),
         )
 
   -- The next step is no taking.
   module _ (other : (ss : List Step) → StepsAt input p.at ss → IfAny (λ x. x ≢ take_quote) (nth ss 0)) where
-    pub drop-asks : (0 < p.adds) × Undoing true w p.depth (p.adds - 1) c
-    drop-asks = drop-takes ready.underway is_open ready.record_is
+    pub drop_asks : (0 < p.adds) × Undoing true w p.depth (p.adds - 1) c
+    drop_asks = drop_takes ready.underway is_open ready.record_is
 
-    pub drops-on : {w' : List ℕ} {a : StepAnswer} → length w' ≡ length w → Undone true w w' (p.adds - 1) c
+    pub drops_on : {w' : List ℕ} {a : StepAnswer} → length w' ≡ length w → Undone true w w' (p.adds - 1) c
         → a ≡ record { state = undone_at p c (p.adds - 1); saved = c } → Onward input f w words out p c w' words out a
-    drops-on {w'} {a} long un is measure rows u r-is =
+    drops_on {w'} {a} long un is measure rows u r_is =
         let k = slot_for p.quoted u.left p.adds in (
-          goes_on measure a is rows k r-is refl (dropped-on u is_open r-is long un (other u.left u.steps_there)),
+          goes_on measure a is rows k r_is refl (dropped_on u is_open r_is long un (other u.left u.steps_there)),
           omega (arith, ap (λ (b : Bool). bit (not b)) is_open, ap (λ (x : StepAnswer). x.state.steps) is, ap (λ (x : StepAnswer). bit (not x.state.quoted)) is),
         )

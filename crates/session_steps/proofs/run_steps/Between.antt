@@ -18,7 +18,7 @@ use Rattle.session_state.specs.State.{the_file, Underway, Stands, slot_for}
 use Rattle.session_state.specs.Steps.{Ready, Onward}
 use Rattle.session_state.proofs.Answers.{stands_on, under, ended}
 use Rattle.session_steps.specs.Driven.{Going, Driven}
-use Rattle.session_steps.proofs.Answers.{bit-most}
+use Rattle.session_steps.proofs.Answers.{bit_most}
 
 -- What the slices hold, and where the run stands.
 pub record Values : Type 0 where
@@ -106,7 +106,7 @@ module _ (input : List ℕ) (first : Values) where
           (st first.progress.measure m.rows u record_is).0)
 
       pub falls : ahead a.state < ahead m.progress
-      falls = omega (arith, (st first.progress.measure m.rows u record_is).1, u.few_steps, ap bit e, bit-most (not m.progress.quoted))
+      falls = omega (arith, (st first.progress.measure m.rows u record_is).1, u.few_steps, ap bit e, bit_most (not m.progress.quoted))
 
   -- The run is over.
   pub at_end : (m : Values) → Between m → m.progress.done ≡ true

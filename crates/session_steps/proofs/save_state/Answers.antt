@@ -9,7 +9,7 @@ pub save-requires-then-p : goal.save-requires-then-p
 save-requires-then-p c =
     let sv = c.save in
     let s = c in
-    let q = cache_asks s.args.p s.requires.0 sv.auto.0 sv.ensures in
+    let q = cache_asks s.args.p s.requires.0 sv.auto.work sv.ensures in
     (q.0, q.1, q.2, omega (arith, s.requires.1))
 
 pub returns-then-p : goal.returns-then-p
@@ -22,4 +22,4 @@ pub returns-else-p : goal.returns-else-p
 returns-else-p c =
     let sv = c.save in
     let s = c in
-    saved_one s.args.p s.requires.0 sv.auto.0 sv.ensures c.if-p.false
+    saved_one s.args.p s.requires.0 sv.auto.work sv.ensures c.if-p.false

@@ -36,22 +36,22 @@ module _ {input : List ℕ} {f : File} {w words out : List ℕ} {p : Progress} {
       go true q = q
 
   -- Question 11.
-  pub stops-11 : {a : StepAnswer} → a ≡ stopped_at p 11 c → p.adds ≤ n → Onward input f w words out p c w words out a
-  stops-11 {a} is beyond =
+  pub stops_11 : {a : StepAnswer} → a ≡ stopped_at p 11 c → p.adds ≤ n → Onward input f w words out p c w words out a
+  stops_11 {a} is beyond =
       stops input f w words out p c none_open 11 a is (λ measure rows u.
       let e = comes u.left u.steps_there in
       ap (λ (ss : List Step). run_steps (measure_of measure) (length out) f ss (standing u.past u.session)) e.1
       ∙ run_beyond measure (length out) f u.past u.session b n e.0 (nth_none u.past n (omega (arith, u.history.long))))
 
   module _ (few : n < p.adds) where
-    pub undo-asks : Undoing b w p.depth n c
-    undo-asks =
+    pub undo_asks : Undoing b w p.depth n c
+    undo_asks =
         let u = ready.underway in
         let e = comes u.left u.steps_there in
         undo_takes b u none_open e.1 few ready.record_is
 
-    pub undo-note-asks : {q : Progress} → q ≡ undone_at p c n → Noting words q
-    undo-note-asks {q} is =
+    pub undo_note_asks : {q : Progress} → q ≡ undone_at p c n → Noting words q
+    undo_note_asks {q} is =
         let u = ready.underway in
         let e = comes u.left u.steps_there in
         let l : length u.left ≡ suc (length e.0) = ap length e.1 in
@@ -59,13 +59,13 @@ module _ {input : List ℕ} {f : File} {w words out : List ℕ} {p : Progress} {
         subst (Noting words) (sym is)
         (record { room = omega (arith, u.few_steps, u.many_words); short = r.0; bounded = r.1; few_steps = omega (arith, u.few_steps) })
 
-    pub undoes-on : {w' : List ℕ} → length w' ≡ length w → Undone b w w' n c → {words' : List ℕ} {q t : Progress} → q ≡ undone_at p c n
+    pub undoes_on : {w' : List ℕ} → length w' ≡ length w → Undone b w w' n c → {words' : List ℕ} {q t : Progress} → q ≡ undone_at p c n
         → words' ≡ noted_words words q → t ≡ noted_at q next
         → Onward input f w words out p c w' words' out (record { state = t; saved = c })
-    undoes-on {w'} long un {words'} {q} {t} qi ws is measure rows u r-is =
+    undoes_on {w'} long un {words'} {q} {t} qi ws is measure rows u r_is =
         let e = comes u.left u.steps_there in
         let s : t.steps ≡ p.steps + 1 = ap (λ (x : Progress). x.steps) is ∙ ap (λ (x : Progress). x.steps + 1) qi in (
           stands_on measure input f w' words' (set rows (slot_for p.quoted u.left p.adds) c) out t (ap (λ (x : Progress). x.done) is ∙ ap (λ (x : Progress). x.done) qi)
-              (undone_on b u none_open e.1 few r-is long un next e.2 qi ws is),
+              (undone_on b u none_open e.1 few r_is long un next e.2 qi ws is),
           omega (arith, ap bit (ap not none_open), ap (λ (x : Progress). bit (not x.quoted)) is, ap (λ (x : Progress). bit (not x.quoted)) qi),
         )

@@ -47,7 +47,7 @@ use Rattle.session_state.proofs.Slots.{Found, nth_found}
 use Rattle.write_place.proofs.Frames.{places_kept, atoms_kept, whole_kept, holds_kept, unmapped_kept, all_counts_kept}
 use Rattle.session_state.proofs.Runs.{run_undo}
 use Rattle.session_state.proofs.States.{roomy_later, history_back, go_on}
-use Rattle.session_state.proofs.Answers.{same-standing}
+use Rattle.session_state.proofs.Answers.{same_standing}
 use Rattle.session_steps.proofs.undo_step.Forgetting.{used_more, again, whole_again, roomy_again, few_again, holds_again}
 
 -- ---- the sentinel's entry, of a restore
@@ -337,7 +337,7 @@ rest_known true n rest h = clash cc
 
 module _ {measure : Measure} {input : List ℕ} {f : File} {w words : List ℕ} {rows : List Checkpoint} {out : List ℕ} {p : Progress} (b : Bool) {n : ℕ} {rest : List Step}
     (u : Underway measure input f w words rows out p) (none_open : p.quoted ≡ false) (e : u.left ≡ undo_of b n ∷ rest) (few : n < p.adds) {r : Checkpoint}
-    (r-is : get_or rows (slot_for p.quoted u.left p.adds) blank ≡ r) where
+    (r_is : get_or rows (slot_for p.quoted u.left p.adds) blank ≡ r) where
   pub slot : slot_for p.quoted u.left p.adds ≡ n
   slot =
       (λ i. slot_for (none_open i) (e i) p.adds) ∙ of_undo b ∙ cond_true (ltb n 16) n 0 (lt-ltb n 16 (omega (arith, u.few_adds)))
@@ -347,7 +347,7 @@ module _ {measure : Measure} {input : List ℕ} {f : File} {w words : List ℕ} 
       of_undo true = refl
 
   row_is : get_or rows n blank ≡ r
-  row_is = ap (λ (k : ℕ). get_or rows k blank) (sym slot) ∙ r-is
+  row_is = ap (λ (k : ℕ). get_or rows k blank) (sym slot) ∙ r_is
 
   flagged : b ≡ true → p.forgets ≡ true
   flagged = flag_set b n rest p.forgets (λ z. ap forgets (sym e) ∙ u.known z)
@@ -368,7 +368,7 @@ module _ {measure : Measure} {input : List ℕ} {f : File} {w words : List ℕ} 
     undone_on next there {words'} {q} {t} qi ws ti =
         subst (λ (y : Progress). Underway measure input f w' words' (set rows (slot_for p.quoted u.left p.adds) r) out y) (sym ti)
         (subst (λ (y : List Checkpoint). Underway measure input f w' words' y out (noted_at q next))
-        (sym (ap (set rows (slot_for p.quoted u.left p.adds)) (sym r-is) ∙ set-get_or rows (slot_for p.quoted u.left p.adds) blank))
+        (sym (ap (set rows (slot_for p.quoted u.left p.adds)) (sym r_is) ∙ set-get_or rows (slot_for p.quoted u.left p.adds) blank))
         (subst (λ (y : Progress). words' ≡ noted_words words y → Underway measure input f w' words' rows out (noted_at y next)) (sym qi)
         (λ y. go_on measure input f w' words words' rows out (undone_at p r n) next rest (take n u.past) now_back (standing (take n u.past) now_back)
         (present b u few row_is flagged long a (p.steps + 1) (omega arith)) (stocked b u few row_is flagged long a (p.steps + 1) (omega arith))
@@ -385,7 +385,7 @@ module _ {measure : Measure} {input : List ℕ} {f : File} {w words : List ℕ} 
         run : whole_run measure f (length out)
             ≡ after_words p.steps (take (3 * p.steps) words) (with_words (words_of now_back) (run_steps (measure_of measure) (length out) f rest (standing (take n u.past) now_back)))
         run =
-            same-standing input f w words out p r none_open measure rows u
+            same_standing input f w words out p r none_open measure rows u
             ∙ ap (λ (ss : List Step). after_words p.steps (take (3 * p.steps) words) (run_steps (measure_of measure) (length out) f ss (standing u.past u.session))) e
             ∙ ap (λ (y : Run). after_words p.steps (take (3 * p.steps) words) y)
             (run_undo measure (length out) f u.past u.session b n rest (was b u few row_is flagged) (found b u few row_is flagged).is)

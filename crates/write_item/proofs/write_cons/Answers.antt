@@ -24,18 +24,18 @@ returns-then-not-fits c =
 pub bounds-output-size : goal.bounds-output-size
 bounds-output-size c =
     let room : c.args.counts.size + 1 ≤ length c.args.output.now =
-        has_room (length c.args.output.now) _ _ c.fits2.ensures c.if-not-fits.false in
+    has_room (length c.args.output.now) _ _ c.fits2.ensures c.if-not-fits.false in
     omega (arith, room)
 
 pub overflow_add-size : goal.overflow_add-size
 overflow_add-size c =
     let room : c.args.counts.size + 1 ≤ length c.args.output.now =
-        has_room (length c.args.output.now) _ _ c.fits2.ensures c.if-not-fits.false in
+    has_room (length c.args.output.now) _ _ c.fits2.ensures c.if-not-fits.false in
     record { fits = omega (arith, room) }
 
 pub returns : goal.returns
 returns c =
     let room : c.args.counts.size + 1 ≤ length c.args.output.now =
-        has_room (length c.args.output.now) _ _ c.fits2.ensures c.if-not-fits.false in
+    has_room (length c.args.output.now) _ _ c.fits2.ensures c.if-not-fits.false in
     let a = c.args in
     put_counted a.output.now _ a.counts cons_item _ 0 (put_byte a.output.now a.counts.size 0xff (omega (arith, room))) refl _ c.with_cons.ensures

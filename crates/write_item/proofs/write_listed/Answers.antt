@@ -18,7 +18,7 @@ module _ (x : goal.In-Next-2) where
       let w = x.write_atom in
       let s = start x in
       put_atom s.args.output.now s.args.counts.size s.args.blob.now s.pre.1 _
-      (sym (ap (λ r. answers.written r w.new.0) x.in-Next.is) ∙ w.ensures.0)
+      (sym (ap (λ r. answers.written r w.new.output) x.in-Next.is) ∙ w.ensures.0)
 
   told : item_prefix (atom_item (start x).args.blob.now) ≡ x.in-Next.width
   told = ap width_or_0 (subst (answers.WidthTold (start x).args.blob.now) x.in-Next.is x.write_atom.ensures.1)
@@ -42,7 +42,7 @@ returns-in-Full c =
     record {
       bytes =
           put_atom s.args.output.now s.args.counts.size s.args.blob.now s.requires.1 _
-          (sym (ap (λ r. answers.written r w.new.0) c.in-Full.is) ∙ w.ensures.0);
+          (sym (ap (λ r. answers.written r w.new.output) c.in-Full.is) ∙ w.ensures.0);
       counted = tt;
     }
 
@@ -51,5 +51,5 @@ returns-in-TooLong c =
     let put = c in
     let s = put in
     let w = put.write_atom in
-    put_atom_there s.args.output.now s.args.counts.size s.args.blob.now s.requires.1 w.new.0
-    (sym (ap (λ r. answers.written r w.new.0) c.in-TooLong.is) ∙ w.ensures.0)
+    put_atom_there s.args.output.now s.args.counts.size s.args.blob.now s.requires.1 w.new.output
+    (sym (ap (λ r. answers.written r w.new.output) c.in-TooLong.is) ∙ w.ensures.0)

@@ -23,4 +23,4 @@ returns c =
     let a = c.args in
     let e = c.as_ref.ensures ∙ c.small_atom_bytes-small.ensures.last in
     let put = c.write_listed in
-    subst (λ (l : List ℕ). ItemPut a.output.now put.new.0 a.counts (atom_item l) put.result) e put.ensures
+    subst (λ (l : List ℕ). ItemPut a.output.now put.new.output a.counts (atom_item l) put.result) e put.ensures

@@ -22,14 +22,14 @@ loop-next-smaller-in-Parse c =
     let parsed = c in
     let at-parse = parsed in
     let p = parsed.parse-next in
-    loop_falls p.result at-parse.loop-next.output p.new.1.1.0 at-parse.in-Parse.is p.auto.1.1.0 p.ensures.1
+    loop_falls p.result at-parse.loop-next.output p.new.output at-parse.in-Parse.is p.auto.output p.ensures.1
 
 pub loop-next-preserved-in-Parse : goal.loop-next-preserved-in-Parse
 loop-next-preserved-in-Parse c =
     let parsed = c in
     let at-parse = parsed in
     let p = parsed.parse-next in
-    loop_turns at-parse.in-Parse.is at-parse.loop-next.invariant p.auto.0 p.auto.1.1.0 p.ensures.0
+    loop_turns at-parse.in-Parse.is at-parse.loop-next.invariant p.auto.work p.auto.output p.ensures.0
 
 pub close_up-next-requires : goal.close_up-next-requires
 close_up-next-requires c = let at-close = c in (fine_now at-close.in-Close.is at-close.loop-next.invariant).stands

@@ -17,7 +17,7 @@ returns-then-is_pair c = let opened = c in opened.open_pair.ensures opened.args.
 pub write_atom-item-requires : goal.write_atom-item-requires
 write_atom-item-requires c =
     let atom : is_atom (node_of c.args.node.0) ≡ true =
-        let s = c in named_atom _ _ (node_of s.args.node.0) s.requires.1.names (sym c.is_pair.ensures ∙ c.if-is_pair.false) in
+    let s = c in named_atom _ _ (node_of s.args.node.0) s.requires.1.names (sym c.is_pair.ensures ∙ c.if-is_pair.false) in
     let s = c in
     let run = s.requires.1.running in
     (run.bounded, run.stands.whole, s.requires.0, s.requires.1.names, atom)
@@ -25,8 +25,8 @@ write_atom-item-requires c =
 pub returns : goal.returns
 returns c =
     let atom : is_atom (node_of c.args.node.0) ≡ true =
-        let s = c in named_atom _ _ (node_of s.args.node.0) s.requires.1.names (sym c.is_pair.ensures ∙ c.if-is_pair.false) in
+    let s = c in named_atom _ _ (node_of s.args.node.0) s.requires.1.names (sym c.is_pair.ensures ∙ c.if-is_pair.false) in
     let pushed = c.push_value in
     let put = c in
     let no_pair = put in
-    atom_turns pushed.auto.0 put.write_atom-item.result pushed.ensures no_pair.requires.1 atom put.write_atom-item.ensures
+    atom_turns pushed.auto.work put.write_atom-item.result pushed.ensures no_pair.requires.1 atom put.write_atom-item.ensures

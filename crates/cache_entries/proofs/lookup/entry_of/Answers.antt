@@ -17,7 +17,7 @@ returns-then-is_atom c = entry_of_atom (sym c.is_atom.ensures ∙ c.if-is_atom.t
 pub pair_entry-requires : goal.pair_entry-requires
 pair_entry-requires c =
     let is_pair : node_of c.args.node.0 ≡ pair (index_of (node_of c.args.node.0)) =
-        let s = c in names_pair s.args.work.now _ s.args.node.0 s.requires.1 (sym c.is_atom.ensures ∙ c.if-is_atom.false) in
+    let s = c in names_pair s.args.work.now _ s.args.node.0 s.requires.1 (sym c.is_atom.ensures ∙ c.if-is_atom.false) in
     let s = c in
     let l = pair_low s.args.work.now _ s.args.node.0 _ s.requires.1 is_pair in
     (s.requires.0, omega (arith, c.wide.ensures, c.index.ensures, l))
@@ -25,6 +25,6 @@ pair_entry-requires c =
 pub returns : goal.returns
 returns c =
     let is_pair : node_of c.args.node.0 ≡ pair (index_of (node_of c.args.node.0)) =
-        let s = c in names_pair s.args.work.now _ s.args.node.0 s.requires.1 (sym c.is_atom.ensures ∙ c.if-is_atom.false) in
+    let s = c in names_pair s.args.work.now _ s.args.node.0 s.requires.1 (sym c.is_atom.ensures ∙ c.if-is_atom.false) in
     let x = c in
     entry_of_pair (is_pair ∙ ap pair (sym (x.wide.ensures ∙ x.index.ensures))) c.pair_entry.ensures

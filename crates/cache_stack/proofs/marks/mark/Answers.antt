@@ -14,6 +14,6 @@ unfolding part
 returns c =
     let s = c in
     let v = c.visit in
-    marked s.args.work.now v.new.0 s.args.e.0 s.requires.0 s.requires.1
-    (v.auto.0 ∙ part_length s.args.work.now WRITTEN 96 (omega arith))
+    marked s.args.work.now v.new.bits s.args.e.0 s.requires.0 s.requires.1
+    (v.auto.bits ∙ part_length s.args.work.now WRITTEN 96 (omega arith))
     (rw c.wide-x.ensures at v.ensures.1)

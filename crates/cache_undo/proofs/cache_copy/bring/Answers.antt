@@ -12,16 +12,16 @@ use Rattle.cache_undo.proofs.cache_copy.bring.Goals as goal
 pub bring_first_links-requires : goal.bring_first_links-requires
 bring_first_links-requires c =
     let start : goal.Start =
-        to-entries.before.before.before in
+    to-entries.before.before.before in
     let maps-copied : Copied to-off.take-off.new.0 c.copy_within.new.words (copied_maps (start to-off).args.k) MAPS to-off.before.before.wide2.result =
-        let o = to-off in
+    let o = to-off in
     let s = start in
     let b = s.pre.1.1 in
     let m = o.wide-pairs in
     copied _ (copied_maps s.args.k) MAPS m.result (omega (arith, b.sound.long, o.take_off.ensures.len, m.ensures, b.few_pairs))
     (omega (arith, b.sound.long, o.take_off.ensures.len, m.ensures, b.few_pairs)) _ c.copy_within.ensures in
     let counts-copied : Copied to-maps.copy_within.new.0 c.copy_within-2.new.words (copied_counts (start (to-off to-maps)).args.k) COUNTS (to-entries (to-off to-maps)).wide.result =
-        let m = to-maps in
+    let m = to-maps in
     let o = to-off in
     let s = start in
     let b = s.pre.1.1 in
@@ -45,16 +45,16 @@ bring_first_links-requires c =
 pub bring_lists-requires : goal.bring_lists-requires
 bring_lists-requires c =
     let start : goal.Start =
-        to-entries.before.before.before in
+    to-entries.before.before.before in
     let maps-copied : Copied to-off.take-off.new.0 c.copy_within.new.words (copied_maps (start to-off).args.k) MAPS to-off.before.before.wide2.result =
-        let o = to-off in
+    let o = to-off in
     let s = start in
     let b = s.pre.1.1 in
     let m = o.wide-pairs in
     copied _ (copied_maps s.args.k) MAPS m.result (omega (arith, b.sound.long, o.take_off.ensures.len, m.ensures, b.few_pairs))
     (omega (arith, b.sound.long, o.take_off.ensures.len, m.ensures, b.few_pairs)) _ c.copy_within.ensures in
     let counts-copied : Copied to-maps.copy_within.new.0 c.copy_within-2.new.words (copied_counts (start (to-off to-maps)).args.k) COUNTS (to-entries (to-off to-maps)).wide.result =
-        let m = to-maps in
+    let m = to-maps in
     let o = to-off in
     let s = start in
     let b = s.pre.1.1 in
@@ -65,7 +65,7 @@ bring_lists-requires c =
     let firsts-copied : let d = to-counts in
     let o = to-off to-maps in
     Copied d.copy_within-2.last.0 c.bring_first_links.new.work (copied_firsts start.args.k) PARENTS to-entries.wide.result =
-        let d = to-counts in
+    let d = to-counts in
     let m = to-maps in
     let o = to-off in
     let s = start in

@@ -17,18 +17,18 @@ copy_within-requires c = simp length-set (omega arith, omega arith, λ q. omega 
 pub copy_within-requires-2 : goal.copy_within-requires-2
 copy_within-requires-2 c =
     let start : goal.Start =
-        to-entries.before.before.before in
+    to-entries.before.before.before in
     let maps-copied : let s = start in
     let w = s.args.work.now in
     Copied (set w (copied_used s.args.k) (at w USED)) c.copy_within.new.words MAPS (copied_maps s.args.k) c.wide-pairs.result =
-        let s = start in
+    let s = start in
     let w = s.args.work.now in
     let u = set w (copied_used s.args.k) (at w USED) in
     let l : length u ≡ length w = length-set w (copied_used s.args.k) (at w USED) in
     let m = c.wide-pairs in
     copied u MAPS (copied_maps s.args.k) m.result (omega (arith, s.pre.0.long, s.pre.2, m.ensures)) (omega (arith, s.pre.0.long, s.pre.2, m.ensures)) _ c.copy_within.ensures in
     let maps-length : length c.copy_within.new.words ≡ length start.args.work.now =
-        let s = start in maps-copied.len ∙ length-set s.args.work.now (copied_used s.args.k) (at s.args.work.now USED) in
+    let s = start in maps-copied.len ∙ length-set s.args.work.now (copied_used s.args.k) (at s.args.work.now USED) in
     let m = c in
     let s = start in
     let n = c.wide in
@@ -38,21 +38,21 @@ copy_within-requires-2 c =
 pub save_first_links-requires : goal.save_first_links-requires
 save_first_links-requires c =
     let start : goal.Start =
-        to-entries.before.before.before in
+    to-entries.before.before.before in
     let maps-copied : let s = start in
     let w = s.args.work.now in
     Copied (set w (copied_used s.args.k) (at w USED)) c.copy_within.new.words MAPS (copied_maps s.args.k) c.wide-pairs.result =
-        let s = start in
+    let s = start in
     let w = s.args.work.now in
     let u = set w (copied_used s.args.k) (at w USED) in
     let l : length u ≡ length w = length-set w (copied_used s.args.k) (at w USED) in
     let m = c.wide-pairs in
     copied u MAPS (copied_maps s.args.k) m.result (omega (arith, s.pre.0.long, s.pre.2, m.ensures)) (omega (arith, s.pre.0.long, s.pre.2, m.ensures)) _ c.copy_within.ensures in
     let maps-length : length c.copy_within.new.words ≡ length start.args.work.now =
-        let s = start in maps-copied.len ∙ length-set s.args.work.now (copied_used s.args.k) (at s.args.work.now USED) in
+    let s = start in maps-copied.len ∙ length-set s.args.work.now (copied_used s.args.k) (at s.args.work.now USED) in
     let counts-copied : let m = to-maps in
     Copied m.copy_within.last.0 c.copy_within-2.new.words COUNTS (copied_counts start.args.k) to-entries.wide.result =
-        let m = to-maps in
+    let m = to-maps in
     let s = start in
     let n = to-entries.wide in
     let l = maps-length in
@@ -68,21 +68,21 @@ save_first_links-requires c =
 pub save_lists-requires : goal.save_lists-requires
 save_lists-requires c =
     let start : goal.Start =
-        to-entries.before.before.before in
+    to-entries.before.before.before in
     let maps-copied : let s = start in
     let w = s.args.work.now in
     Copied (set w (copied_used s.args.k) (at w USED)) c.copy_within.new.words MAPS (copied_maps s.args.k) c.wide-pairs.result =
-        let s = start in
+    let s = start in
     let w = s.args.work.now in
     let u = set w (copied_used s.args.k) (at w USED) in
     let l : length u ≡ length w = length-set w (copied_used s.args.k) (at w USED) in
     let m = c.wide-pairs in
     copied u MAPS (copied_maps s.args.k) m.result (omega (arith, s.pre.0.long, s.pre.2, m.ensures)) (omega (arith, s.pre.0.long, s.pre.2, m.ensures)) _ c.copy_within.ensures in
     let maps-length : length c.copy_within.new.words ≡ length start.args.work.now =
-        let s = start in maps-copied.len ∙ length-set s.args.work.now (copied_used s.args.k) (at s.args.work.now USED) in
+    let s = start in maps-copied.len ∙ length-set s.args.work.now (copied_used s.args.k) (at s.args.work.now USED) in
     let counts-copied : let m = to-maps in
     Copied m.copy_within.last.0 c.copy_within-2.new.words COUNTS (copied_counts start.args.k) to-entries.wide.result =
-        let m = to-maps in
+    let m = to-maps in
     let s = start in
     let n = to-entries.wide in
     let l = maps-length in
@@ -90,7 +90,7 @@ save_lists-requires c =
     c.copy_within-2.ensures in
     let firsts-copied : let d = to-counts in
     Copied d.copy_within-2.last.0 c.save_first_links.new.work PARENTS (copied_firsts (start to-maps).args.k) (to-entries to-maps).wide.result =
-        let d = to-counts in
+    let d = to-counts in
     let m = to-maps in
     let s = start in
     let n = to-entries.wide in
@@ -108,21 +108,21 @@ save_lists-requires c =
 pub shape_of-work : goal.shape_of-work
 shape_of-work c =
     let start : goal.Start =
-        to-entries.before.before.before in
+    to-entries.before.before.before in
     let maps-copied : let s = start in
     let w = s.args.work.now in
     Copied (set w (copied_used s.args.k) (at w USED)) c.copy_within.new.words MAPS (copied_maps s.args.k) c.wide-pairs.result =
-        let s = start in
+    let s = start in
     let w = s.args.work.now in
     let u = set w (copied_used s.args.k) (at w USED) in
     let l : length u ≡ length w = length-set w (copied_used s.args.k) (at w USED) in
     let m = c.wide-pairs in
     copied u MAPS (copied_maps s.args.k) m.result (omega (arith, s.pre.0.long, s.pre.2, m.ensures)) (omega (arith, s.pre.0.long, s.pre.2, m.ensures)) _ c.copy_within.ensures in
     let maps-length : length c.copy_within.new.words ≡ length start.args.work.now =
-        let s = start in maps-copied.len ∙ length-set s.args.work.now (copied_used s.args.k) (at s.args.work.now USED) in
+    let s = start in maps-copied.len ∙ length-set s.args.work.now (copied_used s.args.k) (at s.args.work.now USED) in
     let counts-copied : let m = to-maps in
     Copied m.copy_within.last.0 c.copy_within-2.new.words COUNTS (copied_counts start.args.k) to-entries.wide.result =
-        let m = to-maps in
+    let m = to-maps in
     let s = start in
     let n = to-entries.wide in
     let l = maps-length in
@@ -130,7 +130,7 @@ shape_of-work c =
     c.copy_within-2.ensures in
     let firsts-copied : let d = to-counts in
     Copied d.copy_within-2.last.0 c.save_first_links.new.work PARENTS (copied_firsts (start to-maps).args.k) (to-entries to-maps).wide.result =
-        let d = to-counts in
+    let d = to-counts in
     let m = to-maps in
     let s = start in
     let n = to-entries.wide in
@@ -145,21 +145,21 @@ shape_of-work c =
 pub returns : goal.returns
 returns c =
     let start : goal.Start =
-        to-entries.before.before.before in
+    to-entries.before.before.before in
     let maps-copied : let s = start in
     let w = s.args.work.now in
     Copied (set w (copied_used s.args.k) (at w USED)) c.copy_within.new.words MAPS (copied_maps s.args.k) c.wide-pairs.result =
-        let s = start in
+    let s = start in
     let w = s.args.work.now in
     let u = set w (copied_used s.args.k) (at w USED) in
     let l : length u ≡ length w = length-set w (copied_used s.args.k) (at w USED) in
     let m = c.wide-pairs in
     copied u MAPS (copied_maps s.args.k) m.result (omega (arith, s.pre.0.long, s.pre.2, m.ensures)) (omega (arith, s.pre.0.long, s.pre.2, m.ensures)) _ c.copy_within.ensures in
     let maps-length : length c.copy_within.new.words ≡ length start.args.work.now =
-        let s = start in maps-copied.len ∙ length-set s.args.work.now (copied_used s.args.k) (at s.args.work.now USED) in
+    let s = start in maps-copied.len ∙ length-set s.args.work.now (copied_used s.args.k) (at s.args.work.now USED) in
     let counts-copied : let m = to-maps in
     Copied m.copy_within.last.0 c.copy_within-2.new.words COUNTS (copied_counts start.args.k) to-entries.wide.result =
-        let m = to-maps in
+    let m = to-maps in
     let s = start in
     let n = to-entries.wide in
     let l = maps-length in
@@ -167,7 +167,7 @@ returns c =
     c.copy_within-2.ensures in
     let firsts-copied : let d = to-counts in
     Copied d.copy_within-2.last.0 c.save_first_links.new.work PARENTS (copied_firsts (start to-maps).args.k) (to-entries to-maps).wide.result =
-        let d = to-counts in
+    let d = to-counts in
     let m = to-maps in
     let s = start in
     let n = to-entries.wide in

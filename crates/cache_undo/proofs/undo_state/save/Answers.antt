@@ -17,5 +17,5 @@ returns c =
     let m = c.copy_within-3 in
     saved s.args.k s.requires.2 s.requires.3
     (copied _ OPEN (copied_open s.args.k) s.args.opens (omega arith) (omega arith) _ a.ensures)
-    (copied _ STACK (copied_stack s.args.k) s.args.depth (omega (arith, a.auto.0)) (omega (arith, a.auto.0)) _ b.ensures)
-    (copied _ WRITTEN (copied_marks s.args.k) 96 (omega (arith, a.auto.0, b.auto.0)) (omega (arith, a.auto.0, b.auto.0)) _ m.ensures)
+    (copied _ STACK (copied_stack s.args.k) s.args.depth (omega (arith, a.auto.words)) (omega (arith, a.auto.words)) _ b.ensures)
+    (copied _ WRITTEN (copied_marks s.args.k) 96 (omega (arith, a.auto.words, b.auto.words)) (omega (arith, a.auto.words, b.auto.words)) _ m.ensures)

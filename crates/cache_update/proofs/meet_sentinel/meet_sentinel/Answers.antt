@@ -14,4 +14,4 @@ pub returns : goal.returns
 returns c =
     let i = c.insert-e in
     let s = c in
-    sentinel_made s.args.work.now i.new.0 i.result.0 s.requires.0 i.ensures
+    sentinel_made s.args.work.now i.new.work i.result.0 s.requires.0 i.ensures

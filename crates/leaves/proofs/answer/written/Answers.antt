@@ -14,9 +14,9 @@ slice_bounds-write_atom-end c = sym (length-replicate {A = ℕ} 65538 0)
 pub slice_bounds-output-end : goal.slice_bounds-output-end
 slice_bounds-output-end c =
     let w = c.write_atom in
-    written_within _ w.new.0 _ _ _ _ _ c.in-Next.is w.ensures.0 w.auto.0
+    written_within _ w.new.output _ _ _ _ _ c.in-Next.is w.ensures.0 w.auto.output
 
 pub slice_bounds-hex-end : goal.slice_bounds-hex-end
 slice_bounds-hex-end c =
     let w = c.write_atom in
-    counted _ _ (written_within _ w.new.0 _ _ _ _ _ c.in-Next.is w.ensures.0 w.auto.0)
+    counted _ _ (written_within _ w.new.output _ _ _ _ _ c.in-Next.is w.ensures.0 w.auto.output)

@@ -15,7 +15,7 @@ pub loop-i-preserved : goal.loop-i-preserved
 loop-i-preserved c =
     let p = c.push-builder in (
       omega arith,
-      omega (arith, p.auto.1.0),
+      omega (arith, p.auto.store),
       p.ensures.sound,
       ap length p.ensures.bits ∙ omega (arith, c.loop-i.invariant.3),
     )

@@ -10,16 +10,16 @@ use Rattle.path_builder.proofs.PathBuilder.done.Goals as goal
 pub returns-then-place-eq7 : goal.returns-then-place-eq7
 returns-then-place-eq7 c =
     let bytes : Bytes c.args.store.now =
-        all_of (λ (n : ℕ). n < 256) c.args.store.now 0 (λ i l. omega (arith, c.type_inv.store i)) in
+    all_of (λ (n : ℕ). n < 256) c.args.store.now 0 (λ i l. omega (arith, c.type_inv.store i)) in
     let o = c in
     done_full o.args.store.now o.args.self o.requires bytes c.if-place-eq7.true c.wide-n.result c.wide-n.ensures
 
 pub returns : goal.returns
 returns c =
     let bytes : Bytes c.args.store.now =
-        all_of (λ (n : ℕ). n < 256) c.args.store.now 0 (λ i l. omega (arith, c.type_inv.store i)) in
+    all_of (λ (n : ℕ). n < 256) c.args.store.now 0 (λ i l. omega (arith, c.type_inv.store i)) in
     let w = c in
     let o = w in
     let a = c.right_align in
-    done_part o.args.store.now o.args.self o.requires bytes c.if-place-eq7.false w.wide-n.result a.new.0
+    done_part o.args.store.now o.args.self o.requires bytes c.if-place-eq7.false w.wide-n.result a.new.store
     w.wide-n.ensures a.ensures

@@ -18,7 +18,7 @@ pub returns : goal.returns
 returns c =
     let full : let a = c.args in
     c.if-n-gt0.full ≡ ltb 0 a.self.in_use && (eqb a.self.bit_pos 7 && leb 80 (get_or a.store.now 0 0)) =
-        let s = c.args.self in
+    let s = c.args.self in
     ⊎_elim
     (λ w. w.4 ∙ rw (lt-ltb 0 s.in_use w.0.taken, eq-eqb s.bit_pos 7 w.2.taken))
     (⊎_elim

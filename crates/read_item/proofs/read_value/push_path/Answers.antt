@@ -26,12 +26,12 @@ settle-requires c =
     let pushed : Ready c.push_node-next.new.work walk.traverse-path-with-vec.new.1.1.0 c.push_node-next.result
     × PathPushed start.args.input.now start.args.work.now start.args.pairs.now
     start.args.r c.push_node-next.new.work walk.traverse-path-with-vec.new.1.1.0 c.push_node-next.result =
-        let walked = walk in
+    let walked = walk in
     let t = walked.traverse_path_with_vec in
     let q = c.push_node-next in
     let p = start.pre in
     paths.node_on_top _ _ _ _ p.0 _ _ p.1 _ walked.parse_atom_ptr-path.ensures _ _ _ t.ensures.0
-    _ c.in-Node.is t.ensures.1 t.kept.1.0 t.kept.1.1.0 _ q.auto.0 q.ensures.0 _ q.ensures.1 in
+    _ c.in-Node.is t.ensures.1 t.kept.1.0 t.kept.1.1.0 _ q.auto.work q.ensures.0 _ q.ensures.1 in
     let x = pushed in (x.0, x.1.inside)
 
 pub returns-in-Node : goal.returns-in-Node
@@ -39,15 +39,15 @@ returns-in-Node c =
     let pushed : Ready c.push_node-next.new.work walk.traverse-path-with-vec.new.1.1.0 c.push_node-next.result
     × PathPushed start.args.input.now start.args.work.now start.args.pairs.now
     start.args.r c.push_node-next.new.work walk.traverse-path-with-vec.new.1.1.0 c.push_node-next.result =
-        let walked = walk in
+    let walked = walk in
     let t = walked.traverse_path_with_vec in
     let q = c.push_node-next in
     let p = start.pre in
     paths.node_on_top _ _ _ _ p.0 _ _ p.1 _ walked.parse_atom_ptr-path.ensures _ _ _ t.ensures.0
-    _ c.in-Node.is t.ensures.1 t.kept.1.0 t.kept.1.1.0 _ q.auto.0 q.ensures.0 _ q.ensures.1 in
+    _ c.in-Node.is t.ensures.1 t.kept.1.0 t.kept.1.1.0 _ q.auto.work q.ensures.0 _ q.ensures.1 in
     let settled = c in
     let y = settled.settle in
-    path_settled _ _ _ pushed.1 y.auto.1.0 y.auto.1.1.0 y.ensures
+    path_settled _ _ _ pushed.1 y.auto.work y.auto.pairs y.ensures
 
 pub returns-in-IntoAtom : goal.returns-in-IntoAtom
 returns-in-IntoAtom c =

@@ -13,19 +13,19 @@ loop-r-init c = let p = c.requires in (refl, refl, joins.onward_none _ _ _ p.pai
 pub overflow_add-top : goal.overflow_add-top
 overflow_add-top c =
     let ready : Ready c.loop-r.work c.loop-r.pairs c.loop-r.r =
-        joins.ready_on _ _ _ _ _ _ c.requires c.loop-r.invariant.0 c.loop-r.invariant.1 c.loop-r.invariant.2 in
+    joins.ready_on _ _ _ _ _ _ c.requires c.loop-r.invariant.0 c.loop-r.invariant.1 c.loop-r.invariant.2 in
     omega (arith, joins.ready_ops _ _ _ ready)
 
 pub offset_bounds-work-top : goal.offset_bounds-work-top
 offset_bounds-work-top c =
     let ready : Ready c.loop-r.work c.loop-r.pairs c.loop-r.r =
-        joins.ready_on _ _ _ _ _ _ c.requires c.loop-r.invariant.0 c.loop-r.invariant.1 c.loop-r.invariant.2 in
+    joins.ready_on _ _ _ _ _ _ c.requires c.loop-r.invariant.0 c.loop-r.invariant.1 c.loop-r.invariant.2 in
     omega (arith, joins.ready_ops _ _ _ ready)
 
 pub bounds-work-top : goal.bounds-work-top
 bounds-work-top c =
     let ready : Ready c.loop-r.work c.loop-r.pairs c.loop-r.r =
-        joins.ready_on _ _ _ _ _ _ c.requires c.loop-r.invariant.0 c.loop-r.invariant.1 c.loop-r.invariant.2 in
+    joins.ready_on _ _ _ _ _ _ c.requires c.loop-r.invariant.0 c.loop-r.invariant.1 c.loop-r.invariant.2 in
     let d = ready in omega (arith, joins.ready_ops _ _ _ d, d.work)
 
 pub shape_of-work-then-work-top-eq0 : goal.shape_of-work-then-work-top-eq0
@@ -42,7 +42,7 @@ returns-then-work-top-eq0 c =
 pub join_top-r-requires : goal.join_top-r-requires
 join_top-r-requires c =
     let ready : Ready c.loop-r.work c.loop-r.pairs c.loop-r.r =
-        joins.ready_on _ _ _ _ _ _ c.requires c.loop-r.invariant.0 c.loop-r.invariant.1 c.loop-r.invariant.2 in
+    joins.ready_on _ _ _ _ _ _ c.requires c.loop-r.invariant.0 c.loop-r.invariant.1 c.loop-r.invariant.2 in
     let l = c in
     (ready, omega arith, joins.top_join l.loop-r.work l.loop-r.r.ops (omega arith) c.if-work-top-eq0.false)
 
@@ -54,7 +54,7 @@ loop-r-preserved c =
     let joined = c in
     let j = joined.join_top-r in
     let l = joined.loop-r in
-    (j.auto.0 ∙ l.invariant.0, j.auto.1.0 ∙ l.invariant.1, joins.onward_both _ _ _ _ _ _ _ _ _ l.invariant.1 l.invariant.2 j.ensures.0)
+    (j.auto.work ∙ l.invariant.0, j.auto.pairs ∙ l.invariant.1, joins.onward_both _ _ _ _ _ _ _ _ _ l.invariant.1 l.invariant.2 j.ensures.0)
 
 pub shape_of-work : goal.shape_of-work
 shape_of-work c = c.loop-r.invariant.0

@@ -10,13 +10,13 @@ use Rattle.read_item.proofs.settle.join_top.Goals as goal
 pub overflow_sub-r : goal.overflow_sub-r
 overflow_sub-r c =
     let two : 2 ≤ c.args.r.values =
-        let p = c.requires in joins.join_two _ _ _ p.0 _ p.2 in
+    let p = c.requires in joins.join_two _ _ _ p.0 _ p.2 in
     omega (arith, two)
 
 pub join-requires : goal.join-requires
 join-requires c =
     let two : 2 ≤ c.args.r.values =
-        let p = c.requires in joins.join_two _ _ _ p.0 _ p.2 in
+    let p = c.requires in joins.join_two _ _ _ p.0 _ p.2 in
     let known = c in
     let p = known.requires in
     let m = joins.join_room _ _ _ p.0 _ p.2 in
@@ -25,7 +25,7 @@ join-requires c =
 pub overflow_sub-next-2 : goal.overflow_sub-next-2
 overflow_sub-next-2 c =
     let two : 2 ≤ c.args.r.values =
-        let p = c.requires in joins.join_two _ _ _ p.0 _ p.2 in
+    let p = c.requires in joins.join_two _ _ _ p.0 _ p.2 in
     omega (arith, two)
 
 pub overflow_add-next-2 : goal.overflow_add-next-2

@@ -13,7 +13,7 @@ returns-then-list-ne0 c = adds_cached _ _ _ _ _ c.if-list-ne0.true refl refl ref
 pub new_pair-node-requires : goal.new_pair-node-requires
 new_pair-node-requires c =
     let ghost : 1 ≤ c.args.below.ghosts =
-        let o = c in
+    let o = c in
     bare_ghost o.args.work.now o.args.i o.args.below.ghosts c.if-list-ne0.false o.requires.ghost in
     let bare = c in
     let p = bare.requires in
@@ -22,7 +22,7 @@ new_pair-node-requires c =
 pub overflow_add-work : goal.overflow_add-work
 overflow_add-work c =
     let ghost : 1 ≤ c.args.below.ghosts =
-        let o = c in
+    let o = c in
     bare_ghost o.args.work.now o.args.i o.args.below.ghosts c.if-list-ne0.false o.requires.ghost in
     let bare = c in
     let o = bare in
@@ -31,14 +31,14 @@ overflow_add-work c =
 pub overflow_sub-result-2 : goal.overflow_sub-result-2
 overflow_sub-result-2 c =
     let ghost : 1 ≤ c.args.below.ghosts =
-        let o = c in
+    let o = c in
     bare_ghost o.args.work.now o.args.i o.args.below.ghosts c.if-list-ne0.false o.requires.ghost in
     omega (arith, ghost)
 
 pub returns : goal.returns
 returns c =
     let ghost : 1 ≤ c.args.below.ghosts =
-        let o = c in
+    let o = c in
     bare_ghost o.args.work.now o.args.i o.args.below.ghosts c.if-list-ne0.false o.requires.ghost in
     let bare = c in
     let p = bare.requires in

@@ -56,8 +56,8 @@ loop-i-preserved c =
     let r = c.add_value-b in
     let some_left = c.loop-i-test.true in (
       omega (arith, some_left),
-      r.auto.0 ∙ h.loop-i.invariant.1,
-      r.auto.1.0 ∙ h.loop-i.invariant.2,
+      r.auto.work ∙ h.loop-i.invariant.1,
+      r.auto.pairs ∙ h.loop-i.invariant.2,
       lists_more _ _ _ _ _ _ _ _ _ h.loop-i.invariant.3 _ _ _ r.ensures (omega (arith, some_left, h.loop-i.invariant.5)),
       spent_more _ _ _ _ _ _ _ _ _ h.loop-i.invariant.3 _ _ _ r.ensures h.loop-i.invariant.4,
       omega (arith, h.loop-i.invariant.5),

@@ -12,7 +12,7 @@ loop-taken-init c = (omega arith, taking_start c.requires.1)
 pub overflow_mul-number : goal.overflow_mul-number
 overflow_mul-number c =
     let fits : c.loop-taken.number * 2 + 1 < 2 ^ 64 =
-        taking_fits c.loop-taken.invariant.1 (omega (arith, c.loop-taken-test.true, c.requires.3)) in
+    taking_fits c.loop-taken.invariant.1 (omega (arith, c.loop-taken-test.true, c.requires.3)) in
     record { fits = omega (arith, fits) }
 
 pub overflow_add-number : goal.overflow_add-number
@@ -27,7 +27,7 @@ bounds-work-node c = omega (arith, c.requires.0, c.loop-taken.invariant.1.chain.
 pub overflow_add-number-in-loop-taken : goal.overflow_add-number-in-loop-taken
 overflow_add-number-in-loop-taken c =
     let fits : c.loop-taken.number * 2 + 1 < 2 ^ 64 =
-        taking_fits c.loop-taken.invariant.1 (omega (arith, c.loop-taken-test.true, c.requires.3)) in
+    taking_fits c.loop-taken.invariant.1 (omega (arith, c.loop-taken-test.true, c.requires.3)) in
     record { fits = omega (arith, fits) }
 
 pub overflow_add-node : goal.overflow_add-node

@@ -23,7 +23,7 @@ loop-left-preserved c =
     let p = c.push-longer in
     let t = c in
     let l = t.loop-left in
-    push_more l.invariant _ _ (one_holds p.ensures) p.auto.1.0 (omega (arith, t.loop-left-test.true))
+    push_more l.invariant _ _ (one_holds p.ensures) p.auto.store (omega (arith, t.loop-left-test.true))
     (number_next l.left l.rest _ _ t.loop-left-test.true c.Lowest-step.ensures)
 
 pub shape_of-store : goal.shape_of-store

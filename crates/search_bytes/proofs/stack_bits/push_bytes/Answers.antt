@@ -22,7 +22,7 @@ loop-left-preserved c =
     let p = c.push_eight-longer in
     let t = c in
     let l = t.loop-left in
-    push_more l.invariant _ _ p.ensures p.auto.0 (omega (arith, t.loop-left-test.true))
+    push_more l.invariant _ _ p.ensures p.auto.store (omega (arith, t.loop-left-test.true))
     (ones_next (8 * l.left) (8 * (l.left - 1)) 8 (built l.store l.longer) (omega (arith, t.loop-left-test.true)))
 
 pub shape_of-store : goal.shape_of-store

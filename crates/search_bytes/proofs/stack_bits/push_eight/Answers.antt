@@ -14,4 +14,4 @@ returns-then-builder-eq7 c =
     let t = c in
     let a = t.args in
     let p = c.push_number in
-    byte_done a.store.now a.builder t.if-builder-eq7.true p.new.0 p.result p.ensures
+    byte_done a.store.now a.builder t.if-builder-eq7.true p.new.store p.result p.ensures

@@ -17,7 +17,7 @@ use Rattle.search_find.proofs.find_path.find_path.Goals as goal
 pub size_of-requires : goal.size_of-requires
 size_of-requires c =
     let found : Finds start.args.work.now c.search.new.work start.args.depth start.args.len start.args.e.0 (By c.in-By.i) =
-        rw c.in-By.is at c.search.ensures in
+    rw c.in-By.is at c.search.ensures in
     let x = c in
     let u = found.usable in
     (omega (arith, x.search.auto.work, c.requires.0.long), u.slot, u.chain.few)
@@ -25,31 +25,31 @@ size_of-requires c =
 pub measured_bits-requires : goal.measured_bits-requires
 measured_bits-requires c =
     let found : Finds start.args.work.now c.search.new.work start.args.depth start.args.len start.args.e.0 (By c.in-By.i) =
-        rw c.in-By.is at c.search.ensures in
+    rw c.in-By.is at c.search.ensures in
     let u = found.usable in omega (arith, c.size_of.ensures, u.short, u.extra)
 
 pub returns-then-measured_bits-len : goal.returns-then-measured_bits-len
 returns-then-measured_bits-len c =
     let there : List Bool =
-        path_at c.search.new.work c.in-By.i in
+    path_at c.search.new.work c.in-By.i in
     let found : Finds start.args.work.now c.search.new.work start.args.depth start.args.len start.args.e.0 (By c.in-By.i) =
-        rw c.in-By.is at c.search.ensures in
+    rw c.in-By.is at c.search.ensures in
     let sized : c.size_of.result ≡ length there =
-        c.size_of.ensures ∙ readable_size c.search.new.work _ found.usable in
+    c.size_of.ensures ∙ readable_size c.search.new.work _ found.usable in
     let measured : c.measured_bits.result ≡ measure_of start.args.measure there =
-        c.measured_bits.ensures _ sized (path_ends found) in
+    c.measured_bits.ensures _ sized (path_ends found) in
     path_used found measured c.if-measured_bits-len.true
 
 pub returns-else-measured_bits-len : goal.returns-else-measured_bits-len
 returns-else-measured_bits-len c =
     let there : List Bool =
-        path_at c.search.new.work c.in-By.i in
+    path_at c.search.new.work c.in-By.i in
     let found : Finds start.args.work.now c.search.new.work start.args.depth start.args.len start.args.e.0 (By c.in-By.i) =
-        rw c.in-By.is at c.search.ensures in
+    rw c.in-By.is at c.search.ensures in
     let sized : c.size_of.result ≡ length there =
-        c.size_of.ensures ∙ readable_size c.search.new.work _ found.usable in
+    c.size_of.ensures ∙ readable_size c.search.new.work _ found.usable in
     let measured : c.measured_bits.result ≡ measure_of start.args.measure there =
-        c.measured_bits.ensures _ sized (path_ends found) in
+    c.measured_bits.ensures _ sized (path_ends found) in
     path_long found measured c.if-measured_bits-len.false
 
 pub returns-in-Nothing : goal.returns-in-Nothing

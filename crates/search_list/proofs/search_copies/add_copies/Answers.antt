@@ -14,17 +14,17 @@ loop-i-init c =
 pub add_copy-paths-requires : goal.add_copy-paths-requires
 add_copy-paths-requires c =
     let next : c.loop-i.i < count_at c.args.work.now c.args.e.0 =
-        omega (arith, c.loop-i-test.true, c.requires.1.3) in
+    omega (arith, c.loop-i-test.true, c.requires.1.3) in
     let s = c in
     copying_asks s.requires.0.0 s.requires.0.1 s.requires.1.0 (omega (arith, s.requires.1.2, s.requires.1.3)) c.loop-i.invariant next
 
 pub loop-i-preserved : goal.loop-i-preserved
 loop-i-preserved c =
     let next : c.loop-i.i < count_at c.args.work.now c.args.e.0 =
-        omega (arith, c.loop-i-test.true, c.requires.1.3) in
+    omega (arith, c.loop-i-test.true, c.requires.1.3) in
     let s = c in
     let a = c.add_copy-paths in
-    copying_more s.requires.0.0 s.requires.0.1 s.requires.1.0 c.loop-i.invariant next a.auto.0 a.ensures
+    copying_more s.requires.0.0 s.requires.0.1 s.requires.1.0 c.loop-i.invariant next a.auto.work a.ensures
 
 pub shape_of-work : goal.shape_of-work
 shape_of-work c = c.loop-i.invariant.len

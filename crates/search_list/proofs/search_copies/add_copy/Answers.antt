@@ -18,7 +18,7 @@ parent_at-p-requires c =
 pub is_seen-requires : goal.is_seen-requires
 is_seen-requires c =
     let low : c.parent_at-p.result.0 < 2 * at c.args.work.now USED =
-        let s = c in
+    let s = c in
     omega (arith, c.parent_at-p.ensures, s.requires.0.0.links s.args.e.0 s.args.i s.requires.1.0 s.requires.1.1) in
     let s = c in
     (s.requires.0.0.long, omega (arith, c.entry.ensures, low, s.requires.0.0.used))
@@ -26,9 +26,9 @@ is_seen-requires c =
 pub returns-then-is_seen : goal.returns-then-is_seen
 returns-then-is_seen c =
     let seen : c.is_seen.result ≡ seen_at c.args.work.now (c.parent_at-p.result.0 / 2) =
-        c.is_seen.ensures ∙ ap (seen_at c.args.work.now) c.entry.ensures in
+    c.is_seen.ensures ∙ ap (seen_at c.args.work.now) c.entry.ensures in
     let low : c.parent_at-p.result.0 < 2 * at c.args.work.now USED =
-        let s = c in
+    let s = c in
     omega (arith, c.parent_at-p.ensures, s.requires.0.0.links s.args.e.0 s.args.i s.requires.1.0 s.requires.1.1) in
     let v = c in
     let s = v in
@@ -38,12 +38,12 @@ returns-then-is_seen c =
 pub returns : goal.returns
 returns c =
     let seen : c.is_seen.result ≡ seen_at c.args.work.now (c.parent_at-p.result.0 / 2) =
-        c.is_seen.ensures ∙ ap (seen_at c.args.work.now) c.entry.ensures in
+    c.is_seen.ensures ∙ ap (seen_at c.args.work.now) c.entry.ensures in
     let low : c.parent_at-p.result.0 < 2 * at c.args.work.now USED =
-        let s = c in
+    let s = c in
     omega (arith, c.parent_at-p.ensures, s.requires.0.0.links s.args.e.0 s.args.i s.requires.1.0 s.requires.1.1) in
     let p = c.put_at_entry in
     let v = c in
     let s = v in
-    copy_new s.args.work.now s.args.nodes s.args.paths s.requires.0.1 s.requires.0.2 s.requires.0.0 p.new.0 v.parent_at-p.result.0 _
+    copy_new s.args.work.now s.args.nodes s.args.paths s.requires.0.1 s.requires.0.2 s.requires.0.0 p.new.work v.parent_at-p.result.0 _
     v.parent_at-p.ensures low s.requires.1.2 (sym c.if-is_seen.false ∙ seen) p.ensures

@@ -17,7 +17,7 @@ bounds-work-k-2 c = simp length-set (omega arith)
 pub overflow_add-work-3 : goal.overflow_add-work-3
 overflow_add-work-3 c =
     let short : c.len_of-l.result ≤ most_visits =
-        let s = c in
+    let s = c in
     let a = c.node_of-a.ensures in
     let l = c.wide in
     omega (arith, s.requires.0.1.short l.result (omega (arith, a, s.requires.1.0, l.ensures)), c.len_of-l.ensures, l.ensures, a, s.requires.1.0, s.requires.0.2) in
@@ -26,7 +26,7 @@ overflow_add-work-3 c =
 pub overflow_cast-work : goal.overflow_cast-work
 overflow_cast-work c =
     let short : c.len_of-l.result ≤ most_visits =
-        let s = c in
+    let s = c in
     let a = c.node_of-a.ensures in
     let l = c.wide in
     omega (arith, s.requires.0.1.short l.result (omega (arith, a, s.requires.1.0, l.ensures)), c.len_of-l.ensures, l.ensures, a, s.requires.1.0, s.requires.0.2) in
@@ -51,7 +51,7 @@ returns c =
     let n = l.node_of-a in
     let s = l in
     let k = c.mark_seen in
-    node_added s.args.work.now k.new.0 s.args.slot s.args.nodes n.result p.result.0 l.len_of-l.result
+    node_added s.args.work.now k.new.work s.args.slot s.args.nodes n.result p.result.0 l.len_of-l.result
     s.requires.0.0 s.requires.0.1 s.requires.0.2 s.requires.1.0 s.requires.1.1 n.ensures p.ensures
     (l.len_of-l.ensures ∙ ap (λ (k : ℕ). at s.args.work.now (LENS + k)) l.wide.ensures)
     (rw c.entry.ensures at k.ensures)

@@ -23,4 +23,4 @@ returns c =
     let t = c in
     let s = t in
     on_stack s.args.work.now s.args.s.nodes s.args.s.paths s.requires.0.2 s.requires.0.3 s.args.s.depth s.args.e.0 s.requires.0.1
-    s.requires.1.0 p.new.0 t.top_of-t.result t.top_of-t.ensures c.if-t-eq0.false s.requires.1.1 p.ensures
+    s.requires.1.0 p.new.work t.top_of-t.result t.top_of-t.ensures c.if-t-eq0.false s.requires.1.1 p.ensures

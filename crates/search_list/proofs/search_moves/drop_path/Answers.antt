@@ -10,6 +10,6 @@ returns c =
     let x = c in
     let s = x in
     let p = c.put_path in
-    path_dropped s.args.work.now p.new.0 s.args.nodes s.args.slot s.args.last s.requires.1
+    path_dropped s.args.work.now p.new.work s.args.nodes s.args.slot s.args.last s.requires.1
     (rw (x.node_of-a.ensures, x.place_of-v.ensures, x.extra_of-x.ensures) at p.ensures)
     s.requires.3 (omega arith) s.requires.2

@@ -24,7 +24,7 @@ parent_at-p-requires c =
 pub is_seen-requires : goal.is_seen-requires
 is_seen-requires c =
     let next : c.loop-i.i < count_at c.args.work.now c.args.e.0 =
-        omega (arith, c.loop-i-test.true, c.count_of-all.ensures.0) in
+    omega (arith, c.loop-i-test.true, c.count_of-all.ensures.0) in
     let t = c in
     let s = t in
     (s.requires.0.long, omega (arith, c.entry.ensures, c.parent_at-p.ensures, s.requires.0.links s.args.e.0 t.loop-i.i s.requires.1 next))
@@ -32,7 +32,7 @@ is_seen-requires c =
 pub returns-then-not-is_seen : goal.returns-then-not-is_seen
 returns-then-not-is_seen c =
     let seen : seen_at start.args.work.now (link_at start.args.work.now start.args.e.0 c.loop-i.i / 2) ≡ c.is_seen.result =
-        ap (seen_at start.args.work.now) (sym (c.entry.ensures ∙ ap (λ (z : ℕ). z / 2) c.parent_at-p.ensures))
+    ap (seen_at start.args.work.now) (sym (c.entry.ensures ∙ ap (λ (z : ℕ). z / 2) c.parent_at-p.ensures))
     ∙ sym c.is_seen.ensures in
     let s = c in
     let p = c in
@@ -44,10 +44,10 @@ returns-then-not-is_seen c =
 pub loop-i-preserved : goal.loop-i-preserved
 loop-i-preserved c =
     let seen : seen_at start.args.work.now (link_at start.args.work.now start.args.e.0 c.loop-i.i / 2) ≡ c.is_seen.result =
-        ap (seen_at start.args.work.now) (sym (c.entry.ensures ∙ ap (λ (z : ℕ). z / 2) c.parent_at-p.ensures))
+    ap (seen_at start.args.work.now) (sym (c.entry.ensures ∙ ap (λ (z : ℕ). z / 2) c.parent_at-p.ensures))
     ∙ sym c.is_seen.ensures in
     let next : c.loop-i.i < count_at c.args.work.now c.args.e.0 =
-        omega (arith, c.loop-i-test.true, c.count_of-all.ensures.0) in
+    omega (arith, c.loop-i-test.true, c.count_of-all.ensures.0) in
     let s = c in
     let k = c.loop-i in
     seeking_more s.args.work.now s.args.e.0 k.i k.invariant

@@ -10,7 +10,7 @@ pub overflow_sub-last : goal.overflow_sub-last
 overflow_sub-last c =
     let off : Off start.args.work.now c.add_stacked-last.new.work start.args.slot start.args.s.paths start.args.s.nodes start.args.e.0
     start.args.s.depth c.add_stacked-last.result =
-        let p = start.requires in
+    let p = start.requires in
     record {
       long = p.0.0.long;
       nodes = p.0.2;
@@ -25,7 +25,7 @@ pub drop_path-requires : goal.drop_path-requires
 drop_path-requires c =
     let off : Off start.args.work.now c.add_stacked-last.new.work start.args.slot start.args.s.paths start.args.s.nodes start.args.e.0
     start.args.s.depth c.add_stacked-last.result =
-        let p = start.requires in
+    let p = start.requires in
     record {
       long = p.0.0.long;
       nodes = p.0.2;
@@ -43,7 +43,7 @@ pub returns : goal.returns
 returns c =
     let off : Off start.args.work.now c.add_stacked-last.new.work start.args.slot start.args.s.paths start.args.s.nodes start.args.e.0
     start.args.s.depth c.add_stacked-last.result =
-        let p = start.requires in
+    let p = start.requires in
     record {
       long = p.0.0.long;
       nodes = p.0.2;

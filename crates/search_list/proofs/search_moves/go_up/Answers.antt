@@ -9,7 +9,7 @@ pub add_copies-requires : goal.add_copies-requires
 add_copies-requires c =
     let up : Up start.args.work.now c.put_at_entry.new.work start.args.slot start.args.s.paths start.args.s.nodes start.args.e.0
     start.args.k.place start.args.s.depth start.args.k.parent.0 start.args.k.all =
-        let p = start.requires in
+    let p = start.requires in
     record {
       links = p.0.0;
       tops = p.0.1;
@@ -30,7 +30,7 @@ pub add_stacked-requires : goal.add_stacked-requires
 add_stacked-requires c =
     let up : Up start.args.work.now c.put_at_entry.new.work start.args.slot start.args.s.paths start.args.s.nodes start.args.e.0
     start.args.k.place start.args.s.depth start.args.k.parent.0 start.args.k.all =
-        let p = start.requires in
+    let p = start.requires in
     record {
       links = p.0.0;
       tops = p.0.1;
@@ -57,7 +57,7 @@ pub returns : goal.returns
 returns c =
     let up : Up start.args.work.now c.put_at_entry.new.work start.args.slot start.args.s.paths start.args.s.nodes start.args.e.0
     start.args.k.place start.args.s.depth start.args.k.parent.0 start.args.k.all =
-        let p = start.requires in
+    let p = start.requires in
     record {
       links = p.0.0;
       tops = p.0.1;

@@ -18,11 +18,11 @@ size_of-requires c =
 pub returns-then-size_of-l : goal.returns-then-size_of-l
 returns-then-size_of-l c =
     let counted : c.size_of.result ≡ size (trail_of c.args.work.now c.args.slot) =
-        let s = c in
+    let s = c in
     let a = s.args in
     c.size_of.ensures ∙ sym (size_of a.work.now a.s.nodes a.slot s.requires.0.nodes (s.requires.0.paths a.slot s.requires.2)) in
     let here : Here c.args.work.now c.args.s.depth c.args.slot c.args.s.paths c.args.s.nodes =
-        record { ok = c.requires.0; slot = c.requires.2 } in
+    record { ok = c.requires.0; slot = c.requires.2 } in
     let s = c in
     turned_over here s.args.l s.requires.1 (omega (arith, counted, c.if-size_of-l.true))
 
@@ -34,7 +34,7 @@ step_stack-requires c =
 pub returns-then-extra_of-gt0 : goal.returns-then-extra_of-gt0
 returns-then-extra_of-gt0 c =
     let counted : c.size_of.result ≡ size (trail_of c.args.work.now c.args.slot) =
-        let s = c in
+    let s = c in
     let a = s.args in
     c.size_of.ensures ∙ sym (size_of a.work.now a.s.nodes a.slot s.requires.0.nodes (s.requires.0.paths a.slot s.requires.2)) in
     let x = c in
@@ -44,7 +44,7 @@ returns-then-extra_of-gt0 c =
 pub returns : goal.returns
 returns c =
     let counted : c.size_of.result ≡ size (trail_of c.args.work.now c.args.slot) =
-        let s = c in
+    let s = c in
     let a = s.args in
     c.size_of.ensures ∙ sym (size_of a.work.now a.s.nodes a.slot s.requires.0.nodes (s.requires.0.paths a.slot s.requires.2)) in
     let x = c in

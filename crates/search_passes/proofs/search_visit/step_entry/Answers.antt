@@ -12,7 +12,7 @@ pub is_seen-requires : goal.is_seen-requires
 is_seen-requires c =
     let there : At_entry start.args.work.now start.args.s.depth start.args.slot start.args.s.paths start.args.s.nodes
     c.entry_of.result.0 =
-        let p = start.requires in
+    let p = start.requires in
     record {
       here = record { ok = p.0; slot = p.1 };
       none = p.2;
@@ -33,7 +33,7 @@ pub returns-then-is_seen : goal.returns-then-is_seen
 returns-then-is_seen c =
     let there : At_entry start.args.work.now start.args.s.depth start.args.slot start.args.s.paths start.args.s.nodes
     c.entry_of.result.0 =
-        let p = start.requires in
+    let p = start.requires in
     record {
       here = record { ok = p.0; slot = p.1 };
       none = p.2;
@@ -41,13 +41,13 @@ returns-then-is_seen c =
     } in
     let g = c.drop_path in
     let x = c in
-    entry_seen there (sym c.if-is_seen.true ∙ x.is_seen.ensures) g.auto.0 g.ensures
+    entry_seen there (sym c.if-is_seen.true ∙ x.is_seen.ensures) g.auto.work g.ensures
 
 pub returns-then-s-eq-MOST_VISITS : goal.returns-then-s-eq-MOST_VISITS
 returns-then-s-eq-MOST_VISITS c =
     let there : At_entry start.args.work.now start.args.s.depth start.args.slot start.args.s.paths start.args.s.nodes
     c.entry_of.result.0 =
-        let p = start.requires in
+    let p = start.requires in
     record {
       here = record { ok = p.0; slot = p.1 };
       none = p.2;
@@ -60,7 +60,7 @@ pub visit-requires : goal.visit-requires
 visit-requires c =
     let there : At_entry start.args.work.now start.args.s.depth start.args.slot start.args.s.paths start.args.s.nodes
     c.entry_of.result.0 =
-        let p = start.requires in
+    let p = start.requires in
     record {
       here = record { ok = p.0; slot = p.1 };
       none = p.2;

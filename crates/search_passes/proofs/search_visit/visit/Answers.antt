@@ -16,10 +16,10 @@ add_node-requires c =
 pub first_unseen-k-requires : goal.first_unseen-k-requires
 first_unseen-k-requires c =
     let here : Here c.args.work.now c.args.s.depth c.args.slot c.args.s.paths c.args.s.nodes =
-        record { ok = c.requires.0; slot = c.requires.1 } in
+    record { ok = c.requires.0; slot = c.requires.1 } in
     let visiting : Visiting start.args.work.now c.add_node.new.work start.args.s.depth start.args.slot start.args.s.paths
     start.args.s.nodes c.entry_of-e.result.0 =
-        let p = start.requires in
+    let p = start.requires in
     let e = c.entry_of-e.ensures in
     record {
       from = record { here = here start; none = p.2; is = e };
@@ -33,10 +33,10 @@ first_unseen-k-requires c =
 pub go_up-paths-requires : goal.go_up-paths-requires
 go_up-paths-requires c =
     let here : Here c.args.work.now c.args.s.depth c.args.slot c.args.s.paths c.args.s.nodes =
-        record { ok = c.requires.0; slot = c.requires.1 } in
+    record { ok = c.requires.0; slot = c.requires.1 } in
     let visiting : Visiting start.args.work.now c.add_node.new.work start.args.s.depth start.args.slot start.args.s.paths
     start.args.s.nodes c.entry_of-e.result.0 =
-        let p = start.requires in
+    let p = start.requires in
     let e = c.entry_of-e.ensures in
     record {
       from = record { here = here start; none = p.2; is = e };
@@ -56,10 +56,10 @@ shape_of-work-then-k c =
 pub returns-then-k : goal.returns-then-k
 returns-then-k c =
     let here : Here c.args.work.now c.args.s.depth c.args.slot c.args.s.paths c.args.s.nodes =
-        record { ok = c.requires.0; slot = c.requires.1 } in
+    record { ok = c.requires.0; slot = c.requires.1 } in
     let visiting : Visiting start.args.work.now c.add_node.new.work start.args.s.depth start.args.slot start.args.s.paths
     start.args.s.nodes c.entry_of-e.result.0 =
-        let p = start.requires in
+    let p = start.requires in
     let e = c.entry_of-e.ensures in
     record {
       from = record { here = here start; none = p.2; is = e };
@@ -70,15 +70,15 @@ returns-then-k c =
     } in
     let g = c.go_up-paths in
     let f = c in
-    visit_up visiting f.first_unseen-k.ensures g.auto.0 c.if-k.true g.ensures
+    visit_up visiting f.first_unseen-k.ensures g.auto.work c.if-k.true g.ensures
 
 pub go_off-paths-requires : goal.go_off-paths-requires
 go_off-paths-requires c =
     let here : Here c.args.work.now c.args.s.depth c.args.slot c.args.s.paths c.args.s.nodes =
-        record { ok = c.requires.0; slot = c.requires.1 } in
+    record { ok = c.requires.0; slot = c.requires.1 } in
     let visiting : Visiting start.args.work.now c.add_node.new.work start.args.s.depth start.args.slot start.args.s.paths
     start.args.s.nodes c.entry_of-e.result.0 =
-        let p = start.requires in
+    let p = start.requires in
     let e = c.entry_of-e.ensures in
     record {
       from = record { here = here start; none = p.2; is = e };
@@ -97,10 +97,10 @@ shape_of-work c =
 pub returns : goal.returns
 returns c =
     let here : Here c.args.work.now c.args.s.depth c.args.slot c.args.s.paths c.args.s.nodes =
-        record { ok = c.requires.0; slot = c.requires.1 } in
+    record { ok = c.requires.0; slot = c.requires.1 } in
     let visiting : Visiting start.args.work.now c.add_node.new.work start.args.s.depth start.args.slot start.args.s.paths
     start.args.s.nodes c.entry_of-e.result.0 =
-        let p = start.requires in
+    let p = start.requires in
     let e = c.entry_of-e.ensures in
     record {
       from = record { here = here start; none = p.2; is = e };
@@ -111,4 +111,4 @@ returns c =
     } in
     let g = c.go_off-paths in
     let f = c in
-    visit_off visiting f.first_unseen-k.ensures g.auto.0 c.if-k.false g.ensures
+    visit_off visiting f.first_unseen-k.ensures g.auto.work c.if-k.false g.ensures

@@ -237,7 +237,7 @@ module _ {M : Type 1} {𝓤 : Ura M} (𝓛 : Logic 𝓤) (mem : Memory → SProp
     exits : (r : SessionAnswer) (w ws : List ℕ) (cs : List Checkpoint) (o : List ℕ) → length w ≡ n₁ → length ws ≡ n₂ → length cs ≡ n₃ → length o ≡ n₄
         → Is R.the_row r (mach-r r ∷ [])
         → Said r w ws cs o → Reads r w ws cs o → ent 𝓤 (⋆ 𝓛 (Ends w ws cs o)) (Post (mach-r r))
-    exits r w ws cs o lw lws lcs lo r-is e reads =
+    exits r w ws cs o lw lws lcs lo r_is e reads =
         qed 𝓛 (Ends w ws cs o) ∵
         suffices ! _ (via 𝓤 (sep 𝓤 (Leaves r w ws cs o) (sep 𝓤 (fact 𝓤 (Said r w ws cs o)) (fact 𝓤 (Reads r w ws cs o))))
         (assoc∗ 𝓤 (Leaves r w ws cs o) (fact 𝓤 (Said r w ws cs o)) (fact 𝓤 (Reads r w ws cs o)))
@@ -248,7 +248,7 @@ module _ {M : Type 1} {𝓤 : Ura M} (𝓛 : Logic 𝓤) (mem : Memory → SProp
         nothing ! $ move ! (5 ∷ []) $ join ! $ move ! (4 ∷ []) $ join ! $ move ! (3 ∷ []) $ join ! $ move ! (2 ∷ []) $ join ! $ move ! (1 ∷ []) $ join ! $
         nothing ! $ owned ! D.the_row (Is D.the_row) (EL.makes D.the_type D'.the_plain 𝓛) m _ m-is $ fjoin ! $ move ! (6 ∷ []) $ fjoin ! $ move ! (5 ∷ []) $
         fjoin ! $ move ! (4 ∷ []) $ fjoin ! $ move ! (3 ∷ []) $ fjoin ! $ move ! (2 ∷ []) $ fjoin ! $ move ! (1 ∷ []) $ frame ! $ frame ! $
-        owned ! R.the_row (Is R.the_row) (LL.makes R.the_type R'.the_plain 𝓛) r _ r-is $ done !
+        owned ! R.the_row (Is R.the_row) (LL.makes R.the_type R'.the_plain 𝓛) r _ r_is $ done !
 
     module _ (𝓣 : Tables 𝓤 H) (fm : FmC 𝓤 H 𝓛.laws 𝓣.C) (known-begin : Triple 𝓤 (𝓣.C #begin) Begin) (known-drive : Triple 𝓤 (𝓣.C #drive) Drive)
         (known-clear : Triple 𝓤 (𝓣.C #clear) Clear) (known-finish : Triple 𝓤 (𝓣.C #finish) Finish) where
@@ -307,8 +307,8 @@ module _ {M : Type 1} {𝓤 : Ura M} (𝓛 : Logic 𝓤) (mem : Memory → SProp
             closes : (r : SessionAnswer) (w₃ ws₃ : List ℕ) (cs₃ : List Checkpoint) (o₃ : List ℕ)
                 → length w₃ ≡ length w₂ → length ws₃ ≡ length ws₂ → length cs₃ ≡ length cs₂ → length o₃ ≡ length o₂
                 → Is R.the_row r (mach-r r ∷ []) → Emptied cs₃ → Finished r w₃ ws₃ o₃ → ent 𝓤 (⋆ 𝓛 (Ends w₃ ws₃ cs₃ o₃)) (Post (mach-r r))
-            closes r w₃ ws₃ cs₃ o₃ lw₃ lws₃ lcs₃ lo₃ r-is emptied finished =
-                exits r w₃ ws₃ cs₃ o₃ (lw₃ ∙ lw₂ ∙ lw₁) (lws₃ ∙ lws₂) (lcs₃ ∙ lcs₂) (lo₃ ∙ lo₂) r-is same
+            closes r w₃ ws₃ cs₃ o₃ lw₃ lws₃ lcs₃ lo₃ r_is emptied finished =
+                exits r w₃ ws₃ cs₃ o₃ (lw₃ ∙ lw₂ ∙ lw₁) (lws₃ ∙ lws₂) (lcs₃ ∙ lcs₂) (lo₃ ∙ lo₂) r_is same
                 (reads_back m input began.0 (slices x₁.now x₂.now x₃.now x₄.now) (result_of r w₃ ws₃ cs₃ o₃) same)
               where
                 same : Said r w₃ ws₃ cs₃ o₃
@@ -375,9 +375,9 @@ module _ {M : Type 1} {𝓤 : Ura M} (𝓛 : Logic 𝓤) (mem : Memory → SProp
                 -- Each last list, and its length.
                 fsplit ! $ fsplit ! $ move ! (1 ∷ []) $ feq_l ! (λ e₁. move ! (1 ∷ []) $ fsplit ! $ fsplit ! $ move ! (1 ∷ []) $ feq_l ! (λ e₂. move ! (1 ∷ []) $
                 fsplit ! $ fsplit ! $ move ! (1 ∷ []) $ feq_l ! (λ e₄. move ! (1 ∷ []) $ drop ! $ move ! (3 ∷ []) $ split ! $ move ! (1 ∷ []) $
-                facts ! R.the_row (Is R.the_row) (shows 𝓛 R.the_row) r (u ∷ []) (λ r-is.
-                land ! (from ! (stop !)) (init ! 70 refl ((LL.lawful R.the_type R'.the_laws 𝓛).typed r _ r-is).0) $
-                rewrite ! 70 (λ (z : Val). ‵ (fat full_share R'.mir l₀ 0 z)) (ap only (LL.tells R.the_type R'.the_laws r _ r-is)) refl $ split ! $
+                facts ! R.the_row (Is R.the_row) (shows 𝓛 R.the_row) r (u ∷ []) (λ r_is.
+                land ! (from ! (stop !)) (init ! 70 refl ((LL.lawful R.the_type R'.the_laws 𝓛).typed r _ r_is).0) $
+                rewrite ! 70 (λ (z : Val). ‵ (fat full_share R'.mir l₀ 0 z)) (ap only (LL.tells R.the_type R'.the_laws r _ r_is)) refl $ split ! $
                 move ! (1 ∷ []) $ split ! $ move ! (1 ∷ []) $ split ! $ move ! (1 ∷ []) $ drop ! $
                 returns ! (look ! 72 refl) $ forget ! 72 refl $ forget ! 70 refl $ forget ! 68 refl $ forget ! 66 refl $ forget ! 64 refl $ forget ! 62 refl $
                 forget ! 60 refl $ forget ! 52 refl $ forget ! 48 refl $ forget ! 20 refl $ forget ! 18 refl $ forget ! 16 refl $ forget ! 14 refl $
@@ -391,7 +391,7 @@ module _ {M : Type 1} {𝓤 : Ura M} (𝓛 : Logic 𝓤) (mem : Memory → SProp
                 move ! (18 ∷ 19 ∷ []) $ free1 ! $ move ! (16 ∷ 17 ∷ []) $ free1 ! $ move ! (14 ∷ 15 ∷ []) $ free1 ! $ move ! (12 ∷ 13 ∷ []) $ free1 ! $
                 move ! (10 ∷ 11 ∷ []) $ free1 ! $ free0 ! $ move ! (9 ∷ 2 ∷ 1 ∷ 7 ∷ 0 ∷ 8 ∷ 5 ∷ 4 ∷ 6 ∷ []) $
                 by ! (closes r zs.0 zs.1.0 cs₃ zs.1.1.0 e₁ e₂ lcs₃ e₄
-                (subst (Is R.the_row r) (LL.tells R.the_type R'.the_laws r _ r-is) r-is) emptied finished)))))))))
+                (subst (Is R.the_row r) (LL.tells R.the_type R'.the_laws r _ r_is) r_is) emptied finished)))))))))
 
             -- `clear_first`: the records, for good, and how many of them.
             abbrev given-clear : MutBor (List Checkpoint) × (ℕ × Unit {0})
@@ -429,8 +429,8 @@ module _ {M : Type 1} {𝓤 : Ura M} (𝓛 : Logic 𝓤) (mem : Memory → SProp
                 heard ! _ (λ emptied.
                 -- Each last list, and its length.
                 fsplit ! $ fsplit ! $ move ! (1 ∷ []) $ feq_l ! (λ e₃. move ! (1 ∷ []) $ drop ! $ move ! (1 ∷ []) $ split ! $ move ! (1 ∷ []) $
-                facts ! unit (Is unit) (shows 𝓛 unit) r (u ∷ []) (λ r-is.
-                land ! (from ! (stop !)) (init ! 26 refl ((Nothing-Lawful 𝓛).typed r _ r-is).0) $ split ! $ move ! (1 ∷ []) $ drop ! $ forget ! 50 refl $
+                facts ! unit (Is unit) (shows 𝓛 unit) r (u ∷ []) (λ r_is.
+                land ! (from ! (stop !)) (init ! 26 refl ((Nothing-Lawful 𝓛).typed r _ r_is).0) $ split ! $ move ! (1 ∷ []) $ drop ! $ forget ! 50 refl $
                 forget ! 26 refl $ forget ! 24 refl $ forget ! 22 refl $ move ! (1 ∷ []) $ last zs.0 e₃ emptied))))))
 
           -- `run_steps`: the four slices, lent again, the file, and where the run starts.

@@ -312,7 +312,7 @@ module _ {M : Type 1} {𝓤 : Ura M} (𝓛 : Logic 𝓤) (mem : Memory → SProp
 
           parts : (r : StepAnswer) (w : Val) → Is R.the_row r (w ∷ [])
               → Is S.the_row r.state (mach r.state ∷ []) × (Is T.the_row r.saved (mach-c r.saved ∷ []) × Unit {0})
-          parts r w r-is = LL.owed R.the_type R'.the_laws r _ r-is
+          parts r w r_is = LL.owed R.the_type R'.the_laws r _ r_is
 
           -- `slot_of`: the file and the progress.
           abbrev given-slot-of : Bor (List ℕ) × (Progress × Unit {0})
@@ -431,9 +431,9 @@ module _ {M : Type 1} {𝓤 : Ura M} (𝓛 : Logic 𝓤) (mem : Memory → SProp
               -- Each last list, and its length.
               fsplit ! $ fsplit ! $ move ! (1 ∷ []) $ feq_l ! (λ e₁. move ! (1 ∷ []) $ fsplit ! $ fsplit ! $ move ! (1 ∷ []) $ feq_l ! (λ e₂. move ! (1 ∷ []) $
               fsplit ! $ fsplit ! $ move ! (1 ∷ []) $ feq_l ! (λ e₃. move ! (1 ∷ []) $ drop ! $ move ! (3 ∷ []) $ split ! $ move ! (1 ∷ []) $
-              facts ! R.the_row (Is R.the_row) (shows 𝓛 R.the_row) r (w ∷ []) (λ r-is.
-              land ! (from ! (stop !)) (init ! 34 refl ((LL.lawful R.the_type R'.the_laws 𝓛).typed r _ r-is).0) $
-              rewrite ! 34 (λ (z : Val). ‵ (fat full_share R'.mir l₁₀ 0 z)) (ap only (LL.tells R.the_type R'.the_laws r _ r-is)) refl $ split ! $ move ! (1 ∷ []) $
+              facts ! R.the_row (Is R.the_row) (shows 𝓛 R.the_row) r (w ∷ []) (λ r_is.
+              land ! (from ! (stop !)) (init ! 34 refl ((LL.lawful R.the_type R'.the_laws 𝓛).typed r _ r_is).0) $
+              rewrite ! 34 (λ (z : Val). ‵ (fat full_share R'.mir l₁₀ 0 z)) (ap only (LL.tells R.the_type R'.the_laws r _ r_is)) refl $ split ! $ move ! (1 ∷ []) $
               split ! $ move ! (1 ∷ []) $ split ! $ move ! (1 ∷ []) $ split ! $ move ! (1 ∷ []) $ drop ! $
               -- Each lifetime is ended, and its slice comes back.
               move ! (3 ∷ 10 ∷ 6 ∷ []) $ comes ! tt u32 1 κ₁ q₁ x₁ n₁ m.work f.work-len ν₁ δ₁ zs.0 room₁ e₁ $ move ! (4 ∷ 9 ∷ 6 ∷ []) $
@@ -447,11 +447,11 @@ module _ {M : Type 1} {𝓤 : Ura M} (𝓛 : Logic 𝓤) (mem : Memory → SProp
               rewrite ! 12 (λ (p : ℕ). ‵ (fat full_share ty_ptr l₂₁ 0 (vptr b p))) (sym (place_is 24 o k)) refl $ move ! (8 ∷ []) $
               elem_out ! T.the_row (Is T.the_row) (shows 𝓛 T.the_row) the_vals the_tells full_share m.rows k blank b o (in_row k go ek) (λ _.
               assigns ! (of_opd ! (load ! (from ! (fld ! refl (stop !))) (look_in ! 36 (sub ! 1 refl (whole !))))) (from ! (hop ! (look ! 14 refl) (stop !)))
-              (store_raw ! 0 refl (the_typed 𝓛 r.saved (parts r w r-is).1.0)) $
-              move ! (1 ∷ []) $ drop ! $ owned ! T.the_row (Is T.the_row) (LL.makes T.the_type T'.the_plain 𝓛) r.saved _ (parts r w r-is).1.0 $
+              (store_raw ! 0 refl (the_typed 𝓛 r.saved (parts r w r_is).1.0)) $
+              move ! (1 ∷ []) $ drop ! $ owned ! T.the_row (Is T.the_row) (LL.makes T.the_type T'.the_plain 𝓛) r.saved _ (parts r w r_is).1.0 $
               move ! (1 ∷ []) $ elem_put ! T.the_row full_share m.rows k r.saved (mach-c r.saved ∷ []) b o (in_row k go ek) $
               assigns_last ! (of_opd ! (load ! (from ! (fld ! refl (stop !))) (look_in ! 34 (sub ! 0 refl (whole !))))) (from ! (stop !))
-              (store ! 40 refl ((LL.lawful S.the_type S'.the_laws 𝓛).typed r.state _ (parts r w r-is).0).0) $
+              (store ! 40 refl ((LL.lawful S.the_type S'.the_laws 𝓛).typed r.state _ (parts r w r_is).0).0) $
               -- The context of a turn again.
               forget ! 38 refl $ forget ! 36 refl $ forget ! 34 refl $ forget ! 32 refl $ forget ! 30 refl $ forget ! 28 refl $ forget ! 26 refl $
               forget ! 24 refl $ forget ! 22 refl $ forget ! 20 refl $ forget ! 18 refl $ forget ! 16 refl $ forget ! 14 refl $ forget ! 12 refl $
@@ -459,7 +459,7 @@ module _ {M : Type 1} {𝓤 : Ura M} (𝓛 : Logic 𝓤) (mem : Memory → SProp
               again ! Nearer At i (
                 after_step m k r zs.0 zs.1.0 zs.1.1.0,
                 next i go k r zs.0 zs.1.0 zs.1.1.0 ek e e₁ e₂ e₃
-                    (parts r w r-is).0,
+                    (parts r w r_is).0,
               )
               (falls file start m f.stands (goes m.progress.done go) k ek r zs.0 zs.1.0 zs.1.1.0 e))))))))))))))))))))
               (λ over. jumps ! $ exec ! 𝓣.C 𝓣.Λ En body.t-3 (at_ret En Post) $

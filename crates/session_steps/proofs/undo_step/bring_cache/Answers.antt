@@ -19,12 +19,12 @@ returns-then-forgets c =
     let br = c.bring in
     let test = c in
     let a = test.args in
-    subst (λ (b : Bool). CacheBack b a.work.now (set br.new.0 SENTINEL_ENTRY a.c.sentinel) a.number a.c) (sym test.if-forgets.true)
-    (λ v q. record { brought_words = br.new.0; brought_long = br.auto.0; brought = br.ensures v q; is = refl })
+    subst (λ (b : Bool). CacheBack b a.work.now (set br.new.work SENTINEL_ENTRY a.c.sentinel) a.number a.c) (sym test.if-forgets.true)
+    (λ v q. record { brought_words = br.new.work; brought_long = br.auto.work; brought = br.ensures v q; is = refl })
 
 pub returns-else-forgets : goal.returns-else-forgets
 returns-else-forgets c =
     let br = c.bring_entry in
     let test = c in
     let a = test.args in
-    subst (λ (b : Bool). CacheBack b a.work.now br.new.0 a.number a.c) (sym test.if-forgets.false) br.ensures
+    subst (λ (b : Bool). CacheBack b a.work.now br.new.work a.number a.c) (sym test.if-forgets.false) br.ensures

@@ -14,4 +14,4 @@ pub returns : goal.returns
 returns c =
     let re = c.restore in
     let br = c.bring_cache in
-    record { cache_words = br.new.0; cache_long = br.auto.0; cache = br.ensures; restored = re.ensures }
+    record { cache_words = br.new.work; cache_long = br.auto.work; cache = br.ensures; restored = re.ensures }

@@ -12,4 +12,4 @@ path_bytes-requires c =
 pub returns : goal.returns
 returns c = let s = c in
     let p = c.path_bytes in
-    references.put_path s.args.work.now s.args.slot s.args.output.now s.args.start s.args.count s.requires.2 s.requires.3 p.new.1.1.0 p.ensures
+    references.put_path s.args.work.now s.args.slot s.args.output.now s.args.start s.args.count s.requires.2 s.requires.3 p.new.out p.ensures

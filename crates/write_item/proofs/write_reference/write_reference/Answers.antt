@@ -57,5 +57,5 @@ returns c =
     λ path e.
     put_counted a.output.now _ a.counts (reference_item path) _ _
     (reference_next a.output.now a.counts.size b.result w.path_width-width.result (path_at a.work.now a.slot) path e b.ensures.0
-    w.path_width-width.ensures.1 r.new.1.1.0 (has_room _ _ _ t.fits2.ensures t.if-not-fits.false) r.ensures)
+    w.path_width-width.ensures.1 r.new.output (has_room _ _ _ t.fits2.ensures t.if-not-fits.false) r.ensures)
     (ap width_or_0 (w.path_width-width.ensures.1 path (b.ensures.0 ∙ ap length e))) _ c.with_reference.ensures

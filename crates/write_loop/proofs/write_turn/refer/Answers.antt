@@ -9,4 +9,4 @@ returns c =
     let pushed = c.push_value in
     let put = c in
     let p = put.requires in
-    refer_turns pushed.auto.0 put.write_reference-item.result pushed.ensures p put.write_reference-item.ensures
+    refer_turns pushed.auto.work put.write_reference-item.result pushed.ensures p put.write_reference-item.ensures

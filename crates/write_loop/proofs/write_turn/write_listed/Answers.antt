@@ -26,5 +26,5 @@ returns c =
     let b = e.start_of-start in
     let a = e.args in
     let put = c.write_listed in
-    subst (λ (l : List ℕ). ItemPut a.output.now put.new.0 a.counts (atom_item l) put.result)
+    subst (λ (l : List ℕ). ItemPut a.output.now put.new.output a.counts (atom_item l) put.result)
     (part_is a.file.now a.work.now a.i b.result e.end_of-end.result b.ensures e.end_of-end.ensures) put.ensures

@@ -9,7 +9,7 @@ pub pair_entry-e-requires : goal.pair_entry-e-requires
 pair_entry-e-requires c =
     let p = c.pop2 in
     let wh = c.requires.0 in
-    (popped_whole p.auto.0 p.ensures wh, omega (arith, popped_pairs p.auto.0 p.ensures wh))
+    (popped_whole p.auto.work p.ensures wh, omega (arith, popped_pairs p.auto.work p.ensures wh))
 
 pub length_at-len-requires : goal.length_at-len-requires
-length_at-len-requires c = let p = c.pop2 in popped_whole p.auto.0 p.ensures c.requires.0
+length_at-len-requires c = let p = c.pop2 in popped_whole p.auto.work p.ensures c.requires.0

@@ -16,7 +16,7 @@ returns-then-opens-ge-MAX_OPEN c = let s = c in deep_turns s.args.node s.require
 pub left_of-left-requires : goal.left_of-left-requires
 left_of-left-requires c =
     let few : index_of (node_of c.args.node.0) < 1024 =
-        number_few c.args.node c.requires.0 c.requires.1 in
+    number_few c.args.node c.requires.0 c.requires.1 in
     let written = c in
     let s = written in
     (s.requires.0.running.stands.whole.sound.long, omega (arith, c.wide.ensures, c.index.ensures, few))
@@ -24,14 +24,14 @@ left_of-left-requires c =
 pub overflow_mul-work : goal.overflow_mul-work
 overflow_mul-work c =
     let few : index_of (node_of c.args.node.0) < 1024 =
-        number_few c.args.node c.requires.0 c.requires.1 in
+    number_few c.args.node c.requires.0 c.requires.1 in
     let written = c in
     omega (arith, c.index-in-Next.ensures, few)
 
 pub overflow_add-work : goal.overflow_add-work
 overflow_add-work c =
     let few : index_of (node_of c.args.node.0) < 1024 =
-        number_few c.args.node c.requires.0 c.requires.1 in
+    number_few c.args.node c.requires.0 c.requires.1 in
     let written = c in
     omega (arith, c.index-in-Next.ensures, few)
 
