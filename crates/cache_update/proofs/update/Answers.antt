@@ -8,7 +8,7 @@ pub enter-e-requires : goal.enter-e-requires
 enter-e-requires c =
     let taken = c in
     let s = taken in
-    let k = enter_asks s.args.root.0 s.requires.0.0 s.requires.0.1 s.requires.1 taken.take_sentinel-n.ensures in
+    let k = enter_asks s.args.root.0 s.requires.whole.0 s.requires.whole.1 s.requires.work_bound taken.take_sentinel-n.ensures in
     (taken.take_sentinel-n.ensures.whole, k.0, k.1)
 
 pub place_parents-requires : goal.place_parents-requires
@@ -18,7 +18,7 @@ place_parents-requires c =
     let s = taken in
     let t = taken.take_sentinel-n.ensures in
     let e = entered.enter-e.ensures in
-    (e.whole.sound, e.low, t.few, place_asks s.args.root.0 s.requires.0.0 s.requires.0.1 s.requires.1 t e)
+    (e.whole.sound, e.low, t.few, place_asks s.args.root.0 s.requires.whole.0 s.requires.whole.1 s.requires.work_bound t e)
 
 pub returns : goal.returns
 returns c =
@@ -26,4 +26,4 @@ returns c =
     let taken = entered in
     let s = taken in
     let e = entered.enter-e in
-    updated s.args.root.0 s.requires.0.0 s.requires.0.1 s.requires.1 taken.take_sentinel-n.ensures e.ensures e.auto.work c.place_parents.ensures
+    updated s.args.root.0 s.requires.whole.0 s.requires.whole.1 s.requires.work_bound taken.take_sentinel-n.ensures e.ensures e.auto.work c.place_parents.ensures

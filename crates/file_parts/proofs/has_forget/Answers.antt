@@ -15,10 +15,10 @@ told : (x : goal.After-next_step) (y : NextStep) → x.next_step.result ≡ y �
 told x y e =
     let l = x in
     let a = l.args in
-    subst (ForgetsAfter a.file.now a.at) e (forgets_after a.file.now a.at l.loop-next.place l.loop-next.invariant x.next_step.result x.next_step.ensures.0)
+    subst (ForgetsAfter a.file.now a.at) e (forgets_after a.file.now a.at l.loop-next.place l.loop-next.invariant x.next_step.result x.next_step.ensures.first_step)
 
 beyond : (x : goal.After-next_step) (y : NextStep) → x.next_step.result ≡ y → Beyond x.args.file.now x.loop-next.place y
-beyond x y e = subst (Beyond x.args.file.now x.loop-next.place) e x.next_step.ensures.1
+beyond x y e = subst (Beyond x.args.file.now x.loop-next.place) e x.next_step.ensures.beyond
 
 pub loop-next-init : goal.loop-next-init
 loop-next-init c ss h = (ss, h, refl)

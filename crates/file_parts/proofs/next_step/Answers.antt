@@ -16,15 +16,12 @@ pub returns-then-file-at : goal.returns-then-file-at
 returns-then-file-at c =
     let a = c.args in
     let code = number (part a.file.now a.at 1) in
-    (step_short a.file.now a.at code refl 1 (size_low (coded a.file.now a.at code)) (omega arith), tt)
+    record { first_step = step_short a.file.now a.at code refl 1 (size_low (coded a.file.now a.at code)) (omega arith); beyond = tt }
 
 pub returns-then-code-eq5 : goal.returns-then-code-eq5
 returns-then-code-eq5 c =
     let a = c.args in
-    let code = c.number_at-code in (
-      step_first a.file.now a.at code.result code.ensures _ (ap (coded a.file.now a.at) (sym c.if-code-eq5.true)) (omega arith),
-      (omega arith, omega arith),
-    )
+    let code = c.number_at-code in record { first_step = step_first a.file.now a.at code.result code.ensures _ (ap (coded a.file.now a.at) (sym c.if-code-eq5.true)) (omega arith); beyond = (omega arith, omega arith) }
 
 pub returns-then-left-lt5 : goal.returns-then-left-lt5
 returns-then-left-lt5 c =
@@ -32,16 +29,13 @@ returns-then-left-lt5 c =
     ⊎_elim (λ w. inl w.taken) (λ w. inr (eqb-true c.number_at-code.result 4 w.1.taken)) c.if-code-eq1.branch in
     let a = c.args in
     let code = c.number_at-code in
-    (step_short a.file.now a.at code.result code.ensures 5 (handle_size a.file.now a.at code.result of-handle) (omega arith), tt)
+    record { first_step = step_short a.file.now a.at code.result code.ensures 5 (handle_size a.file.now a.at code.result of-handle) (omega arith); beyond = tt }
 
 pub returns-then-code-eq4-2 : goal.returns-then-code-eq4-2
 returns-then-code-eq4-2 c =
     let a = c.args in
     let code = c.number_at-code in
-    let operand = c.number_at in (
-      step_first a.file.now a.at code.result code.ensures _ (ap quote operand.ensures ∙ ap (coded a.file.now a.at) (sym c.if-code-eq4-2.true)) (omega arith),
-      (omega arith, omega arith),
-    )
+    let operand = c.number_at in record { first_step = step_first a.file.now a.at code.result code.ensures _ (ap quote operand.ensures ∙ ap (coded a.file.now a.at) (sym c.if-code-eq4-2.true)) (omega arith); beyond = (omega arith, omega arith) }
 
 pub returns-then-code-eq1 : goal.returns-then-code-eq1
 returns-then-code-eq1 c =
@@ -50,10 +44,7 @@ returns-then-code-eq1 c =
     let a = c.args in
     let code = c.number_at-code in
     let operand = c.number_at in
-    let one : code.result ≡ 1 = ⊎_elim (λ e. e) (λ e. absurd (c.if-code-eq4-2.false e)) of-handle in (
-      step_first a.file.now a.at code.result code.ensures _ (ap add operand.ensures ∙ ap (coded a.file.now a.at) (sym one)) (omega arith),
-      (omega arith, omega arith),
-    )
+    let one : code.result ≡ 1 = ⊎_elim (λ e. e) (λ e. absurd (c.if-code-eq4-2.false e)) of-handle in record { first_step = step_first a.file.now a.at code.result code.ensures _ (ap add operand.ensures ∙ ap (coded a.file.now a.at) (sym one)) (omega arith); beyond = (omega arith, omega arith) }
 
 pub returns-then-left-lt3 : goal.returns-then-left-lt3
 returns-then-left-lt3 c =
@@ -61,17 +52,14 @@ returns-then-left-lt3 c =
     let a = b.args in
     let code = b.number_at-code in
     let size = number_size a.file.now a.at code.result b.if-code-eq5.false b.if-code-eq1.false (eqb-false code.result 4 b.if-code-eq4.false) in
-    (step_short a.file.now a.at code.result code.ensures 3 size (omega arith), tt)
+    record { first_step = step_short a.file.now a.at code.result code.ensures 3 size (omega arith); beyond = tt }
 
 pub returns-then-code-eq3 : goal.returns-then-code-eq3
 returns-then-code-eq3 c =
     let b = c in
     let a = b.args in
     let code = b.number_at-code in
-    let operand = c.number_at-number in (
-      step_first a.file.now a.at code.result code.ensures _ (ap forget operand.ensures ∙ ap (coded a.file.now a.at) (sym c.if-code-eq3.true)) (omega arith),
-      (omega arith, omega arith),
-    )
+    let operand = c.number_at-number in record { first_step = step_first a.file.now a.at code.result code.ensures _ (ap forget operand.ensures ∙ ap (coded a.file.now a.at) (sym c.if-code-eq3.true)) (omega arith); beyond = (omega arith, omega arith) }
 
 pub returns : goal.returns
 returns c =
@@ -79,7 +67,4 @@ returns c =
     let a = b.args in
     let code = b.number_at-code in
     let operand = c.number_at-number in
-    let same = restore_coded a.file.now a.at code.result b.if-code-eq5.false b.if-code-eq1.false (eqb-false code.result 4 b.if-code-eq4.false) c.if-code-eq3.false in (
-      step_first a.file.now a.at code.result code.ensures _ (ap restore operand.ensures ∙ sym same) (omega arith),
-      (omega arith, omega arith),
-    )
+    let same = restore_coded a.file.now a.at code.result b.if-code-eq5.false b.if-code-eq1.false (eqb-false code.result 4 b.if-code-eq4.false) c.if-code-eq3.false in record { first_step = step_first a.file.now a.at code.result code.ensures _ (ap restore operand.ensures ∙ sym same) (omega arith); beyond = (omega arith, omega arith) }

@@ -15,7 +15,8 @@ returns-then-not-long_enough c =
     all_of (λ (n : ℕ). n < 256) input-known.before.args.input.now 0 (λ i l. omega (arith, input-known.shared-slice-known.given i)) in
     let tested = c in
     let t = tested.long_enough in
-    promised _ bytes _ _ (too_short _ _ _ _ _ t.result t.ensures (not-true _ c.if-not-long_enough.true) _ c.refusal.ensures)
+    let the_facts = promised _ bytes _ _ (too_short _ _ _ _ _ t.result t.ensures (not-true _ c.if-not-long_enough.true) _ c.refusal.ensures) in
+    record { bytes_after = the_facts.0; reads_plainly = the_facts.1 }
 
 pub returns-then-input-gt65535 : goal.returns-then-input-gt65535
 returns-then-input-gt65535 c =
@@ -23,8 +24,9 @@ returns-then-input-gt65535 c =
     all_of (λ (n : ℕ). n < 256) input-known.before.args.input.now 0 (λ i l. omega (arith, input-known.shared-slice-known.given i)) in
     let tested = c in
     let t = tested.long_enough in
-    promised _ bytes _ _
-    (too_long _ _ _ _ _ t.result t.ensures (not-false _ c.if-not-long_enough.false) (omega (arith, c.if-input-gt65535)) _ c.refusal-then-input-gt65535.ensures)
+    let the_facts = promised _ bytes _ _
+    (too_long _ _ _ _ _ t.result t.ensures (not-false _ c.if-not-long_enough.false) (omega (arith, c.if-input-gt65535)) _ c.refusal-then-input-gt65535.ensures) in
+    record { bytes_after = the_facts.0; reads_plainly = the_facts.1 }
 
 pub read_in-requires : goal.read_in-requires
 read_in-requires c =
@@ -40,5 +42,6 @@ returns c =
     let short = read in
     let tested = short in
     let t = tested.long_enough in
-    promised _ bytes _ _
-    (within _ _ _ _ _ t.result t.ensures (not-false _ short.if-not-long_enough.false) (omega (arith, short.if-input-gt65535)) _ read.read_in.ensures)
+    let the_facts = promised _ bytes _ _
+    (within _ _ _ _ _ t.result t.ensures (not-false _ short.if-not-long_enough.false) (omega (arith, short.if-input-gt65535)) _ read.read_in.ensures) in
+    record { bytes_after = the_facts.0; reads_plainly = the_facts.1 }

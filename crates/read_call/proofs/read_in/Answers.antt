@@ -2,14 +2,14 @@
 -- Assumes nothing.
 use mathlib.Core.Path.{◌∙◌}
 use borrow.Author.Rules.{rules}
-use Rattle.read_call.proofs.Answers.{lent_start, counted, ended_after}
+use Rattle.read_call.proofs.Answers.{lent-start, counted, ended-after}
 use Rattle.read_call.proofs.read_in.Goals as goal
 
 pub read_all-outcome-requires : goal.read_all-outcome-requires
 read_all-outcome-requires c =
     let s = c.before.before.before.before.before.before.before.before.before in
     let z = c.clear-store.ensures in
-    lent_start _ _ s.args.pairs.now s.args.atoms.now s.args.bytes.now _ _ _ s.pre.0 s.pre.1 z.0 z.1 z.2
+    lent-start _ _ s.args.pairs.now s.args.atoms.now s.args.bytes.now _ _ _ s.pre.0 s.pre.1 z.0 z.1 z.2
 
 pub ended-requires : goal.ended-requires
 ended-requires c =
@@ -23,5 +23,5 @@ returns c =
     let all_read = read in
     let x = all_read.read_all-outcome in
     let z = c.clear-store.auto in
-    ended_after _ _ _ _ _ _ _ _ _ _ x.ensures x.auto.work (x.auto.pairs ∙ z.0) (x.auto.atoms ∙ z.1.0) (x.auto.bytes ∙ z.1.1.0)
+    ended-after _ _ _ _ _ _ _ _ _ _ x.ensures x.auto.work (x.auto.pairs ∙ z.0) (x.auto.atoms ∙ z.1.0) (x.auto.bytes ∙ z.1.1.0)
     _ answered.ended.ensures

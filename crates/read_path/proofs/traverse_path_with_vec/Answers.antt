@@ -19,7 +19,7 @@ pub returns-in_default : goal.returns-in_default
 returns-in_default c =
     let p = c.requires.1 in
     let none-set = counted_none _ (sym c.in_default.is ∙ c.path_bits.ensures) in
-    (leads_nil _ _ _ _ _ _ _ (lists_of p) _ c.walked.ensures none-set, total_reached nil_reached _ _ _ _ c.walked.ensures)
+    record { leads_to = leads_nil _ _ _ _ _ _ _ (lists_of p) _ c.walked.ensures none-set; same_total = total_reached nil_reached _ _ _ _ c.walked.ensures }
 
 pub stack_steps-steps-requires : goal.stack_steps-steps-requires
 stack_steps-steps-requires c =
@@ -56,11 +56,11 @@ returns-then-steps-values c =
     let lists : HaveLists start.args.work.now start.args.counts.listed start.args.counts.values =
     lists_of start.requires.1 in
     let steps = c in
-    let q = bits in (
-      leads_below _ _ _ _ _ _ _ lists _ q _ steps_are c.walk_bits-w.result _ c.walked-then-steps-values.ensures c.if-steps-values.true
-          (c.walk_bits-w.ensures q.bits q.is q.long),
-      total_reached c.walk_bits-w.result _ _ _ _ c.walked-then-steps-values.ensures,
-    )
+    let q = bits in record {
+      leads_to = leads_below _ _ _ _ _ _ _ lists _ q _ steps_are c.walk_bits-w.result _ c.walked-then-steps-values.ensures c.if-steps-values.true
+          (c.walk_bits-w.ensures q.bits q.is q.long);
+      same_total = total_reached c.walk_bits-w.result _ _ _ _ c.walked-then-steps-values.ensures;
+    }
 
 pub overflow_sub-values : goal.overflow_sub-values
 overflow_sub-values c =
@@ -102,11 +102,11 @@ returns-then-steps-count c =
     steps_within _ _ a.pairs.now _ _ a.counts.pairs a.counts.ghosts lists _ bits _ steps_are in
     let built = c in
     let steps = built in
-    let r = built.build_list.ensures in (
-      leads_list _ _ _ _ _ _ _ lists _ bits _ steps_are _ _ _
-          (omega (arith, steps-short.1, built.if-steps-values.false)) built.if-steps-count.true r,
-      (r.more, r.total),
-    )
+    let r = built.build_list.ensures in record {
+      leads_to = leads_list _ _ _ _ _ _ _ lists _ bits _ steps_are _ _ _
+          (omega (arith, steps-short.1, built.if-steps-values.false)) built.if-steps-count.true r;
+      same_total = (r.more, r.total);
+    }
 
 pub overflow_sub-value : goal.overflow_sub-value
 overflow_sub-value c =
@@ -181,9 +181,9 @@ returns c =
     steps_within _ _ a.pairs.now _ _ a.counts.pairs a.counts.ghosts lists _ bits _ steps_are in
     let steps = c in
     let q = bits in
-    let short = steps-short in (
-      leads_value _ _ _ _ _ _ _ lists _ q _ steps_are c.walk_bits-w-2.result _ c.walked-2.ensures
+    let short = steps-short in record {
+      leads_to = leads_value _ _ _ _ _ _ _ lists _ q _ steps_are c.walk_bits-w-2.result _ c.walked-2.ensures
           (omega (arith, short.1, c.if-steps-values.false)) (omega (arith, short.0, c.if-steps-count.false))
-          (c.walk_bits-w-2.ensures q.bits q.is q.long),
-      total_reached c.walk_bits-w-2.result _ _ _ _ c.walked-2.ensures,
-    )
+          (c.walk_bits-w-2.ensures q.bits q.is q.long);
+      same_total = total_reached c.walk_bits-w-2.result _ _ _ _ c.walked-2.ensures;
+    }

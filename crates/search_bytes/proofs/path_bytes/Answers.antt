@@ -24,7 +24,7 @@ push_node-node-requires c =
     let x = c in
     let s = start x in
     let r = s.pre.1 in
-    ((s.pre.0, rw (node x) r.chain, rw (node x) r.len), node_fits r (node x) (extra x) s.pre.2)
+    record { in_bounds = (s.pre.0, rw (node x) r.chain, rw (node x) r.len); fits = node_fits r (node x) (extra x) s.pre.2 }
 
 pub push_stack-whole-requires : goal.push_stack-whole-requires
 push_stack-whole-requires c =

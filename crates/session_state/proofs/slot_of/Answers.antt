@@ -18,7 +18,7 @@ told : (x : goal.After-next_step) (k : ℕ) (q : NextStep) → x.next_step.resul
     k ≡ slot_of_next q a.p.adds → (ss : List Step) → StepsAt a.file.now a.p.at ss → k ≡ slot_for a.p.quoted ss a.p.adds
 told x k q e m =
     let a = (to_start x).args in
-    slot_told a.file.now a.p.at a.p.adds k x.next_step.result q (StepsAt a.file.now a.p.at) x.next_step.ensures.0 e m
+    slot_told a.file.now a.p.at a.p.adds k x.next_step.result q (StepsAt a.file.now a.p.at) x.next_step.ensures.first_step e m
     a.p.quoted x.if-p.false
 
 pub returns-then-p : goal.returns-then-p

@@ -9,7 +9,8 @@ pub update-requires : goal.update-requires
 update-requires c =
     let saved = c in
     let sv = saved.save_state in
-    update_asks saved.requires sv.auto.work sv.ensures
+    let the_facts = update_asks saved.requires sv.auto.work sv.ensures in
+    record { whole = the_facts.0; work_bound = the_facts.1 }
 
 pub resume-o-requires : goal.resume-o-requires
 resume-o-requires c =

@@ -5,12 +5,12 @@ use borrow.Author.Rules.{rules}
 use Rattle.file_parts.specs.Loaded.{FirstStep}
 use Rattle.file_parts.specs.declared.session_file.NextStep.{NextStep}
 use Rattle.session_state.specs.Steps.{Comes}
-use Rattle.session_steps.proofs.Answers.{stops_at_end, stops_17}
+use Rattle.session_steps.proofs.Answers.{stops-at-end, stops-17}
 use Rattle.session_steps.proofs.core_step.Goals as goal
 
 -- The next step is what the file says.
 comes : (x : goal.After-next_step) (r : NextStep) → x.next_step.result ≡ r → let a = (to_start x).args in Comes a.file.now a.p.at r
-comes x r e ss st = subst (λ (y : NextStep). FirstStep (to_start x).args.file.now ss y) e (x.next_step.ensures.0 ss st)
+comes x r e ss st = subst (λ (y : NextStep). FirstStep (to_start x).args.file.now ss y) e (x.next_step.ensures.first_step ss st)
 
 pub quoted_step-requires : goal.quoted_step-requires
 quoted_step-requires c =
@@ -40,9 +40,9 @@ add_step-requires-in-Quote c =
 pub returns-in-Take : goal.returns-in-Take
 returns-in-Take c =
     let read = c in
-    stops_17 c.requires read.if-p.false c.stop.ensures (comes read _ c.in-Take.is)
+    stops-17 c.requires read.if-p.false c.stop.ensures (comes read _ c.in-Take.is)
 
 pub returns-in-End : goal.returns-in-End
 returns-in-End c =
     let read = c in
-    stops_at_end c.requires read.if-p.false c.stop-in-End.ensures (comes read _ c.in-End.is)
+    stops-at-end c.requires read.if-p.false c.stop-in-End.ensures (comes read _ c.in-End.is)

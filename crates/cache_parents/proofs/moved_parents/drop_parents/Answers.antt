@@ -15,7 +15,7 @@ pub parent_at-p-requires : goal.parent_at-p-requires
 parent_at-p-requires c =
     let l = c in
     let s = l in
-    let b = s.requires.0 in
+    let b = s.requires.in_bounds in
     (omega (arith, b.0, l.loop-i.invariant.1.len), b.1, omega (arith, b.2))
 
 pub set_parent-requires : goal.set_parent-requires
@@ -23,11 +23,11 @@ set_parent-requires c =
     let p = c in
     let l = p in
     let s = l in
-    let b = s.requires.0 in
+    let b = s.requires.in_bounds in
     let v = l.loop-i.invariant.1 in
     let n : l.loop-i.i < s.args.n = omega arith in
     let q = v.others s.args.e.0 (s.args.dropped + l.loop-i.i) b.1 (λ x y z. omega arith) in
-    (omega (arith, b.0, v.len), b.1, omega (arith, b.2), omega (arith, p.parent_at-p.ensures, q, s.requires.1 l.loop-i.i n))
+    (omega (arith, b.0, v.len), b.1, omega (arith, b.2), omega (arith, p.parent_at-p.ensures, q, s.requires.by_index l.loop-i.i n))
 
 pub loop-i-preserved : goal.loop-i-preserved
 loop-i-preserved c =
@@ -37,7 +37,7 @@ loop-i-preserved c =
     let s = l in
     let e = s.args.e.0 in
     let v = l.loop-i.invariant.1 in
-    let h = s.requires.0.1 in (
+    let h = s.requires.in_bounds.1 in (
       omega arith,
       filled_more s.args.work.now l.loop-i.work _ e 0 l.loop-i.i l.loop-i.i p.parent_at-p.result.0 (λ j. link_at s.args.work.now e (s.args.dropped + j)) h
           (omega arith) (p.parent_at-p.ensures ∙ v.others e (s.args.dropped + l.loop-i.i) h (λ x y z. omega arith)) v m.set_parent.ensures,

@@ -20,7 +20,7 @@ drop_parents-requires c =
     let a = count_asks s.requires.0 s.requires.1 in
     let o = d.over-dropped.ensures in
     let k = n.count_of-n.ensures in
-    ((a.0, a.1, omega arith), λ i l. omega (arith, s.requires.0.used, s.requires.0.links s.args.e.0 (d.over-dropped.result + i) a.1 (omega arith)))
+    record { in_bounds = (a.0, a.1, omega arith); by_index = λ i l. omega (arith, s.requires.0.used, s.requires.0.links s.args.e.0 (d.over-dropped.result + i) a.1 (omega arith)) }
 
 pub append_moved-requires : goal.append_moved-requires
 append_moved-requires c =

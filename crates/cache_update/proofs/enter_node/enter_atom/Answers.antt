@@ -7,4 +7,4 @@ use Rattle.cache_update.proofs.enter_node.enter_atom.Goals as goal
 pub returns : goal.returns
 returns c =
     let keyed = c in
-    atom_made keyed.requires.0.0 keyed.atom_key-key.ensures c.atom_length-len.ensures c.find_or_add.ensures
+    atom_made keyed.requires.whole.0 keyed.atom_key-key.ensures c.atom_length-len.ensures c.find_or_add.ensures

@@ -18,4 +18,4 @@ returns c =
     let left = right in
     let entered = left in
     let s = entered in
-    joins s.args.i s.requires.0.0 s.requires.0.1 s.requires.0.2 entered.enter_pair-e.ensures left.add_parent.ensures right.add_parent-2.ensures
+    joins s.args.i s.requires.whole.0 s.requires.whole.1 s.requires.whole.2 entered.enter_pair-e.ensures left.add_parent.ensures right.add_parent-2.ensures

@@ -9,26 +9,27 @@ use Rattle.search_list.proofs.search_copies.add_copies.Goals as goal
 pub loop-i-init : goal.loop-i-init
 loop-i-init c =
     let s = c in
-    copying_start s.args.work.now s.args.e.0 s.args.s.nodes s.args.first s.args.s.paths (omega (arith, s.requires.1.1, s.requires.1.3)) s.requires.0.2
+    copying_start s.args.work.now s.args.e.0 s.args.s.nodes s.args.first s.args.s.paths (omega (arith, s.requires.e_bound.1, s.requires.e_bound.3)) s.requires.links.2
 
 pub add_copy-paths-requires : goal.add_copy-paths-requires
 add_copy-paths-requires c =
     let next : c.loop-i.i < count_at c.args.work.now c.args.e.0 =
-    omega (arith, c.loop-i-test.true, c.requires.1.3) in
+    omega (arith, c.loop-i-test.true, c.requires.e_bound.3) in
     let s = c in
-    copying_asks s.requires.0.0 s.requires.0.1 s.requires.1.0 (omega (arith, s.requires.1.2, s.requires.1.3)) c.loop-i.invariant next
+    let the_facts = copying_asks s.requires.links.0 s.requires.links.1 s.requires.e_bound.0 (omega (arith, s.requires.e_bound.2, s.requires.e_bound.3)) c.loop-i.invariant next in
+    record { links = the_facts.0; e_bound = the_facts.1 }
 
 pub loop-i-preserved : goal.loop-i-preserved
 loop-i-preserved c =
     let next : c.loop-i.i < count_at c.args.work.now c.args.e.0 =
-    omega (arith, c.loop-i-test.true, c.requires.1.3) in
+    omega (arith, c.loop-i-test.true, c.requires.e_bound.3) in
     let s = c in
     let a = c.add_copy-paths in
-    copying_more s.requires.0.0 s.requires.0.1 s.requires.1.0 c.loop-i.invariant next a.auto.work a.ensures
+    copying_more s.requires.links.0 s.requires.links.1 s.requires.e_bound.0 c.loop-i.invariant next a.auto.work a.ensures
 
 pub shape_of-work : goal.shape_of-work
 shape_of-work c = c.loop-i.invariant.len
 
 pub returns : goal.returns
 returns c =
-    copying_end c.loop-i.invariant (omega (arith, c.loop-i-test.false, c.requires.1.3))
+    copying_end c.loop-i.invariant (omega (arith, c.loop-i-test.false, c.requires.e_bound.3))

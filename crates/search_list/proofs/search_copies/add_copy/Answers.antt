@@ -13,15 +13,15 @@ use Rattle.search_list.proofs.search_copies.add_copy.Goals as goal
 pub parent_at-p-requires : goal.parent_at-p-requires
 parent_at-p-requires c =
     let s = c in
-    (s.requires.0.0.long, s.requires.1.0, omega (arith, s.requires.0.0.counts s.args.e.0 s.requires.1.0))
+    (s.requires.links.0.long, s.requires.e_bound.0, omega (arith, s.requires.links.0.counts s.args.e.0 s.requires.e_bound.0))
 
 pub is_seen-requires : goal.is_seen-requires
 is_seen-requires c =
     let low : c.parent_at-p.result.0 < 2 * at c.args.work.now USED =
     let s = c in
-    omega (arith, c.parent_at-p.ensures, s.requires.0.0.links s.args.e.0 s.args.i s.requires.1.0 s.requires.1.1) in
+    omega (arith, c.parent_at-p.ensures, s.requires.links.0.links s.args.e.0 s.args.i s.requires.e_bound.0 s.requires.e_bound.1) in
     let s = c in
-    (s.requires.0.0.long, omega (arith, c.entry.ensures, low, s.requires.0.0.used))
+    (s.requires.links.0.long, omega (arith, c.entry.ensures, low, s.requires.links.0.used))
 
 pub returns-then-is_seen : goal.returns-then-is_seen
 returns-then-is_seen c =
@@ -29,10 +29,10 @@ returns-then-is_seen c =
     c.is_seen.ensures ∙ ap (seen_at c.args.work.now) c.entry.ensures in
     let low : c.parent_at-p.result.0 < 2 * at c.args.work.now USED =
     let s = c in
-    omega (arith, c.parent_at-p.ensures, s.requires.0.0.links s.args.e.0 s.args.i s.requires.1.0 s.requires.1.1) in
+    omega (arith, c.parent_at-p.ensures, s.requires.links.0.links s.args.e.0 s.args.i s.requires.e_bound.0 s.requires.e_bound.1) in
     let v = c in
     let s = v in
-    copy_seen s.args.work.now s.args.nodes s.args.paths s.requires.0.1 s.requires.0.2 s.requires.0.0 v.parent_at-p.result.0 _ v.parent_at-p.ensures low
+    copy_seen s.args.work.now s.args.nodes s.args.paths s.requires.links.1 s.requires.links.2 s.requires.links.0 v.parent_at-p.result.0 _ v.parent_at-p.ensures low
     (sym c.if-is_seen.true ∙ seen)
 
 pub returns : goal.returns
@@ -41,9 +41,9 @@ returns c =
     c.is_seen.ensures ∙ ap (seen_at c.args.work.now) c.entry.ensures in
     let low : c.parent_at-p.result.0 < 2 * at c.args.work.now USED =
     let s = c in
-    omega (arith, c.parent_at-p.ensures, s.requires.0.0.links s.args.e.0 s.args.i s.requires.1.0 s.requires.1.1) in
+    omega (arith, c.parent_at-p.ensures, s.requires.links.0.links s.args.e.0 s.args.i s.requires.e_bound.0 s.requires.e_bound.1) in
     let p = c.put_at_entry in
     let v = c in
     let s = v in
-    copy_new s.args.work.now s.args.nodes s.args.paths s.requires.0.1 s.requires.0.2 s.requires.0.0 p.new.work v.parent_at-p.result.0 _
-    v.parent_at-p.ensures low s.requires.1.2 (sym c.if-is_seen.false ∙ seen) p.ensures
+    copy_new s.args.work.now s.args.nodes s.args.paths s.requires.links.1 s.requires.links.2 s.requires.links.0 p.new.work v.parent_at-p.result.0 _
+    v.parent_at-p.ensures low s.requires.e_bound.2 (sym c.if-is_seen.false ∙ seen) p.ensures

@@ -20,7 +20,7 @@ overflow_add-work-3 c =
     let s = c in
     let a = c.node_of-a.ensures in
     let l = c.wide in
-    omega (arith, s.requires.0.1.short l.result (omega (arith, a, s.requires.1.0, l.ensures)), c.len_of-l.ensures, l.ensures, a, s.requires.1.0, s.requires.0.2) in
+    omega (arith, s.requires.in_bounds.1.short l.result (omega (arith, a, s.requires.slot_bound.0, l.ensures)), c.len_of-l.ensures, l.ensures, a, s.requires.slot_bound.0, s.requires.in_bounds.2) in
     omega (arith, short)
 
 pub overflow_cast-work : goal.overflow_cast-work
@@ -29,7 +29,7 @@ overflow_cast-work c =
     let s = c in
     let a = c.node_of-a.ensures in
     let l = c.wide in
-    omega (arith, s.requires.0.1.short l.result (omega (arith, a, s.requires.1.0, l.ensures)), c.len_of-l.ensures, l.ensures, a, s.requires.1.0, s.requires.0.2) in
+    omega (arith, s.requires.in_bounds.1.short l.result (omega (arith, a, s.requires.slot_bound.0, l.ensures)), c.len_of-l.ensures, l.ensures, a, s.requires.slot_bound.0, s.requires.in_bounds.2) in
     omega (arith, short)
 
 pub bounds-work-k-3 : goal.bounds-work-k-3
@@ -38,7 +38,7 @@ bounds-work-k-3 c = simp length-set (omega arith)
 pub mark_seen-requires : goal.mark_seen-requires
 mark_seen-requires c =
     let s = c in
-    (simp length-set s.requires.0.0, omega (arith, s.requires.1.1, c.entry.ensures, c.parent_of-p.ensures))
+    (simp length-set s.requires.in_bounds.0, omega (arith, s.requires.slot_bound.1, c.entry.ensures, c.parent_of-p.ensures))
 
 pub shape_of-work : goal.shape_of-work
 shape_of-work c =
@@ -52,6 +52,6 @@ returns c =
     let s = l in
     let k = c.mark_seen in
     node_added s.args.work.now k.new.work s.args.slot s.args.nodes n.result p.result.0 l.len_of-l.result
-    s.requires.0.0 s.requires.0.1 s.requires.0.2 s.requires.1.0 s.requires.1.1 n.ensures p.ensures
+    s.requires.in_bounds.0 s.requires.in_bounds.1 s.requires.in_bounds.2 s.requires.slot_bound.0 s.requires.slot_bound.1 n.ensures p.ensures
     (l.len_of-l.ensures ∙ ap (λ (k : ℕ). at s.args.work.now (LENS + k)) l.wide.ensures)
     (rw c.entry.ensures at k.ensures)

@@ -8,19 +8,19 @@ use Rattle.search_list.proofs.search_copies.add_stacked.Goals as goal
 pub returns-then-t-eq0 : goal.returns-then-t-eq0
 returns-then-t-eq0 c =
     let s = c in
-    off_stack s.args.work.now s.args.s.nodes s.args.s.paths s.requires.0.2 s.requires.0.3 s.args.s.depth s.args.e.0 s.requires.0.1 s.requires.1.0
+    off_stack s.args.work.now s.args.s.nodes s.args.s.paths s.requires.links.2 s.requires.links.3 s.args.s.depth s.args.e.0 s.requires.links.1 s.requires.e_bound.0
     c.top_of-t.result c.top_of-t.ensures c.if-t-eq0.true
 
 pub overflow_sub-s : goal.overflow_sub-s
 overflow_sub-s c =
     let t = c in
     let s = t in
-    omega (arith, s.requires.0.1.tops s.args.e.0 s.requires.1.0, t.top_of-t.ensures)
+    omega (arith, s.requires.links.1.tops s.args.e.0 s.requires.e_bound.0, t.top_of-t.ensures)
 
 pub returns : goal.returns
 returns c =
     let p = c.put_on_stack in
     let t = c in
     let s = t in
-    on_stack s.args.work.now s.args.s.nodes s.args.s.paths s.requires.0.2 s.requires.0.3 s.args.s.depth s.args.e.0 s.requires.0.1
-    s.requires.1.0 p.new.work t.top_of-t.result t.top_of-t.ensures c.if-t-eq0.false s.requires.1.1 p.ensures
+    on_stack s.args.work.now s.args.s.nodes s.args.s.paths s.requires.links.2 s.requires.links.3 s.args.s.depth s.args.e.0 s.requires.links.1
+    s.requires.e_bound.0 p.new.work t.top_of-t.result t.top_of-t.ensures c.if-t-eq0.false s.requires.e_bound.1 p.ensures

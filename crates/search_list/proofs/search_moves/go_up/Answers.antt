@@ -24,7 +24,8 @@ add_copies-requires c =
       stored = c.put_at_entry.ensures;
       len = c.put_at_entry.auto.work;
     } in
-    up_asks up
+    let the_facts = up_asks up in
+    record { links = the_facts.0; e_bound = the_facts.1 }
 
 pub add_stacked-requires : goal.add_stacked-requires
 add_stacked-requires c =
@@ -46,7 +47,8 @@ add_stacked-requires c =
       len = c.put_at_entry.auto.work;
     } in
     let y = c in
-    up_asks_2 up y.add_copies.ensures y.add_copies.auto.work
+    let the_facts = up_asks_2 up y.add_copies.ensures y.add_copies.auto.work in
+    record { links = the_facts.0; e_bound = the_facts.1 }
 
 pub shape_of-work : goal.shape_of-work
 shape_of-work c =

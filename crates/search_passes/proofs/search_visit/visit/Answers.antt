@@ -11,7 +11,7 @@ pub add_node-requires : goal.add_node-requires
 add_node-requires c =
     let s = c in
     let p = s.requires.0.paths s.args.slot s.requires.1 in
-    ((s.requires.0.links.long, s.requires.0.nodes, s.requires.4, omega (arith, few s.requires.0, s.requires.1)), (p.node, omega (arith, p.entry s.requires.2, s.requires.0.links.used)))
+    record { in_bounds = (s.requires.0.links.long, s.requires.0.nodes, s.requires.4, omega (arith, few s.requires.0, s.requires.1)); slot_bound = (p.node, omega (arith, p.entry s.requires.2, s.requires.0.links.used)) }
 
 pub first_unseen-k-requires : goal.first_unseen-k-requires
 first_unseen-k-requires c =
@@ -46,7 +46,8 @@ go_up-paths-requires c =
       len = c.add_node.auto.work;
     } in
     let f = c in
-    visit_asks visiting f.first_unseen-k.ensures c.if-k.true
+    let the_facts = visit_asks visiting f.first_unseen-k.ensures c.if-k.true in
+    record { links = the_facts.0; slot_lt_paths = the_facts.1 }
 
 pub shape_of-work-then-k : goal.shape_of-work-then-k
 shape_of-work-then-k c =
@@ -87,7 +88,8 @@ go_off-paths-requires c =
       made = c.add_node.ensures;
       len = c.add_node.auto.work;
     } in
-    visit_asks_2 visiting
+    let the_facts = visit_asks_2 visiting in
+    record { links = the_facts.0; slot_lt_paths = the_facts.1 }
 
 pub shape_of-work : goal.shape_of-work
 shape_of-work c =

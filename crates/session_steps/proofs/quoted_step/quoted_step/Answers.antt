@@ -23,7 +23,7 @@ use Rattle.session_steps.proofs.quoted_step.quoted_step.Goals as goal
 
 -- The next step is what the file says.
 comes : (x : goal.After-next_step) (r : NextStep) → x.next_step.result ≡ r → let a = (to_start x).args in Comes a.file.now a.p.at r
-comes x r e ss st = subst (λ (y : NextStep). FirstStep (to_start x).args.file.now ss y) e (x.next_step.ensures.0 ss st)
+comes x r e ss st = subst (λ (y : NextStep). FirstStep (to_start x).args.file.now ss y) e (x.next_step.ensures.first_step ss st)
 
 -- The number of a taking is none of the others'.
 none_of : OneOf (0 ∷ 1 ∷ 2 ∷ 3 ∷ 5 ∷ []) 4 → ⊥
@@ -48,20 +48,20 @@ other x ss st = let n = x.next_step in no-taking n.result x.in-Take.keys2 (to_st
 pub take_quote-requires : goal.take_quote-requires
 take_quote-requires c =
     let s = c in
-    answers.take_asks s.pre.0 s.pre.1 _ (comes c _ c.in-Take.is)
+    answers.take-asks s.pre.0 s.pre.1 _ (comes c _ c.in-Take.is)
 
 pub drop_quote-requires : goal.drop_quote-requires
-drop_quote-requires c = let s = c in answers.drop_asks s.pre.0 s.pre.1 (other c)
+drop_quote-requires c = let s = c in answers.drop-asks s.pre.0 s.pre.1 (other c)
 
 pub returns-in-Take : goal.returns-in-Take
 returns-in-Take c =
     let t = c in
     let read = t in
     let s = c in
-    answers.takes_on s.pre.0 s.pre.1 _ (comes read _ t.in-Take.is) t.take_quote.ensures.0 t.take_quote.ensures.1
+    answers.takes-on s.pre.0 s.pre.1 _ (comes read _ t.in-Take.is) t.take_quote.ensures.0 t.take_quote.ensures.1
 
 pub returns-in_default : goal.returns-in_default
 returns-in_default c =
     let d = c in
     let s = c in
-    answers.drops_on s.pre.0 s.pre.1 (other d) d.drop_quote.auto.work d.drop_quote.ensures.0 d.drop_quote.ensures.1
+    answers.drops-on s.pre.0 s.pre.1 (other d) d.drop_quote.auto.work d.drop_quote.ensures.0 d.drop_quote.ensures.1

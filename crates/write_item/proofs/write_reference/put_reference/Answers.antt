@@ -14,14 +14,14 @@ use Rattle.write_item.proofs.write_reference.put_reference.Goals as goal
 pub write_prefix-requires : goal.write_prefix-requires
 write_prefix-requires c =
     let s = c in
-    (s.requires.1.0, omega (arith, s.requires.0.3), omega (arith, length-set s.args.output.now s.args.size 0xfe, s.requires.1.1))
+    (s.requires.width_bound.0, omega (arith, s.requires.in_bounds.3), omega (arith, length-set s.args.output.now s.args.size 0xfe, s.requires.width_bound.1))
 
 pub put_path-requires : goal.put_path-requires
 put_path-requires c =
     let w = c in
     let s = w in
-    let p = s.requires.0 in
-    (p.0, p.1, p.2, omega (arith, w.write_prefix.auto.output, length-set s.args.output.now s.args.size 0xfe, s.requires.1.1))
+    let p = s.requires.in_bounds in
+    (p.0, p.1, p.2, omega (arith, w.write_prefix.auto.output, length-set s.args.output.now s.args.size 0xfe, s.requires.width_bound.1))
 
 pub shape_of-output : goal.shape_of-output
 shape_of-output c =
