@@ -2,7 +2,7 @@
 -- Assumes nothing.
 use Prim.Native.Nat.{ℕ, zero, suc, ◌+◌, ◌-◌, ◌*◌, ◌%◌, ◌^◌, ◌≤◌, ◌<◌}
 use Rattle.std.specs.Prelude.{◌≡◌, refl, Bool, true, false, cond, eqb, ltb, set, take}
-use Rattle.std.proofs.Common.{sym, ap, ◌∙◌, length-set, length-drop, eqb-true, eq-eqb, ne_eqb, ltb-true, ltb-false}
+use Rattle.std.proofs.Common.{subst, sym, ap, ◌∙◌, length-set, length-drop, eqb-true, eq-eqb, ne_eqb, ltb-true, ltb-false}
 use Rattle.std.proofs.Math.Path.{subst}
 use mathlib.Core.List.{List, [], ◌∷◌, ◌++◌}
 use Rattle.std.proofs.Math.Option.{Option, none, some, none-ne-some, some-injective}
@@ -177,7 +177,8 @@ free_front (suc n) h e ms l a =
     by_lt h n
     (λ k. rw (lookup_other n h e ms (λ q. omega arith)) (omega (arith, free_front n h e ms k a)))
     (λ k. let alike : n ≡ h = omega arith in
-    rw (alike, lookup_this h e ms, lookup_absent h ms a) (omega (arith, free_above h h e ms (omega arith))))
+    subst (λ (m : ℕ). free (suc m) ms ≡ 1 + free (suc m) ((h, e) ∷ ms)) (sym alike)
+    (rw (lookup_this h e ms, lookup_absent h ms a) (omega (arith, free_above h h e ms (omega arith)))))
 
 -- The handles mapped and those free are n together.
 pub mapped_and_free : (n : ℕ) (ms : List (ℕ × ℕ)) → MappedIn n ms → length ms + free n ms ≡ n

@@ -6,7 +6,8 @@ use Rattle.std.proofs.Common.{sym, ap, ◌∙◌, append-nil, append_assoc}
 use Rattle.std.proofs.Math.Option.{Option, none, some}
 use Rattle.spec_session.specs.Unfold.{Unfolded, hole, leaf, node}
 use Rattle.spec_session.specs.Cache.{Key, Parent, Entry, Cache, lookup, find_key, adjust, new_entry, with_entries, keep_or_add, find_or_add, link_pair, join_pair}
-use Rattle.spec_session.specs.Cache.{known_or, length_at, pair_key, pair_length, enter, sentinel_parents, clear_sentinel, place_root, update}
+use Rattle.atom.specs.Write.{serialized_length}
+use Rattle.spec_session.specs.Cache.{known_or, atom_key, length_at, pair_key, pair_length, enter, sentinel_parents, clear_sentinel, place_root, update}
 
 -- An entry without its parents.
 abbrev pub bare : Entry → Entry
@@ -62,7 +63,7 @@ join_extends h a right =
 pub enter_extends : (u : Unfolded) (c : Cache) → Extends c (enter u c).0
 unfolding enter
 enter_extends hole c = one_entry c _ 0 (some (length c.entries))
-enter_extends (leaf h bytes) c = found_extends _ _ c
+enter_extends (leaf h bytes) c = found_extends (atom_key bytes) (serialized_length bytes) c
 enter_extends (node h l r) c =
     go (lookup h c.mapped) (join_pair h (enter l c).1 (enter r (enter l c).0))
     (extends_trans c (enter l c).0 _ (enter_extends l c)

@@ -52,8 +52,8 @@ count-pairs-requires c =
     c.atoms-listed.result in
     let after-count : AfterCount input whole p₁ =
     count_taken input p₁ c.count-atoms.ensures c.if-atoms-ne0.false in
-    let after_atoms : let y = to-count in AfterAtoms input whole p₁ p₂ =
-    atoms_taken (after-count to-count) p₂ c.atoms-listed.ensures c.if-listed-ne0.false in
+    let after_atoms : let y = c in AfterAtoms input whole p₁ p₂ =
+    atoms_taken after-count p₂ c.atoms-listed.ensures c.if-listed-ne0.false in
     after_atoms.inside
 
 pub returns-then-pairs-ne0 : goal.returns-then-pairs-ne0
@@ -68,8 +68,8 @@ returns-then-pairs-ne0 c =
     c.atoms-listed.result in
     let after-count : AfterCount input whole p₁ =
     count_taken input p₁ c.count-atoms.ensures c.if-atoms-ne0.false in
-    let after_atoms : let y = to-count in AfterAtoms input whole p₁ p₂ =
-    atoms_taken (after-count to-count) p₂ c.atoms-listed.ensures c.if-listed-ne0.false in
+    let after_atoms : let y = c in AfterAtoms input whole p₁ p₂ =
+    atoms_taken after-count p₂ c.atoms-listed.ensures c.if-listed-ne0.false in
     let x = c in pair_count_turned after_atoms x.count-pairs.result x.count-pairs.ensures c.if-pairs-ne0.true c.turned_down-then-pairs-ne0.ensures
 
 pub pairs-named-requires : goal.pairs-named-requires
@@ -86,10 +86,10 @@ pairs-named-requires c =
     count_taken input p₁ c.count-atoms.ensures c.if-atoms-ne0.false in
     let p₃ : Part =
     c.count-pairs.result in
-    let after_atoms : let y = to-count in AfterAtoms input whole p₁ p₂ =
-    atoms_taken (after-count to-count) p₂ c.atoms-listed.ensures c.if-listed-ne0.false in
-    let after_pair_count : let z = to-atoms in let y = to-count in AfterPairCount input whole p₁ p₂ p₃ =
-    pair_count_taken (after_atoms to-atoms) p₃ c.count-pairs.ensures c.if-pairs-ne0.false in
+    let after_atoms : let y = c in AfterAtoms input whole p₁ p₂ =
+    atoms_taken after-count p₂ c.atoms-listed.ensures c.if-listed-ne0.false in
+    let after_pair_count : let z = c in let y = z in AfterPairCount input whole p₁ p₂ p₃ =
+    pair_count_taken after_atoms p₃ c.count-pairs.ensures c.if-pairs-ne0.false in
     after_pair_count.inside
 
 pub returns-then-named-ne0 : goal.returns-then-named-ne0
@@ -106,10 +106,10 @@ returns-then-named-ne0 c =
     count_taken input p₁ c.count-atoms.ensures c.if-atoms-ne0.false in
     let p₃ : Part =
     c.count-pairs.result in
-    let after_atoms : let y = to-count in AfterAtoms input whole p₁ p₂ =
-    atoms_taken (after-count to-count) p₂ c.atoms-listed.ensures c.if-listed-ne0.false in
-    let after_pair_count : let z = to-atoms in let y = to-count in AfterPairCount input whole p₁ p₂ p₃ =
-    pair_count_taken (after_atoms to-atoms) p₃ c.count-pairs.ensures c.if-pairs-ne0.false in
+    let after_atoms : let y = c in AfterAtoms input whole p₁ p₂ =
+    atoms_taken after-count p₂ c.atoms-listed.ensures c.if-listed-ne0.false in
+    let after_pair_count : let z = c in let y = z in AfterPairCount input whole p₁ p₂ p₃ =
+    pair_count_taken after_atoms p₃ c.count-pairs.ensures c.if-pairs-ne0.false in
     let x = c in pairs_turned after_pair_count x.pairs-named.result x.pairs-named.ensures c.if-named-ne0.true c.turned_down-then-named-ne0.ensures
 
 pub sentinel-sentinel-requires : goal.sentinel-sentinel-requires
@@ -126,14 +126,14 @@ sentinel-sentinel-requires c =
     count_taken input p₁ c.count-atoms.ensures c.if-atoms-ne0.false in
     let p₃ : Part =
     c.count-pairs.result in
-    let after_atoms : let y = to-count in AfterAtoms input whole p₁ p₂ =
-    atoms_taken (after-count to-count) p₂ c.atoms-listed.ensures c.if-listed-ne0.false in
+    let after_atoms : let y = c in AfterAtoms input whole p₁ p₂ =
+    atoms_taken after-count p₂ c.atoms-listed.ensures c.if-listed-ne0.false in
     let p₄ : Part =
     c.pairs-named.result in
-    let after_pair_count : let z = to-atoms in let y = to-count in AfterPairCount input whole p₁ p₂ p₃ =
-    pair_count_taken (after_atoms to-atoms) p₃ c.count-pairs.ensures c.if-pairs-ne0.false in
-    let after_pairs : let u = to-pair-count in let z = to-atoms in let y = to-count in AfterPairs input whole p₁ p₂ p₃ p₄ =
-    pairs_taken (after_pair_count to-pair-count) p₄ c.pairs-named.ensures c.if-named-ne0.false in
+    let after_pair_count : let z = c in let y = z in AfterPairCount input whole p₁ p₂ p₃ =
+    pair_count_taken after_atoms p₃ c.count-pairs.ensures c.if-pairs-ne0.false in
+    let after_pairs : let u = c in let z = u in let y = z in AfterPairs input whole p₁ p₂ p₃ p₄ =
+    pairs_taken after_pair_count p₄ c.pairs-named.ensures c.if-named-ne0.false in
     after_pairs.inside
 
 pub returns-then-sentinel-ne0 : goal.returns-then-sentinel-ne0
@@ -150,14 +150,14 @@ returns-then-sentinel-ne0 c =
     count_taken input p₁ c.count-atoms.ensures c.if-atoms-ne0.false in
     let p₃ : Part =
     c.count-pairs.result in
-    let after_atoms : let y = to-count in AfterAtoms input whole p₁ p₂ =
-    atoms_taken (after-count to-count) p₂ c.atoms-listed.ensures c.if-listed-ne0.false in
+    let after_atoms : let y = c in AfterAtoms input whole p₁ p₂ =
+    atoms_taken after-count p₂ c.atoms-listed.ensures c.if-listed-ne0.false in
     let p₄ : Part =
     c.pairs-named.result in
-    let after_pair_count : let z = to-atoms in let y = to-count in AfterPairCount input whole p₁ p₂ p₃ =
-    pair_count_taken (after_atoms to-atoms) p₃ c.count-pairs.ensures c.if-pairs-ne0.false in
-    let after_pairs : let u = to-pair-count in let z = to-atoms in let y = to-count in AfterPairs input whole p₁ p₂ p₃ p₄ =
-    pairs_taken (after_pair_count to-pair-count) p₄ c.pairs-named.ensures c.if-named-ne0.false in
+    let after_pair_count : let z = c in let y = z in AfterPairCount input whole p₁ p₂ p₃ =
+    pair_count_taken after_atoms p₃ c.count-pairs.ensures c.if-pairs-ne0.false in
+    let after_pairs : let u = c in let z = u in let y = z in AfterPairs input whole p₁ p₂ p₃ p₄ =
+    pairs_taken after_pair_count p₄ c.pairs-named.ensures c.if-named-ne0.false in
     let x = c in sentinel_turned after_pairs x.sentinel-sentinel.result x.sentinel-sentinel.ensures c.if-sentinel-ne0.true c.turned_down-then-sentinel-ne0.ensures
 
 pub steps-steps-requires : goal.steps-steps-requires
@@ -174,18 +174,18 @@ steps-steps-requires c =
     count_taken input p₁ c.count-atoms.ensures c.if-atoms-ne0.false in
     let p₃ : Part =
     c.count-pairs.result in
-    let after_atoms : let y = to-count in AfterAtoms input whole p₁ p₂ =
-    atoms_taken (after-count to-count) p₂ c.atoms-listed.ensures c.if-listed-ne0.false in
+    let after_atoms : let y = c in AfterAtoms input whole p₁ p₂ =
+    atoms_taken after-count p₂ c.atoms-listed.ensures c.if-listed-ne0.false in
     let p₄ : Part =
     c.pairs-named.result in
-    let after_pair_count : let z = to-atoms in let y = to-count in AfterPairCount input whole p₁ p₂ p₃ =
-    pair_count_taken (after_atoms to-atoms) p₃ c.count-pairs.ensures c.if-pairs-ne0.false in
+    let after_pair_count : let z = c in let y = z in AfterPairCount input whole p₁ p₂ p₃ =
+    pair_count_taken after_atoms p₃ c.count-pairs.ensures c.if-pairs-ne0.false in
     let p₅ : Part =
     c.sentinel-sentinel.result in
-    let after_pairs : let u = to-pair-count in let z = to-atoms in let y = to-count in AfterPairs input whole p₁ p₂ p₃ p₄ =
-    pairs_taken (after_pair_count to-pair-count) p₄ c.pairs-named.ensures c.if-named-ne0.false in
-    let after_sentinel : let v = to-pairs in let u = to-pair-count in let z = to-atoms in let y = to-count in AfterSentinel input whole p₁ p₂ p₃ p₄ p₅ =
-    sentinel_taken (after_pairs to-pairs) p₅ c.sentinel-sentinel.ensures c.if-sentinel-ne0.false in
+    let after_pairs : let u = c in let z = u in let y = z in AfterPairs input whole p₁ p₂ p₃ p₄ =
+    pairs_taken after_pair_count p₄ c.pairs-named.ensures c.if-named-ne0.false in
+    let after_sentinel : let v = c in let u = v in let z = u in let y = z in AfterSentinel input whole p₁ p₂ p₃ p₄ p₅ =
+    sentinel_taken after_pairs p₅ c.sentinel-sentinel.ensures c.if-sentinel-ne0.false in
     after_sentinel.inside
 
 pub returns-then-steps-ne0 : goal.returns-then-steps-ne0
@@ -202,18 +202,18 @@ returns-then-steps-ne0 c =
     count_taken input p₁ c.count-atoms.ensures c.if-atoms-ne0.false in
     let p₃ : Part =
     c.count-pairs.result in
-    let after_atoms : let y = to-count in AfterAtoms input whole p₁ p₂ =
-    atoms_taken (after-count to-count) p₂ c.atoms-listed.ensures c.if-listed-ne0.false in
+    let after_atoms : let y = c in AfterAtoms input whole p₁ p₂ =
+    atoms_taken after-count p₂ c.atoms-listed.ensures c.if-listed-ne0.false in
     let p₄ : Part =
     c.pairs-named.result in
-    let after_pair_count : let z = to-atoms in let y = to-count in AfterPairCount input whole p₁ p₂ p₃ =
-    pair_count_taken (after_atoms to-atoms) p₃ c.count-pairs.ensures c.if-pairs-ne0.false in
+    let after_pair_count : let z = c in let y = z in AfterPairCount input whole p₁ p₂ p₃ =
+    pair_count_taken after_atoms p₃ c.count-pairs.ensures c.if-pairs-ne0.false in
     let p₅ : Part =
     c.sentinel-sentinel.result in
-    let after_pairs : let u = to-pair-count in let z = to-atoms in let y = to-count in AfterPairs input whole p₁ p₂ p₃ p₄ =
-    pairs_taken (after_pair_count to-pair-count) p₄ c.pairs-named.ensures c.if-named-ne0.false in
-    let after_sentinel : let v = to-pairs in let u = to-pair-count in let z = to-atoms in let y = to-count in AfterSentinel input whole p₁ p₂ p₃ p₄ p₅ =
-    sentinel_taken (after_pairs to-pairs) p₅ c.sentinel-sentinel.ensures c.if-sentinel-ne0.false in
+    let after_pairs : let u = c in let z = u in let y = z in AfterPairs input whole p₁ p₂ p₃ p₄ =
+    pairs_taken after_pair_count p₄ c.pairs-named.ensures c.if-named-ne0.false in
+    let after_sentinel : let v = c in let u = v in let z = u in let y = z in AfterSentinel input whole p₁ p₂ p₃ p₄ p₅ =
+    sentinel_taken after_pairs p₅ c.sentinel-sentinel.ensures c.if-sentinel-ne0.false in
     let x = c in steps_turned after_sentinel x.steps-steps.result x.steps-steps.ensures c.if-steps-ne0.true c.turned_down-then-steps-ne0.ensures
 
 pub returns : goal.returns
@@ -230,18 +230,18 @@ returns c =
     count_taken input p₁ c.count-atoms.ensures c.if-atoms-ne0.false in
     let p₃ : Part =
     c.count-pairs.result in
-    let after_atoms : let y = to-count in AfterAtoms input whole p₁ p₂ =
-    atoms_taken (after-count to-count) p₂ c.atoms-listed.ensures c.if-listed-ne0.false in
+    let after_atoms : let y = c in AfterAtoms input whole p₁ p₂ =
+    atoms_taken after-count p₂ c.atoms-listed.ensures c.if-listed-ne0.false in
     let p₄ : Part =
     c.pairs-named.result in
-    let after_pair_count : let z = to-atoms in let y = to-count in AfterPairCount input whole p₁ p₂ p₃ =
-    pair_count_taken (after_atoms to-atoms) p₃ c.count-pairs.ensures c.if-pairs-ne0.false in
+    let after_pair_count : let z = c in let y = z in AfterPairCount input whole p₁ p₂ p₃ =
+    pair_count_taken after_atoms p₃ c.count-pairs.ensures c.if-pairs-ne0.false in
     let p₅ : Part =
     c.sentinel-sentinel.result in
-    let after_pairs : let u = to-pair-count in let z = to-atoms in let y = to-count in AfterPairs input whole p₁ p₂ p₃ p₄ =
-    pairs_taken (after_pair_count to-pair-count) p₄ c.pairs-named.ensures c.if-named-ne0.false in
-    let after_sentinel : let v = to-pairs in let u = to-pair-count in let z = to-atoms in let y = to-count in AfterSentinel input whole p₁ p₂ p₃ p₄ p₅ =
-    sentinel_taken (after_pairs to-pairs) p₅ c.sentinel-sentinel.ensures c.if-sentinel-ne0.false in
+    let after_pairs : let u = c in let z = u in let y = z in AfterPairs input whole p₁ p₂ p₃ p₄ =
+    pairs_taken after_pair_count p₄ c.pairs-named.ensures c.if-named-ne0.false in
+    let after_sentinel : let v = c in let u = v in let z = u in let y = z in AfterSentinel input whole p₁ p₂ p₃ p₄ p₅ =
+    sentinel_taken after_pairs p₅ c.sentinel-sentinel.ensures c.if-sentinel-ne0.false in
     let x = c in
-    let counted = to-count (to-atoms to-pair-count) in
+    let counted = x in
     passed after_sentinel x.steps-steps.result x.steps-steps.ensures c.if-steps-ne0.false counted.pre.1

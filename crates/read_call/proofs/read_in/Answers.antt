@@ -7,8 +7,8 @@ use Rattle.read_call.proofs.read_in.Goals as goal
 
 pub read_all-outcome-requires : goal.read_all-outcome-requires
 read_all-outcome-requires c =
-    let s = c.before.before.before.before.before.before.before.before.before in
-    let z = c.clear-store.ensures in
+    let s = c in
+    let z = c.clear_store.ensures in
     lent-start _ _ s.args.pairs.now s.args.atoms.now s.args.bytes.now _ _ _ s.pre.0 s.pre.1 z.0 z.1 z.2
 
 pub ended-requires : goal.ended-requires
@@ -22,6 +22,6 @@ returns c =
     let read = answered in
     let all_read = read in
     let x = all_read.read_all-outcome in
-    let z = c.clear-store.auto in
+    let z = all_read.clear_store.auto in
     ended-after _ _ _ _ _ _ _ _ _ _ x.ensures x.auto.work (x.auto.pairs ∙ z.0) (x.auto.atoms ∙ z.1.0) (x.auto.bytes ∙ z.1.1.0)
     _ answered.ended.ensures

@@ -23,38 +23,38 @@ returns-in_default c =
 
 pub stack_steps-steps-requires : goal.stack_steps-steps-requires
 stack_steps-steps-requires c =
-    let bits : Counted start.args.path.now c.in-Bits.count =
+    let bits : Counted c.args.path.now c.in-Bits.count =
     counted_some _ _ (sym c.in-Bits.is ∙ c.path_bits.ensures) in
-    let count-short : c.in-Bits.count ≤ 8 * length start.args.path.now =
+    let count-short : c.in-Bits.count ≤ 8 * length c.args.path.now =
     let small = c.type_inv.path in
-    count_within _ _ (all_of (λ (n : ℕ). n < 256) start.args.path.now 0 (λ i l. omega (arith, small i))) bits in
+    count_within _ _ (all_of (λ (n : ℕ). n < 256) c.args.path.now 0 (λ i l. omega (arith, small i))) bits in
     count-short
 
 pub walk_bits-w-requires : goal.walk_bits-w-requires
 walk_bits-w-requires c =
-    let bits : Counted start.args.path.now c.in-Bits.count =
+    let bits : Counted c.args.path.now c.in-Bits.count =
     counted_some _ _ (sym c.in-Bits.is ∙ c.path_bits.ensures) in
-    let steps_are : c.stack_steps-steps.result ≡ down bits.bits start.args.counts.values =
+    let steps_are : c.stack_steps-steps.result ≡ down bits.bits c.args.counts.values =
     let q = bits in c.stack_steps-steps.ensures q.bits q.is q.long in
-    let lists : HaveLists start.args.work.now start.args.counts.listed start.args.counts.values =
-    lists_of start.requires.1 in
-    let steps-short : (c.stack_steps-steps.result ≤ c.in-Bits.count) × (c.stack_steps-steps.result ≤ start.args.counts.values) =
-    let a = start.args in
+    let lists : HaveLists c.args.work.now c.args.counts.listed c.args.counts.values =
+    lists_of c.requires.1 in
+    let steps-short : (c.stack_steps-steps.result ≤ c.in-Bits.count) × (c.stack_steps-steps.result ≤ c.args.counts.values) =
+    let a = c.args in
     steps_within _ _ a.pairs.now _ _ a.counts.pairs a.counts.ghosts lists _ bits _ steps_are in
-    let count-short : c.in-Bits.count ≤ 8 * length start.args.path.now =
+    let count-short : c.in-Bits.count ≤ 8 * length c.args.path.now =
     let small = c.type_inv.path in
-    count_within _ _ (all_of (λ (n : ℕ). n < 256) start.args.path.now 0 (λ i l. omega (arith, small i))) bits in
+    count_within _ _ (all_of (λ (n : ℕ). n < 256) c.args.path.now 0 (λ i l. omega (arith, small i))) bits in
     let steps = c in
-    (steps-short.0, count-short, nil_reachable _ _ _ _ _ _ c.requires.1)
+    (steps-short.0, count-short, nil_reachable _ _ _ _ _ _ steps.requires.1)
 
 pub returns-then-steps-values : goal.returns-then-steps-values
 returns-then-steps-values c =
-    let bits : Counted start.args.path.now c.in-Bits.count =
+    let bits : Counted c.args.path.now c.in-Bits.count =
     counted_some _ _ (sym c.in-Bits.is ∙ c.path_bits.ensures) in
-    let steps_are : c.stack_steps-steps.result ≡ down bits.bits start.args.counts.values =
+    let steps_are : c.stack_steps-steps.result ≡ down bits.bits c.args.counts.values =
     let q = bits in c.stack_steps-steps.ensures q.bits q.is q.long in
-    let lists : HaveLists start.args.work.now start.args.counts.listed start.args.counts.values =
-    lists_of start.requires.1 in
+    let lists : HaveLists c.args.work.now c.args.counts.listed c.args.counts.values =
+    lists_of c.requires.1 in
     let steps = c in
     let q = bits in record {
       leads_to = leads_below _ _ _ _ _ _ _ lists _ q _ steps_are c.walk_bits-w.result _ c.walked-then-steps-values.ensures c.if-steps-values.true
@@ -64,41 +64,41 @@ returns-then-steps-values c =
 
 pub overflow_sub-values : goal.overflow_sub-values
 overflow_sub-values c =
-    let bits : Counted start.args.path.now c.in-Bits.count =
+    let bits : Counted c.args.path.now c.in-Bits.count =
     counted_some _ _ (sym c.in-Bits.is ∙ c.path_bits.ensures) in
-    let steps_are : c.stack_steps-steps.result ≡ down bits.bits start.args.counts.values =
+    let steps_are : c.stack_steps-steps.result ≡ down bits.bits c.args.counts.values =
     let q = bits in c.stack_steps-steps.ensures q.bits q.is q.long in
-    let lists : HaveLists start.args.work.now start.args.counts.listed start.args.counts.values =
-    lists_of start.requires.1 in
-    let steps-short : (c.stack_steps-steps.result ≤ c.in-Bits.count) × (c.stack_steps-steps.result ≤ start.args.counts.values) =
-    let a = start.args in
+    let lists : HaveLists c.args.work.now c.args.counts.listed c.args.counts.values =
+    lists_of c.requires.1 in
+    let steps-short : (c.stack_steps-steps.result ≤ c.in-Bits.count) × (c.stack_steps-steps.result ≤ c.args.counts.values) =
+    let a = c.args in
     steps_within _ _ a.pairs.now _ _ a.counts.pairs a.counts.ghosts lists _ bits _ steps_are in
     steps-short.1
 
 pub build_list-requires : goal.build_list-requires
 build_list-requires c =
-    let bits : Counted start.args.path.now c.in-Bits.count =
+    let bits : Counted c.args.path.now c.in-Bits.count =
     counted_some _ _ (sym c.in-Bits.is ∙ c.path_bits.ensures) in
-    let steps_are : c.stack_steps-steps.result ≡ down bits.bits start.args.counts.values =
+    let steps_are : c.stack_steps-steps.result ≡ down bits.bits c.args.counts.values =
     let q = bits in c.stack_steps-steps.ensures q.bits q.is q.long in
-    let lists : HaveLists start.args.work.now start.args.counts.listed start.args.counts.values =
-    lists_of start.requires.1 in
-    let steps-short : (c.stack_steps-steps.result ≤ c.in-Bits.count) × (c.stack_steps-steps.result ≤ start.args.counts.values) =
-    let a = start.args in
+    let lists : HaveLists c.args.work.now c.args.counts.listed c.args.counts.values =
+    lists_of c.requires.1 in
+    let steps-short : (c.stack_steps-steps.result ≤ c.in-Bits.count) × (c.stack_steps-steps.result ≤ c.args.counts.values) =
+    let a = c.args in
     steps_within _ _ a.pairs.now _ _ a.counts.pairs a.counts.ghosts lists _ bits _ steps_are in
     let steps = c in
-    fewer_room _ _ _ _ _ _ _ c.requires.1.room steps-short.1
+    fewer_room _ _ _ _ _ _ _ steps.requires.1.room steps-short.1
 
 pub returns-then-steps-count : goal.returns-then-steps-count
 returns-then-steps-count c =
-    let bits : Counted start.args.path.now c.in-Bits.count =
+    let bits : Counted c.args.path.now c.in-Bits.count =
     counted_some _ _ (sym c.in-Bits.is ∙ c.path_bits.ensures) in
-    let steps_are : c.stack_steps-steps.result ≡ down bits.bits start.args.counts.values =
+    let steps_are : c.stack_steps-steps.result ≡ down bits.bits c.args.counts.values =
     let q = bits in c.stack_steps-steps.ensures q.bits q.is q.long in
-    let lists : HaveLists start.args.work.now start.args.counts.listed start.args.counts.values =
-    lists_of start.requires.1 in
-    let steps-short : (c.stack_steps-steps.result ≤ c.in-Bits.count) × (c.stack_steps-steps.result ≤ start.args.counts.values) =
-    let a = start.args in
+    let lists : HaveLists c.args.work.now c.args.counts.listed c.args.counts.values =
+    lists_of c.requires.1 in
+    let steps-short : (c.stack_steps-steps.result ≤ c.in-Bits.count) × (c.stack_steps-steps.result ≤ c.args.counts.values) =
+    let a = c.args in
     steps_within _ _ a.pairs.now _ _ a.counts.pairs a.counts.ghosts lists _ bits _ steps_are in
     let built = c in
     let steps = built in
@@ -110,74 +110,74 @@ returns-then-steps-count c =
 
 pub overflow_sub-value : goal.overflow_sub-value
 overflow_sub-value c =
-    let bits : Counted start.args.path.now c.in-Bits.count =
+    let bits : Counted c.args.path.now c.in-Bits.count =
     counted_some _ _ (sym c.in-Bits.is ∙ c.path_bits.ensures) in
-    let steps_are : c.stack_steps-steps.result ≡ down bits.bits start.args.counts.values =
+    let steps_are : c.stack_steps-steps.result ≡ down bits.bits c.args.counts.values =
     let q = bits in c.stack_steps-steps.ensures q.bits q.is q.long in
-    let lists : HaveLists start.args.work.now start.args.counts.listed start.args.counts.values =
-    lists_of start.requires.1 in
-    let steps-short : (c.stack_steps-steps.result ≤ c.in-Bits.count) × (c.stack_steps-steps.result ≤ start.args.counts.values) =
-    let a = start.args in
+    let lists : HaveLists c.args.work.now c.args.counts.listed c.args.counts.values =
+    lists_of c.requires.1 in
+    let steps-short : (c.stack_steps-steps.result ≤ c.in-Bits.count) × (c.stack_steps-steps.result ≤ c.args.counts.values) =
+    let a = c.args in
     steps_within _ _ a.pairs.now _ _ a.counts.pairs a.counts.ghosts lists _ bits _ steps_are in
     omega (arith, steps-short.1, c.if-steps-values.false)
 
 pub overflow_sub-value-2 : goal.overflow_sub-value-2
 overflow_sub-value-2 c =
-    let bits : Counted start.args.path.now c.in-Bits.count =
+    let bits : Counted c.args.path.now c.in-Bits.count =
     counted_some _ _ (sym c.in-Bits.is ∙ c.path_bits.ensures) in
-    let steps_are : c.stack_steps-steps.result ≡ down bits.bits start.args.counts.values =
+    let steps_are : c.stack_steps-steps.result ≡ down bits.bits c.args.counts.values =
     let q = bits in c.stack_steps-steps.ensures q.bits q.is q.long in
-    let lists : HaveLists start.args.work.now start.args.counts.listed start.args.counts.values =
-    lists_of start.requires.1 in
-    let steps-short : (c.stack_steps-steps.result ≤ c.in-Bits.count) × (c.stack_steps-steps.result ≤ start.args.counts.values) =
-    let a = start.args in
+    let lists : HaveLists c.args.work.now c.args.counts.listed c.args.counts.values =
+    lists_of c.requires.1 in
+    let steps-short : (c.stack_steps-steps.result ≤ c.in-Bits.count) × (c.stack_steps-steps.result ≤ c.args.counts.values) =
+    let a = c.args in
     steps_within _ _ a.pairs.now _ _ a.counts.pairs a.counts.ghosts lists _ bits _ steps_are in
     omega (arith, steps-short.1, c.if-steps-values.false)
 
 pub overflow_add-steps : goal.overflow_add-steps
 overflow_add-steps c =
-    let bits : Counted start.args.path.now c.in-Bits.count =
+    let bits : Counted c.args.path.now c.in-Bits.count =
     counted_some _ _ (sym c.in-Bits.is ∙ c.path_bits.ensures) in
-    let steps_are : c.stack_steps-steps.result ≡ down bits.bits start.args.counts.values =
+    let steps_are : c.stack_steps-steps.result ≡ down bits.bits c.args.counts.values =
     let q = bits in c.stack_steps-steps.ensures q.bits q.is q.long in
-    let lists : HaveLists start.args.work.now start.args.counts.listed start.args.counts.values =
-    lists_of start.requires.1 in
-    let steps-short : (c.stack_steps-steps.result ≤ c.in-Bits.count) × (c.stack_steps-steps.result ≤ start.args.counts.values) =
-    let a = start.args in
+    let lists : HaveLists c.args.work.now c.args.counts.listed c.args.counts.values =
+    lists_of c.requires.1 in
+    let steps-short : (c.stack_steps-steps.result ≤ c.in-Bits.count) × (c.stack_steps-steps.result ≤ c.args.counts.values) =
+    let a = c.args in
     steps_within _ _ a.pairs.now _ _ a.counts.pairs a.counts.ghosts lists _ bits _ steps_are in
-    let steps = c in omega (arith, steps-short.1, c.requires.1.room.few)
+    let steps = c in omega (arith, steps-short.1, steps.requires.1.room.few)
 
 pub walk_bits-w-requires-2 : goal.walk_bits-w-requires-2
 walk_bits-w-requires-2 c =
-    let bits : Counted start.args.path.now c.in-Bits.count =
+    let bits : Counted c.args.path.now c.in-Bits.count =
     counted_some _ _ (sym c.in-Bits.is ∙ c.path_bits.ensures) in
-    let steps_are : c.stack_steps-steps.result ≡ down bits.bits start.args.counts.values =
+    let steps_are : c.stack_steps-steps.result ≡ down bits.bits c.args.counts.values =
     let q = bits in c.stack_steps-steps.ensures q.bits q.is q.long in
-    let lists : HaveLists start.args.work.now start.args.counts.listed start.args.counts.values =
-    lists_of start.requires.1 in
-    let steps-short : (c.stack_steps-steps.result ≤ c.in-Bits.count) × (c.stack_steps-steps.result ≤ start.args.counts.values) =
-    let a = start.args in
+    let lists : HaveLists c.args.work.now c.args.counts.listed c.args.counts.values =
+    lists_of c.requires.1 in
+    let steps-short : (c.stack_steps-steps.result ≤ c.in-Bits.count) × (c.stack_steps-steps.result ≤ c.args.counts.values) =
+    let a = c.args in
     steps_within _ _ a.pairs.now _ _ a.counts.pairs a.counts.ghosts lists _ bits _ steps_are in
-    let count-short : c.in-Bits.count ≤ 8 * length start.args.path.now =
+    let count-short : c.in-Bits.count ≤ 8 * length c.args.path.now =
     let small = c.type_inv.path in
-    count_within _ _ (all_of (λ (n : ℕ). n < 256) start.args.path.now 0 (λ i l. omega (arith, small i))) bits in
+    count_within _ _ (all_of (λ (n : ℕ). n < 256) c.args.path.now 0 (λ i l. omega (arith, small i))) bits in
     let steps = c in
     let short = steps-short in (
       omega (arith, short.0, c.if-steps-count.false),
       count-short,
-      value_reachable _ _ _ _ _ _ c.requires.1 _ (omega (arith, short.1, c.if-steps-values.false)),
+      value_reachable _ _ _ _ _ _ steps.requires.1 _ (omega (arith, short.1, c.if-steps-values.false)),
     )
 
 pub returns : goal.returns
 returns c =
-    let bits : Counted start.args.path.now c.in-Bits.count =
+    let bits : Counted c.args.path.now c.in-Bits.count =
     counted_some _ _ (sym c.in-Bits.is ∙ c.path_bits.ensures) in
-    let steps_are : c.stack_steps-steps.result ≡ down bits.bits start.args.counts.values =
+    let steps_are : c.stack_steps-steps.result ≡ down bits.bits c.args.counts.values =
     let q = bits in c.stack_steps-steps.ensures q.bits q.is q.long in
-    let lists : HaveLists start.args.work.now start.args.counts.listed start.args.counts.values =
-    lists_of start.requires.1 in
-    let steps-short : (c.stack_steps-steps.result ≤ c.in-Bits.count) × (c.stack_steps-steps.result ≤ start.args.counts.values) =
-    let a = start.args in
+    let lists : HaveLists c.args.work.now c.args.counts.listed c.args.counts.values =
+    lists_of c.requires.1 in
+    let steps-short : (c.stack_steps-steps.result ≤ c.in-Bits.count) × (c.stack_steps-steps.result ≤ c.args.counts.values) =
+    let a = c.args in
     steps_within _ _ a.pairs.now _ _ a.counts.pairs a.counts.ghosts lists _ bits _ steps_are in
     let steps = c in
     let q = bits in

@@ -17,9 +17,9 @@ returns-then-not-is_marked c = λ h named.
 
 pub returns-then-len-lt-MIN_SERIALIZED_LENGTH : goal.returns-then-len-lt-MIN_SERIALIZED_LENGTH
 returns-then-len-lt-MIN_SERIALIZED_LENGTH c =
-    let marked : marked_at start.args.work.now start.args.e.0 ≡ true =
+    let marked : marked_at c.args.work.now c.args.e.0 ≡ true =
     sym c.is_marked.ensures ∙ not-false c.is_marked.result c.if-not-is_marked.false in
-    λ h named. let x = c in finds_short named c.requires.3 marked x.length_at-len.ensures c.if-len-lt-MIN_SERIALIZED_LENGTH.true
+    λ h named. let x = c in finds_short named x.requires.3 marked x.length_at-len.ensures c.if-len-lt-MIN_SERIALIZED_LENGTH.true
 
 pub find_path-requires : goal.find_path-requires
 find_path-requires c =
@@ -28,10 +28,10 @@ find_path-requires c =
 
 pub returns : goal.returns
 returns c =
-    let marked : marked_at start.args.work.now start.args.e.0 ≡ true =
+    let marked : marked_at c.args.work.now c.args.e.0 ≡ true =
     sym c.is_marked.ensures ∙ not-false c.is_marked.result c.if-not-is_marked.false in
     λ h named.
     let x = c in
-    let s = c in
+    let s = x in
     finds_path s.pre.0.sound named s.pre.3 marked x.length_at-len.ensures
     c.if-len-lt-MIN_SERIALIZED_LENGTH.false c.find_path.ensures

@@ -9,7 +9,7 @@ use Rattle.search_list.proofs.size_of.Goals as goal
 pub overflow_add-result : goal.overflow_add-result
 overflow_add-result c =
     let b = c in
-    omega (arith, b.type_inv.work (LENS + b.wide-a.result), b.wide-b.ensures, c.wide-x.ensures, c.extra_of.type-inv)
+    omega (arith, b.type_inv.work (LENS + b.wide-a.result), b.wide-b.ensures, c.wide-x.ensures, c.extra_of.type_inv)
 
 pub returns : goal.returns
 returns c =

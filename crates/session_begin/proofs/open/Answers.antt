@@ -36,7 +36,7 @@ bounds-work-8194 c =
     simp length-set (omega (arith, c.load_firsts.auto.work, long))
 
 pub shape_of-work : goal.shape_of-work
-shape_of-work c = simp length-set (omega (arith, c.load_firsts.auto.work, c.load-places.auto.1.0))
+shape_of-work c = simp length-set (omega (arith, c.load_firsts.auto.work, c.load_places.auto.tables))
 
 pub returns : goal.returns
 returns c =

@@ -14,10 +14,10 @@ use Rattle.session_state.proofs.Slots.{slot_of_next, slot_told}
 use Rattle.session_state.proofs.slot_of.Goals as goal
 
 -- No quote is open, and the next step is q.
-told : (x : goal.After-next_step) (k : ℕ) (q : NextStep) → x.next_step.result ≡ q → let a = (to_start x).args in
+told : (x : goal.After-next_step) (k : ℕ) (q : NextStep) → x.next_step.result ≡ q → let a = x.args in
     k ≡ slot_of_next q a.p.adds → (ss : List Step) → StepsAt a.file.now a.p.at ss → k ≡ slot_for a.p.quoted ss a.p.adds
 told x k q e m =
-    let a = (to_start x).args in
+    let a = x.args in
     slot_told a.file.now a.p.at a.p.adds k x.next_step.result q (StepsAt a.file.now a.p.at) x.next_step.ensures.first_step e m
     a.p.quoted x.if-p.false
 

@@ -18,7 +18,7 @@ add-q-requires c =
     let free : let p = c.args.p in (p.finished ≡ false) × (p.adds < 16) =
     answers.not-asked c.args.p c.question-number.ensures c.if-number-ne0.false in
     let test = c in
-    let s = c in
+    let s = test in
     answers.add-asks s.pre.0 s.pre.1 s.args.quotes s.args.node s.args.next s.pre.2 free
 
 pub returns-then-q : goal.returns-then-q
@@ -26,7 +26,7 @@ returns-then-q c =
     let free : let p = c.args.p in (p.finished ≡ false) × (p.adds < 16) =
     answers.not-asked c.args.p c.question-number.ensures c.if-number-ne0.false in
     let added = c in
-    let s = to_start in
+    let s = added in
     answers.adds-off s.pre.0 s.pre.1 s.args.quotes s.args.node s.args.next s.pre.2 free added.add-q.ensures _
     c.if-q.true c.refusal_of-state.ensures
 
@@ -35,7 +35,7 @@ note-requires c =
     let free : let p = c.args.p in (p.finished ≡ false) × (p.adds < 16) =
     answers.not-asked c.args.p c.question-number.ensures c.if-number-ne0.false in
     let added = c in
-    let s = to_start in
+    let s = added in
     answers.note-asks s.pre.0 s.pre.1 s.args.quotes s.args.node s.args.next s.pre.2 free added.add-q.ensures
     c.if-q.false c.with_quote-kept.ensures
 
@@ -47,6 +47,6 @@ returns c =
     let kept = c in
     let on = kept in
     let added = on in
-    let s = to_start in
+    let s = added in
     answers.adds_on s.pre.0 s.pre.1 s.args.quotes s.args.node s.args.next s.pre.2 free added.add-q.ensures
     added.record_of-saved.ensures on.if-q.false kept.with_quote-kept.ensures note.ensures.0 note.ensures.1

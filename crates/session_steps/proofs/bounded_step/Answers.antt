@@ -5,12 +5,12 @@ use Rattle.session_steps.proofs.Bounds.{used_many, used_ready, used_onward}
 use Rattle.session_steps.proofs.bounded_step.Goals as goal
 
 pub slice_bounds-core_step-end-2 : goal.slice_bounds-core_step-end-2
-slice_bounds-core_step-end-2 c = let known = c in used_many c.args.output.now known.space_of-space.ensures
+slice_bounds-core_step-end-2 c = let known = c in used_many known.args.output.now known.space_of-space.ensures
 
 pub core_step-requires : goal.core_step-requires
 core_step-requires c =
     let known = c in
-    let s = c in
+    let s = known in
     used_ready s.args.output.now known.space_of-space.ensures s.pre
 
 pub returns : goal.returns
@@ -18,5 +18,5 @@ returns c =
     let stepped = c in
     let cs = stepped.core_step in
     let known = stepped in
-    let s = c in
+    let s = known in
     used_onward s.args.output.now known.space_of-space.ensures s.pre cs.new.work cs.new.words cs.new.output cs.result cs.auto.output cs.ensures

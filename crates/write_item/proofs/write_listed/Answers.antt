@@ -13,15 +13,15 @@ use Rattle.write_item.proofs.write_listed.Goals as goal
 -- The atom was put there, and its prefix has the width that is told.
 module _ (x : goal.In-Next-2) where
   there : record { answer = next x.in-Next.next; output = x.write_atom.new.output }
-      ≡ put (start x).args.output.now (start x).args.counts.size (some (item_bytes (atom_item (start x).args.blob.now)))
+      ≡ put x.args.output.now x.args.counts.size (some (item_bytes (atom_item x.args.blob.now)))
   there =
       let w = x.write_atom in
-      let s = start x in
+      let s = x in
       put_atom s.args.output.now s.args.counts.size s.args.blob.now s.pre.1 _
       (sym (ap (λ r. answers.written r w.new.output) x.in-Next.is) ∙ w.ensures.0)
 
-  told : item_prefix (atom_item (start x).args.blob.now) ≡ x.in-Next.width
-  told = ap width_or_0 (subst (answers.WidthTold (start x).args.blob.now) x.in-Next.is x.write_atom.ensures.1)
+  told : item_prefix (atom_item x.args.blob.now) ≡ x.in-Next.width
+  told = ap width_or_0 (subst (answers.WidthTold x.args.blob.now) x.in-Next.is x.write_atom.ensures.1)
 
 pub with_atom-requires : goal.with_atom-requires
 with_atom-requires c =
@@ -31,7 +31,7 @@ with_atom-requires c =
 pub returns-in-Next : goal.returns-in-Next
 returns-in-Next c =
     let x = c in
-    let s = c in
+    let s = x in
     put_counted s.args.output.now _ s.args.counts (atom_item s.args.blob.now) _ _ (there x) (told x) _ c.with_atom.ensures
 
 pub returns-in-Full : goal.returns-in-Full

@@ -11,30 +11,28 @@ use Rattle.cache_undo.proofs.cache_copy.bring.Goals as goal
 
 pub bring_first_links-requires : goal.bring_first_links-requires
 bring_first_links-requires c =
-    let start : goal.Start =
-    to-entries.before.before.before in
-    let maps-copied : Copied to-off.take-off.new.0 c.copy_within.new.words (copied_maps (start to-off).args.k) MAPS to-off.before.before.wide2.result =
-    let o = to-off in
+    let maps-copied : Copied c.take_off.new.work c.copy_within.new.words (copied_maps start.args.k) MAPS c.wide-pairs.result =
+    let o = c in
     let s = start in
     let b = s.pre.1.1 in
     let m = o.wide-pairs in
     copied _ (copied_maps s.args.k) MAPS m.result (omega (arith, b.sound.long, o.take_off.ensures.len, m.ensures, b.few_pairs))
     (omega (arith, b.sound.long, o.take_off.ensures.len, m.ensures, b.few_pairs)) _ c.copy_within.ensures in
-    let counts-copied : Copied to-maps.copy_within.new.0 c.copy_within-2.new.words (copied_counts (start (to-off to-maps)).args.k) COUNTS (to-entries (to-off to-maps)).wide.result =
-    let m = to-maps in
-    let o = to-off in
+    let counts-copied : Copied c.copy_within.new.words c.copy_within-2.new.words (copied_counts start.args.k) COUNTS c.wide-n.result =
+    let m = c in
+    let o = m in
     let s = start in
     let b = s.pre.1.1 in
-    let n = to-entries.wide in
+    let n = o.wide-n in
     let l = maps-copied.len in
     copied _ (copied_counts s.args.k) COUNTS n.result (omega (arith, b.sound.long, o.take_off.ensures.len, n.ensures, b.copied.used, b.then_sound.used))
     (omega (arith, b.sound.long, o.take_off.ensures.len, n.ensures, b.copied.used, b.then_sound.used)) _ c.copy_within-2.ensures in
     let d = c in
-    let m = c in
-    let o = c in
-    let s = start in
+    let m = d in
+    let o = m in
+    let s = c in
     let b = s.pre.1.1 in
-    let n = c.wide in
+    let n = o.wide-n in
     let l = counts-copied.len ∙ maps-copied.len in (
       omega (arith, b.sound.long, o.take_off.ensures.len),
       omega (arith, n.ensures, b.copied.used, b.then_sound.used),
@@ -44,42 +42,40 @@ bring_first_links-requires c =
 
 pub bring_lists-requires : goal.bring_lists-requires
 bring_lists-requires c =
-    let start : goal.Start =
-    to-entries.before.before.before in
-    let maps-copied : Copied to-off.take-off.new.0 c.copy_within.new.words (copied_maps (start to-off).args.k) MAPS to-off.before.before.wide2.result =
-    let o = to-off in
+    let maps-copied : Copied c.take_off.new.work c.copy_within.new.words (copied_maps start.args.k) MAPS c.wide-pairs.result =
+    let o = c in
     let s = start in
     let b = s.pre.1.1 in
     let m = o.wide-pairs in
     copied _ (copied_maps s.args.k) MAPS m.result (omega (arith, b.sound.long, o.take_off.ensures.len, m.ensures, b.few_pairs))
     (omega (arith, b.sound.long, o.take_off.ensures.len, m.ensures, b.few_pairs)) _ c.copy_within.ensures in
-    let counts-copied : Copied to-maps.copy_within.new.0 c.copy_within-2.new.words (copied_counts (start (to-off to-maps)).args.k) COUNTS (to-entries (to-off to-maps)).wide.result =
-    let m = to-maps in
-    let o = to-off in
+    let counts-copied : Copied c.copy_within.new.words c.copy_within-2.new.words (copied_counts start.args.k) COUNTS c.wide-n.result =
+    let m = c in
+    let o = m in
     let s = start in
     let b = s.pre.1.1 in
-    let n = to-entries.wide in
+    let n = o.wide-n in
     let l = maps-copied.len in
     copied _ (copied_counts s.args.k) COUNTS n.result (omega (arith, b.sound.long, o.take_off.ensures.len, n.ensures, b.copied.used, b.then_sound.used))
     (omega (arith, b.sound.long, o.take_off.ensures.len, n.ensures, b.copied.used, b.then_sound.used)) _ c.copy_within-2.ensures in
-    let firsts-copied : let d = to-counts in
-    let o = to-off to-maps in
-    Copied d.copy_within-2.last.0 c.bring_first_links.new.work (copied_firsts start.args.k) PARENTS to-entries.wide.result =
-    let d = to-counts in
-    let m = to-maps in
-    let o = to-off in
+    let firsts-copied : let d = c in
+    let o = d in
+    Copied d.copy_within-2.last.0 c.bring_first_links.new.work (copied_firsts start.args.k) PARENTS o.wide-n.result =
+    let d = c in
+    let m = d in
+    let o = m in
     let s = start in
     let b = s.pre.1.1 in
-    let n = to-entries.wide in
+    let n = o.wide-n in
     let l = counts-copied.len ∙ maps-copied.len in
     copied _ (copied_firsts s.args.k) PARENTS n.result (omega (arith, b.sound.long, o.take_off.ensures.len, n.ensures, b.copied.used, b.then_sound.used))
     (omega (arith, b.sound.long, o.take_off.ensures.len, n.ensures, b.copied.used, b.then_sound.used)) _ c.bring_first_links.ensures in
     let f = c in
-    let d = c in
-    let m = c in
-    let o = c in
-    let s = start in
-    let n = c.wide in
+    let d = f in
+    let m = d in
+    let o = m in
+    let s = c in
+    let n = o.wide-n in
     lists_asked s.pre.1.0 s.args.work.now _ _ _ _ s.args.k n.result _ s.pre.0 s.pre.1.1 n.ensures o.wide-pairs.ensures
     o.take_off.ensures maps-copied counts-copied
     firsts-copied
@@ -88,11 +84,11 @@ pub returns : goal.returns
 returns c v b =
     let l = c in
     let f = l in
-    let d = to-counts f in
-    let m = to-maps d in
-    let o = to-off m in
+    let d = f in
+    let m = d in
+    let o = m in
     let s = start o in
-    let n = (to-entries o).wide in
+    let n = o.wide-n in
     cache_brought v s.args.work.now _ _ _ _ s.args.k n.result _ s.pre.0 b n.ensures o.wide-pairs.ensures
     o.take_off.ensures (maps-copied m) (counts-copied d) (firsts-copied f) _
     l.bring_lists.ensures

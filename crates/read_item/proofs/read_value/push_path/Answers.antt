@@ -17,32 +17,32 @@ traverse_path_with_vec-requires c =
 
 pub push_node-next-requires : goal.push_node-next-requires
 push_node-next-requires c =
-    let t = c.traverse-path-with-vec in
-    let p = start.requires.0 in
+    let t = c.traverse_path_with_vec in
+    let p = c.requires.0 in
     (omega (arith, p.work, t.kept.1.0), paths.few_values _ _ _ _ p, paths.few_ghosts _ _ _ _ p t.result _ c.in-Node.is t.ensures.1)
 
 pub settle-requires : goal.settle-requires
 settle-requires c =
-    let pushed : Ready c.push_node-next.new.work walk.traverse-path-with-vec.new.1.1.0 c.push_node-next.result
-    × PathPushed start.args.input.now start.args.work.now start.args.pairs.now
-    start.args.r c.push_node-next.new.work walk.traverse-path-with-vec.new.1.1.0 c.push_node-next.result =
-    let walked = walk in
+    let pushed : Ready c.push_node-next.new.work c.traverse_path_with_vec.new.pairs c.push_node-next.result
+    × PathPushed c.args.input.now c.args.work.now c.args.pairs.now
+    c.args.r c.push_node-next.new.work c.traverse_path_with_vec.new.pairs c.push_node-next.result =
+    let walked = c in
     let t = walked.traverse_path_with_vec in
     let q = c.push_node-next in
-    let p = start.pre in
+    let p = walked.pre in
     paths.node_on_top _ _ _ _ p.0 _ _ p.1 _ walked.parse_atom_ptr-path.ensures _ _ _ t.ensures.0
     _ c.in-Node.is t.ensures.1 t.kept.1.0 t.kept.1.1.0 _ q.auto.work q.ensures.0 _ q.ensures.1 in
     let x = pushed in (x.0, x.1.inside)
 
 pub returns-in-Node : goal.returns-in-Node
 returns-in-Node c =
-    let pushed : Ready c.push_node-next.new.work walk.traverse-path-with-vec.new.1.1.0 c.push_node-next.result
-    × PathPushed start.args.input.now start.args.work.now start.args.pairs.now
-    start.args.r c.push_node-next.new.work walk.traverse-path-with-vec.new.1.1.0 c.push_node-next.result =
-    let walked = walk in
+    let pushed : Ready c.push_node-next.new.work c.traverse_path_with_vec.new.pairs c.push_node-next.result
+    × PathPushed c.args.input.now c.args.work.now c.args.pairs.now
+    c.args.r c.push_node-next.new.work c.traverse_path_with_vec.new.pairs c.push_node-next.result =
+    let walked = c in
     let t = walked.traverse_path_with_vec in
     let q = c.push_node-next in
-    let p = start.pre in
+    let p = walked.pre in
     paths.node_on_top _ _ _ _ p.0 _ _ p.1 _ walked.parse_atom_ptr-path.ensures _ _ _ t.ensures.0
     _ c.in-Node.is t.ensures.1 t.kept.1.0 t.kept.1.1.0 _ q.auto.work q.ensures.0 _ q.ensures.1 in
     let settled = c in
@@ -53,5 +53,5 @@ pub returns-in-IntoAtom : goal.returns-in-IntoAtom
 returns-in-IntoAtom c =
     let walked = c in
     let t = walked.traverse_path_with_vec in
-    let p = c.requires in
+    let p = walked.requires in
     paths.path_into_atom _ _ _ _ p.0 _ _ p.1 _ walked.parse_atom_ptr-path.ensures _ _ _ t.ensures.0 c.in-IntoAtom.is

@@ -21,17 +21,17 @@ returns-then-ones-lt8 c =
 pub push_bytes-whole-requires : goal.push_bytes-whole-requires
 push_bytes-whole-requires c =
     let first : ℕ =
-    (start.args.builder.bit_pos + 1) % 8 in
+    (c.args.builder.bit_pos + 1) % 8 in
     let bits : List Bool =
-    built start.args.store.now start.args.builder in
+    built c.args.store.now c.args.builder in
     let full : ℕ =
-    8 * ((start.args.ones - first) / 8) in
+    8 * ((c.args.ones - first) / 8) in
     let ones_first : Holds c.push_number-filled.new.store c.push_number-filled.result (trues first bits) =
     ones_hold first bits (omega arith) c.push_number-filled.ensures in
-    let few : first ≤ start.args.ones =
+    let few : first ≤ c.args.ones =
     omega (arith, c.if-ones-lt8.false) in
     let x = c in
-    let s = c in
+    let s = x in
     let f = x.push_number-filled in (
       f.ensures.sound,
       ones_fits s.args.store.now f.new.store f.result bits first full s.args.ones s.pre.1 f.auto.store ones_first (omega (arith, few)),
@@ -40,21 +40,21 @@ push_bytes-whole-requires c =
 pub push_number-requires-2 : goal.push_number-requires-2
 push_number-requires-2 c =
     let first : ℕ =
-    (start.args.builder.bit_pos + 1) % 8 in
+    (c.args.builder.bit_pos + 1) % 8 in
     let bits : List Bool =
-    built start.args.store.now start.args.builder in
+    built c.args.store.now c.args.builder in
     let full : ℕ =
-    8 * ((start.args.ones - first) / 8) in
+    8 * ((c.args.ones - first) / 8) in
     let ones_first : Holds c.push_number-filled.new.store c.push_number-filled.result (trues first bits) =
     ones_hold first bits (omega arith) c.push_number-filled.ensures in
-    let whole : Holds c.push_bytes-whole.new.store c.push_bytes-whole.result (trues (full + first filled) (bits filled)) =
-    let f = filled in
+    let whole : Holds c.push_bytes-whole.new.store c.push_bytes-whole.result (trues (full + first) bits) =
+    let f = c in
     ones_more bits first full (full + first) ones_first c.push_bytes-whole.ensures refl in
-    let few : first ≤ start.args.ones =
+    let few : first ≤ c.args.ones =
     omega (arith, c.if-ones-lt8.false) in
     let w = c in
-    let x = c in
-    let s = c in
+    let x = w in
+    let s = x in
     let b = w.push_bytes-whole in (
       b.ensures.sound,
       ones_fits s.args.store.now b.new.store b.result bits (full + first) ((s.args.ones - first) % 8) s.args.ones s.pre.1
@@ -64,20 +64,20 @@ push_number-requires-2 c =
 pub returns : goal.returns
 returns c =
     let first : ℕ =
-    (start.args.builder.bit_pos + 1) % 8 in
+    (c.args.builder.bit_pos + 1) % 8 in
     let bits : List Bool =
-    built start.args.store.now start.args.builder in
+    built c.args.store.now c.args.builder in
     let full : ℕ =
-    8 * ((start.args.ones - first) / 8) in
+    8 * ((c.args.ones - first) / 8) in
     let ones_first : Holds c.push_number-filled.new.store c.push_number-filled.result (trues first bits) =
     ones_hold first bits (omega arith) c.push_number-filled.ensures in
-    let whole : Holds c.push_bytes-whole.new.store c.push_bytes-whole.result (trues (full + first filled) (bits filled)) =
-    let f = filled in
+    let whole : Holds c.push_bytes-whole.new.store c.push_bytes-whole.result (trues (full + first) bits) =
+    let f = c in
     ones_more bits first full (full + first) ones_first c.push_bytes-whole.ensures refl in
-    let few : first ≤ start.args.ones =
+    let few : first ≤ c.args.ones =
     omega (arith, c.if-ones-lt8.false) in
     let w = c in
-    let x = c in
-    let n = c.args.ones in
+    let x = w in
+    let n = x.args.ones in
     ones_more bits (full + first) ((n - first) % 8) n whole
     (ones_hold ((n - first) % 8) (built w.push_bytes-whole.new.store w.push_bytes-whole.result) (omega arith) c.push_number-2.ensures) (omega (arith, few))

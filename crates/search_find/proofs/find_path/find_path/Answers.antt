@@ -16,15 +16,15 @@ use Rattle.search_find.proofs.find_path.find_path.Goals as goal
 
 pub size_of-requires : goal.size_of-requires
 size_of-requires c =
-    let found : Finds start.args.work.now c.search.new.work start.args.depth start.args.len start.args.e.0 (By c.in-By.i) =
+    let found : Finds c.args.work.now c.search.new.work c.args.depth c.args.len c.args.e.0 (By c.in-By.i) =
     rw c.in-By.is at c.search.ensures in
     let x = c in
     let u = found.usable in
-    (omega (arith, x.search.auto.work, c.requires.0.long), u.slot, u.chain.few)
+    (omega (arith, x.search.auto.work, x.requires.0.long), u.slot, u.chain.few)
 
 pub measured_bits-requires : goal.measured_bits-requires
 measured_bits-requires c =
-    let found : Finds start.args.work.now c.search.new.work start.args.depth start.args.len start.args.e.0 (By c.in-By.i) =
+    let found : Finds c.args.work.now c.search.new.work c.args.depth c.args.len c.args.e.0 (By c.in-By.i) =
     rw c.in-By.is at c.search.ensures in
     let u = found.usable in omega (arith, c.size_of.ensures, u.short, u.extra)
 
@@ -32,11 +32,11 @@ pub returns-then-measured_bits-len : goal.returns-then-measured_bits-len
 returns-then-measured_bits-len c =
     let there : List Bool =
     path_at c.search.new.work c.in-By.i in
-    let found : Finds start.args.work.now c.search.new.work start.args.depth start.args.len start.args.e.0 (By c.in-By.i) =
+    let found : Finds c.args.work.now c.search.new.work c.args.depth c.args.len c.args.e.0 (By c.in-By.i) =
     rw c.in-By.is at c.search.ensures in
     let sized : c.size_of.result ≡ length there =
     c.size_of.ensures ∙ readable_size c.search.new.work _ found.usable in
-    let measured : c.measured_bits.result ≡ measure_of start.args.measure there =
+    let measured : c.measured_bits.result ≡ measure_of c.args.measure there =
     c.measured_bits.ensures _ sized (path_ends found) in
     path_used found measured c.if-measured_bits-len.true
 
@@ -44,11 +44,11 @@ pub returns-else-measured_bits-len : goal.returns-else-measured_bits-len
 returns-else-measured_bits-len c =
     let there : List Bool =
     path_at c.search.new.work c.in-By.i in
-    let found : Finds start.args.work.now c.search.new.work start.args.depth start.args.len start.args.e.0 (By c.in-By.i) =
+    let found : Finds c.args.work.now c.search.new.work c.args.depth c.args.len c.args.e.0 (By c.in-By.i) =
     rw c.in-By.is at c.search.ensures in
     let sized : c.size_of.result ≡ length there =
     c.size_of.ensures ∙ readable_size c.search.new.work _ found.usable in
-    let measured : c.measured_bits.result ≡ measure_of start.args.measure there =
+    let measured : c.measured_bits.result ≡ measure_of c.args.measure there =
     c.measured_bits.ensures _ sized (path_ends found) in
     path_long found measured c.if-measured_bits-len.false
 

@@ -8,9 +8,9 @@ use Rattle.search_list.proofs.search_moves.go_off.Goals as goal
 
 pub overflow_sub-last : goal.overflow_sub-last
 overflow_sub-last c =
-    let off : Off start.args.work.now c.add_stacked-last.new.work start.args.slot start.args.s.paths start.args.s.nodes start.args.e.0
-    start.args.s.depth c.add_stacked-last.result =
-    let p = start.requires in
+    let off : Off c.args.work.now c.add_stacked-last.new.work c.args.slot c.args.s.paths c.args.s.nodes c.args.e.0
+    c.args.s.depth c.add_stacked-last.result =
+    let p = c.requires in
     record {
       long = p.0.0.long;
       nodes = p.0.2;
@@ -19,13 +19,13 @@ overflow_sub-last c =
       list = c.add_stacked-last.ensures;
       len = c.add_stacked-last.auto.work;
     } in
-    let x = c in omega (arith, (off_count off).0, c.requires.1.0)
+    let x = c in omega (arith, (off_count off).0, x.requires.slot_lt_paths.0)
 
 pub drop_path-requires : goal.drop_path-requires
 drop_path-requires c =
-    let off : Off start.args.work.now c.add_stacked-last.new.work start.args.slot start.args.s.paths start.args.s.nodes start.args.e.0
-    start.args.s.depth c.add_stacked-last.result =
-    let p = start.requires in
+    let off : Off c.args.work.now c.add_stacked-last.new.work c.args.slot c.args.s.paths c.args.s.nodes c.args.e.0
+    c.args.s.depth c.add_stacked-last.result =
+    let p = c.requires in
     record {
       long = p.0.0.long;
       nodes = p.0.2;
@@ -41,9 +41,9 @@ shape_of-work c = c.drop_path.auto.work ∙ c.add_stacked-last.auto.work
 
 pub returns : goal.returns
 returns c =
-    let off : Off start.args.work.now c.add_stacked-last.new.work start.args.slot start.args.s.paths start.args.s.nodes start.args.e.0
-    start.args.s.depth c.add_stacked-last.result =
-    let p = start.requires in
+    let off : Off c.args.work.now c.add_stacked-last.new.work c.args.slot c.args.s.paths c.args.s.nodes c.args.e.0
+    c.args.s.depth c.add_stacked-last.result =
+    let p = c.requires in
     record {
       long = p.0.0.long;
       nodes = p.0.2;

@@ -7,9 +7,9 @@ use Rattle.search_list.proofs.search_moves.go_up.Goals as goal
 
 pub add_copies-requires : goal.add_copies-requires
 add_copies-requires c =
-    let up : Up start.args.work.now c.put_at_entry.new.work start.args.slot start.args.s.paths start.args.s.nodes start.args.e.0
-    start.args.k.place start.args.s.depth start.args.k.parent.0 start.args.k.all =
-    let p = start.requires in
+    let up : Up c.args.work.now c.put_at_entry.new.work c.args.slot c.args.s.paths c.args.s.nodes c.args.e.0
+    c.args.k.place c.args.s.depth c.args.k.parent.0 c.args.k.all =
+    let p = c.requires in
     record {
       links = p.0.0;
       tops = p.0.1;
@@ -29,9 +29,9 @@ add_copies-requires c =
 
 pub add_stacked-requires : goal.add_stacked-requires
 add_stacked-requires c =
-    let up : Up start.args.work.now c.put_at_entry.new.work start.args.slot start.args.s.paths start.args.s.nodes start.args.e.0
-    start.args.k.place start.args.s.depth start.args.k.parent.0 start.args.k.all =
-    let p = start.requires in
+    let up : Up c.args.work.now c.put_at_entry.new.work c.args.slot c.args.s.paths c.args.s.nodes c.args.e.0
+    c.args.k.place c.args.s.depth c.args.k.parent.0 c.args.k.all =
+    let p = c.requires in
     record {
       links = p.0.0;
       tops = p.0.1;
@@ -57,9 +57,9 @@ shape_of-work c =
 
 pub returns : goal.returns
 returns c =
-    let up : Up start.args.work.now c.put_at_entry.new.work start.args.slot start.args.s.paths start.args.s.nodes start.args.e.0
-    start.args.k.place start.args.s.depth start.args.k.parent.0 start.args.k.all =
-    let p = start.requires in
+    let up : Up c.args.work.now c.put_at_entry.new.work c.args.slot c.args.s.paths c.args.s.nodes c.args.e.0
+    c.args.k.place c.args.s.depth c.args.k.parent.0 c.args.k.all =
+    let p = c.requires in
     record {
       links = p.0.0;
       tops = p.0.1;

@@ -10,9 +10,9 @@ use Rattle.search_passes.proofs.search_visit.step_entry.Goals as goal
 
 pub is_seen-requires : goal.is_seen-requires
 is_seen-requires c =
-    let there : At_entry start.args.work.now start.args.s.depth start.args.slot start.args.s.paths start.args.s.nodes
+    let there : At_entry c.args.work.now c.args.s.depth c.args.slot c.args.s.paths c.args.s.nodes
     c.entry_of.result.0 =
-    let p = start.requires in
+    let p = c.requires in
     record {
       here = record { ok = p.0; slot = p.1 };
       none = p.2;
@@ -23,7 +23,7 @@ is_seen-requires c =
 pub drop_path-requires : goal.drop_path-requires
 drop_path-requires c =
     let x = c in
-    let s = c in
+    let s = x in
     let a = s.args in
     let e : a.s.paths - 1 + 1 ≡ a.s.paths = omega (arith, s.pre.1) in
     let p = subst (λ (k : ℕ). PathsOK a.work.now a.s.nodes k) (sym e) s.pre.0.paths in
@@ -31,9 +31,9 @@ drop_path-requires c =
 
 pub returns-then-is_seen : goal.returns-then-is_seen
 returns-then-is_seen c =
-    let there : At_entry start.args.work.now start.args.s.depth start.args.slot start.args.s.paths start.args.s.nodes
+    let there : At_entry c.args.work.now c.args.s.depth c.args.slot c.args.s.paths c.args.s.nodes
     c.entry_of.result.0 =
-    let p = start.requires in
+    let p = c.requires in
     record {
       here = record { ok = p.0; slot = p.1 };
       none = p.2;
@@ -45,9 +45,9 @@ returns-then-is_seen c =
 
 pub returns-then-s-eq-MOST_VISITS : goal.returns-then-s-eq-MOST_VISITS
 returns-then-s-eq-MOST_VISITS c =
-    let there : At_entry start.args.work.now start.args.s.depth start.args.slot start.args.s.paths start.args.s.nodes
+    let there : At_entry c.args.work.now c.args.s.depth c.args.slot c.args.s.paths c.args.s.nodes
     c.entry_of.result.0 =
-    let p = start.requires in
+    let p = c.requires in
     record {
       here = record { ok = p.0; slot = p.1 };
       none = p.2;
@@ -58,9 +58,9 @@ returns-then-s-eq-MOST_VISITS c =
 
 pub visit-requires : goal.visit-requires
 visit-requires c =
-    let there : At_entry start.args.work.now start.args.s.depth start.args.slot start.args.s.paths start.args.s.nodes
+    let there : At_entry c.args.work.now c.args.s.depth c.args.slot c.args.s.paths c.args.s.nodes
     c.entry_of.result.0 =
-    let p = start.requires in
+    let p = c.requires in
     record {
       here = record { ok = p.0; slot = p.1 };
       none = p.2;
@@ -68,6 +68,6 @@ visit-requires c =
     } in
     let x = c in
     let t = there in
-    let p = c.requires in
+    let p = x.requires in
     let new = rw t.is at (sym c.if-is_seen.false ∙ x.is_seen.ensures) in
     (p.0, p.1, p.2, new, omega (arith, c.if-s-eq-MOST_VISITS.false, p.0.nodes.few))

@@ -17,13 +17,13 @@ pub first_unseen-k-requires : goal.first_unseen-k-requires
 first_unseen-k-requires c =
     let here : Here c.args.work.now c.args.s.depth c.args.slot c.args.s.paths c.args.s.nodes =
     record { ok = c.requires.0; slot = c.requires.1 } in
-    let visiting : Visiting start.args.work.now c.add_node.new.work start.args.s.depth start.args.slot start.args.s.paths
-    start.args.s.nodes c.entry_of-e.result.0 =
-    let p = start.requires in
+    let visiting : Visiting c.args.work.now c.add_node.new.work c.args.s.depth c.args.slot c.args.s.paths
+    c.args.s.nodes c.entry_of-e.result.0 =
+    let p = c.requires in
     let e = c.entry_of-e.ensures in
     record {
-      from = record { here = here start; none = p.2; is = e };
-      new = p.3 ∙ ap (seen_at start.args.work.now) (sym e);
+      from = record { here = here; none = p.2; is = e };
+      new = p.3 ∙ ap (seen_at c.args.work.now) (sym e);
       more = p.4;
       made = c.add_node.ensures;
       len = c.add_node.auto.work;
@@ -34,13 +34,13 @@ pub go_up-paths-requires : goal.go_up-paths-requires
 go_up-paths-requires c =
     let here : Here c.args.work.now c.args.s.depth c.args.slot c.args.s.paths c.args.s.nodes =
     record { ok = c.requires.0; slot = c.requires.1 } in
-    let visiting : Visiting start.args.work.now c.add_node.new.work start.args.s.depth start.args.slot start.args.s.paths
-    start.args.s.nodes c.entry_of-e.result.0 =
-    let p = start.requires in
+    let visiting : Visiting c.args.work.now c.add_node.new.work c.args.s.depth c.args.slot c.args.s.paths
+    c.args.s.nodes c.entry_of-e.result.0 =
+    let p = c.requires in
     let e = c.entry_of-e.ensures in
     record {
-      from = record { here = here start; none = p.2; is = e };
-      new = p.3 ∙ ap (seen_at start.args.work.now) (sym e);
+      from = record { here = here; none = p.2; is = e };
+      new = p.3 ∙ ap (seen_at c.args.work.now) (sym e);
       more = p.4;
       made = c.add_node.ensures;
       len = c.add_node.auto.work;
@@ -58,13 +58,13 @@ pub returns-then-k : goal.returns-then-k
 returns-then-k c =
     let here : Here c.args.work.now c.args.s.depth c.args.slot c.args.s.paths c.args.s.nodes =
     record { ok = c.requires.0; slot = c.requires.1 } in
-    let visiting : Visiting start.args.work.now c.add_node.new.work start.args.s.depth start.args.slot start.args.s.paths
-    start.args.s.nodes c.entry_of-e.result.0 =
-    let p = start.requires in
+    let visiting : Visiting c.args.work.now c.add_node.new.work c.args.s.depth c.args.slot c.args.s.paths
+    c.args.s.nodes c.entry_of-e.result.0 =
+    let p = c.requires in
     let e = c.entry_of-e.ensures in
     record {
-      from = record { here = here start; none = p.2; is = e };
-      new = p.3 ∙ ap (seen_at start.args.work.now) (sym e);
+      from = record { here = here; none = p.2; is = e };
+      new = p.3 ∙ ap (seen_at c.args.work.now) (sym e);
       more = p.4;
       made = c.add_node.ensures;
       len = c.add_node.auto.work;
@@ -77,13 +77,13 @@ pub go_off-paths-requires : goal.go_off-paths-requires
 go_off-paths-requires c =
     let here : Here c.args.work.now c.args.s.depth c.args.slot c.args.s.paths c.args.s.nodes =
     record { ok = c.requires.0; slot = c.requires.1 } in
-    let visiting : Visiting start.args.work.now c.add_node.new.work start.args.s.depth start.args.slot start.args.s.paths
-    start.args.s.nodes c.entry_of-e.result.0 =
-    let p = start.requires in
+    let visiting : Visiting c.args.work.now c.add_node.new.work c.args.s.depth c.args.slot c.args.s.paths
+    c.args.s.nodes c.entry_of-e.result.0 =
+    let p = c.requires in
     let e = c.entry_of-e.ensures in
     record {
-      from = record { here = here start; none = p.2; is = e };
-      new = p.3 ∙ ap (seen_at start.args.work.now) (sym e);
+      from = record { here = here; none = p.2; is = e };
+      new = p.3 ∙ ap (seen_at c.args.work.now) (sym e);
       more = p.4;
       made = c.add_node.ensures;
       len = c.add_node.auto.work;
@@ -100,13 +100,13 @@ pub returns : goal.returns
 returns c =
     let here : Here c.args.work.now c.args.s.depth c.args.slot c.args.s.paths c.args.s.nodes =
     record { ok = c.requires.0; slot = c.requires.1 } in
-    let visiting : Visiting start.args.work.now c.add_node.new.work start.args.s.depth start.args.slot start.args.s.paths
-    start.args.s.nodes c.entry_of-e.result.0 =
-    let p = start.requires in
+    let visiting : Visiting c.args.work.now c.add_node.new.work c.args.s.depth c.args.slot c.args.s.paths
+    c.args.s.nodes c.entry_of-e.result.0 =
+    let p = c.requires in
     let e = c.entry_of-e.ensures in
     record {
-      from = record { here = here start; none = p.2; is = e };
-      new = p.3 ∙ ap (seen_at start.args.work.now) (sym e);
+      from = record { here = here; none = p.2; is = e };
+      new = p.3 ∙ ap (seen_at c.args.work.now) (sym e);
       more = p.4;
       made = c.add_node.ensures;
       len = c.add_node.auto.work;

@@ -7,7 +7,7 @@ use Rattle.session_steps.proofs.undo_step.undo.Goals as goal
 pub restore-requires : goal.restore-requires
 restore-requires c =
     let br = c in
-    let s = c in
+    let s = br in
     restore_asks s.args.forgets s.pre br.bring_cache.auto.work br.bring_cache.ensures
 
 pub returns : goal.returns

@@ -13,27 +13,27 @@ returns-then-n-p c =
 
 pub undo-requires : goal.undo-requires
 undo-requires c =
-    let few : to_start.args.number < to_start.args.p.adds =
+    let few : c.args.number < c.args.p.adds =
     omega (arith, c.if-n-p) in
     let s = c in
     answers.undo-asks s.pre.0 s.pre.1 s.args.forgets s.args.number s.args.next s.pre.2 few
 
 pub note-requires : goal.note-requires
 note-requires c =
-    let few : to_start.args.number < to_start.args.p.adds =
+    let few : c.args.number < c.args.p.adds =
     omega (arith, c.if-n-p) in
     let test = c in
-    let s = c in
+    let s = test in
     answers.undo-note-asks s.pre.0 s.pre.1 s.args.forgets s.args.number s.args.next s.pre.2 few c.undone-q.ensures
 
 pub returns : goal.returns
 returns c =
-    let few : to_start.args.number < to_start.args.p.adds =
+    let few : c.args.number < c.args.p.adds =
     omega (arith, c.if-n-p) in
     let no = c.note in
     let undone = c in
     let un = undone.undo in
     let test = undone in
-    let s = c in
+    let s = test in
     answers.undoes-on s.pre.0 s.pre.1 s.args.forgets s.args.number s.args.next s.pre.2 few un.auto.work un.ensures
     undone.undone-q.ensures no.ensures.0 no.ensures.1
