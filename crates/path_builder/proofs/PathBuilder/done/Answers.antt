@@ -17,7 +17,7 @@ returns-then-place-eq7 c =
 pub returns : goal.returns
 returns c =
     let bytes : Bytes c.args.store.now =
-    all_of (λ (n : ℕ). n < 256) c.args.store.now 0 (λ i l. omega (arith, c.type_inv.store i)) in
+    all_of (λ (n : ℕ). n < 256) c.args.store.now 0 (λ i l. omega (arith, c.slice_known-1.given i)) in
     let w = c in
     let o = w in
     let a = c.right_align in

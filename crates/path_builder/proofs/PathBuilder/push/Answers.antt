@@ -11,7 +11,7 @@ use Rattle.path_builder.proofs.PathBuilder.push.Goals as goal
 pub push_bit-p-requires : goal.push_bit-p-requires
 push_bit-p-requires c =
     let bytes : Bytes c.args.store.now =
-    all_of (λ (n : ℕ). n < 256) c.args.store.now 0 (λ i l. omega (arith, c.type_inv.store i)) in
+    all_of (λ (n : ℕ). n < 256) c.args.store.now 0 (λ i l. omega (arith, c.slice_known-1.given i)) in
     let o = c in
     let b = right o.args.dir in (
       o.requires.0.counts.place,
@@ -25,7 +25,7 @@ push_bit-p-requires c =
 pub returns : goal.returns
 returns c =
     let bytes : Bytes c.args.store.now =
-    all_of (λ (n : ℕ). n < 256) c.args.store.now 0 (λ i l. omega (arith, c.type_inv.store i)) in
+    all_of (λ (n : ℕ). n < 256) c.args.store.now 0 (λ i l. omega (arith, c.slice_known-1.given i)) in
     let p = c.push_bit-p in
     let b = c.bit_of in
     let k = c in

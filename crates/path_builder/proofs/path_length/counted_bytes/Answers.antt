@@ -16,21 +16,16 @@ pub returns-else-full : goal.returns-else-full
 returns-else-full c = counted_one c.args.full _ c.in-1.is c.if-full.false
 
 pub returns-in-2-to-63 : goal.returns-in-2-to-63
-returns-in-2-to-63 c = counted_1 c.args.full _ (omega (arith, c.match.rest)) c.if-bytes-lt64.true
+returns-in-2-to-63 c = first_of (search (rules, counted_1), grind (arith, counted_1))
 
 pub returns-in-64-to-511 : goal.returns-in-64-to-511
-returns-in-64-to-511 c = counted_2 c.args.full _ (omega (arith, c.match.rest)) c.if-bytes-lt64.false c.if-bytes-lt512.true
+returns-in-64-to-511 c = first_of (search (rules, counted_2), grind (arith, counted_2))
 
 pub returns-in-512-to-1048575 : goal.returns-in-512-to-1048575
-returns-in-512-to-1048575 c = counted_3 c.args.full _ (omega (arith, c.match.rest)) c.if-bytes-lt512.false c.if-bytes-lt1048576.true
+returns-in-512-to-1048575 c = first_of (search (rules, counted_3), grind (arith, counted_3))
 
 pub returns-in-16777216-to-134217727 : goal.returns-in-16777216-to-134217727
-returns-in-16777216-to-134217727 c = counted_4 c.args.full _ (omega (arith, c.match.rest)) c.if-bytes-lt16777216.false c.if-bytes-lt134217728.true
+returns-in-16777216-to-134217727 c = first_of (search (rules, counted_4), grind (arith, counted_4))
 
 pub returns-in_default : goal.returns-in_default
-returns-in_default c =
-    let more = c.match.rest in
-    ⊎_elim
-    (λ w. counted_5 c.args.full _ (omega (arith, more)) c.if-bytes-lt1048576.false w.taken)
-    (λ w. counted_5_long c.args.full _ (omega (arith, more)) w.1.left)
-    c.if-bytes-lt16777216.branch
+returns-in_default c = first_of (search (rules, counted_5_long, counted_5, ⊎_elim), grind (arith, counted_5_long, counted_5, ⊎_elim))

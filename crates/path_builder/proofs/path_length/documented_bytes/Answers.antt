@@ -8,7 +8,7 @@ use borrow.Author.Rules.{rules}
 use Rattle.path_builder.proofs.path_length.documented_bytes.Goals as goal
 
 pub returns-then-not-full : goal.returns-then-not-full
-returns-then-not-full c = documented_alone c.args.full _ c.if-bytes-eq1.true c.if-not-full.true
+returns-then-not-full c = first_of (search (rules, documented_alone), grind (arith, documented_alone))
 
 pub overflow_cast-result : goal.overflow_cast-result
 overflow_cast-result c = let r = c.shortest_width in omega (arith, (width_carries _ r.result r.ensures).five)
@@ -17,7 +17,4 @@ pub overflow_add-result : goal.overflow_add-result
 overflow_add-result c = let r = c.shortest_width in omega (arith, (width_carries _ r.result r.ensures).five)
 
 pub returns : goal.returns
-returns c =
-    let s = c in
-    documented_sized s.args.full s.args.bytes c.shortest_width.result (omega (arith, s.requires)) c.shortest_width.ensures
-    (⊎_elim (λ w. inl (w.0.taken, w.1.left)) (λ w. inr w.left) c.if-bytes-eq1.branch)
+returns c = first_of (search (rules, ⊎_elim, documented_sized), grind (arith, ⊎_elim, documented_sized))
