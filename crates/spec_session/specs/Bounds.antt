@@ -20,7 +20,8 @@ use Rattle.spec_session.specs.File.{File, Pair, Step, add, restore, forget, quot
 use Rattle.spec_session.specs.Unfold.{Unfolded, hole, leaf, node, is_sentinel, named_by, unfold_with, unfold_pairs, unfolded}
 use Rattle.spec_session.specs.Cache.{Key, Parent, Entry, Cache, same_key, later, find_key, lookup, adjust, parents_at, add_parent, move_parents}
 use Rattle.spec_session.specs.Cache.{no_parents, new_entry, with_entries, keep_or_add, find_or_add, link_pair, join_pair, known_or, fresh}
-use Rattle.spec_session.specs.Cache.{enter, sentinel_parents, clear_sentinel, place_root, update}
+use Rattle.atom.specs.Write.{serialized_length}
+use Rattle.spec_session.specs.Cache.{atom_key, pair_key, pair_length, length_at, enter, sentinel_parents, clear_sentinel, place_root, update}
 use Rattle.spec_session.specs.Items.{Item}
 use Rattle.spec_session.specs.Writer.{Todo, parse, Outcome, done, stopped, refused, resume, Session, start, Added, added, turned_down, settle, add_at, add_tree}
 use Rattle.spec_session.specs.Trees.{nth, both_more, both_fewer}
@@ -408,12 +409,17 @@ known_grown t n h c new b (some e) q g = same_grown t n c e b (lookup_below (len
 pub enter_grown : (n t : ℕ) (u : Unfolded) (c : Cache) → t ≤ n → Under t u → Bounded n c → Grown t n c (enter u c)
 unfolding enter
 enter_grown n t hole c l u b = new_grown t n c _ 0 (some (length c.entries)) b (omega arith)
-enter_grown n t (leaf h bytes) c l u b = found_grown t n c _ _ b
+enter_grown n t (leaf h bytes) c l u b = found_grown t n c (atom_key bytes) (serialized_length bytes) b
 enter_grown n t (node h x y) c l u b =
     let L : Grown h n c (enter x c) = enter_grown n h x c (omega (arith, u.0)) u.1 b in
     let R : Grown h n (enter x c).0 (enter y (enter x c).0) = enter_grown n h y (enter x c).0 (omega (arith, u.0)) u.2 L.bounded in
     known_grown t n h c (join_pair h (enter x c).1 (enter y (enter x c).0)) b (lookup h c.mapped) refl
-    (λ ab. link_grown t n h _ _ _ c (enter x c).0 (enter y (enter x c).0).0 _ _ u.0 l ab L R (found_grown h n (enter y (enter x c).0).0 _ _ R.bounded))
+    (λ ab.
+    let a : ℕ = (enter x c).1 in
+    let right : Cache × ℕ = enter y (enter x c).0 in
+    let k : Key = pair_key a right.1 in
+    let len : ℕ = pair_length (length_at a right.0.entries) (length_at right.1 right.0.entries) in
+    link_grown t n h a right.1 (find_or_add k len right.0) c (enter x c).0 right.0 a right.1 u.0 l ab L R (found_grown h n right.0 k len R.bounded))
 
 -- ---- an add
 

@@ -244,4 +244,4 @@ returns c =
     sentinel_taken after_pairs p₅ c.sentinel-sentinel.ensures c.if-sentinel-ne0.false in
     let x = c in
     let counted = x in
-    passed after_sentinel x.steps-steps.result x.steps-steps.ensures c.if-steps-ne0.false counted.pre.1
+    passed after_sentinel x.steps-steps.result x.steps-steps.ensures c.if-steps-ne0.false counted.requires.1

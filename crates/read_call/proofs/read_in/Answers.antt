@@ -9,7 +9,7 @@ pub read_all-outcome-requires : goal.read_all-outcome-requires
 read_all-outcome-requires c =
     let s = c in
     let z = c.clear_store.ensures in
-    lent-start _ _ s.args.pairs.now s.args.atoms.now s.args.bytes.now _ _ _ s.pre.0 s.pre.1 z.0 z.1 z.2
+    lent-start _ _ s.args.pairs.now s.args.atoms.now s.args.bytes.now _ _ _ s.requires.0 s.requires.1 z.0 z.1 z.2
 
 pub ended-requires : goal.ended-requires
 ended-requires c =

@@ -23,15 +23,15 @@ pub push_node-node-requires : goal.push_node-node-requires
 push_node-node-requires c =
     let x = c in
     let s = start x in
-    let r = s.pre.1 in
-    record { in_bounds = (s.pre.0, rw (node x) r.chain, rw (node x) r.len); fits = node_fits r (node x) (extra x) s.pre.2 }
+    let r = s.requires.1 in
+    record { in_bounds = (s.requires.0, rw (node x) r.chain, rw (node x) r.len); fits = node_fits r (node x) (extra x) s.requires.2 }
 
 pub push_stack-whole-requires : goal.push_stack-whole-requires
 push_stack-whole-requires c =
     let n = c in
     let x = n in
     let s = start x in
-    (n.push_node-node.ensures.sound, stack_asks s.pre.1 (node x) (extra x) (n.push_node-node.auto.store ∙ s.pre.2) n.push_node-node.ensures)
+    (n.push_node-node.ensures.sound, stack_asks s.requires.1 (node x) (extra x) (n.push_node-node.auto.store ∙ s.requires.2) n.push_node-node.ensures)
 
 pub returns : goal.returns
 returns c =
@@ -40,5 +40,5 @@ returns c =
     let n = k in
     let x = n in
     let s = start x in
-    path_done s.pre.1 (node x) (extra x) n.push_node-node.ensures k.push_stack-whole.ensures d.ensures
-    (d.auto.store ∙ k.push_stack-whole.auto.store ∙ n.push_node-node.auto.store ∙ s.pre.2)
+    path_done s.requires.1 (node x) (extra x) n.push_node-node.ensures k.push_stack-whole.ensures d.ensures
+    (d.auto.store ∙ k.push_stack-whole.auto.store ∙ n.push_node-node.auto.store ∙ s.requires.2)

@@ -33,5 +33,5 @@ returns c =
     λ h named.
     let x = c in
     let s = x in
-    finds_path s.pre.0.sound named s.pre.3 marked x.length_at-len.ensures
+    finds_path s.requires.0.sound named s.requires.3 marked x.length_at-len.ensures
     c.if-len-lt-MIN_SERIALIZED_LENGTH.false c.find_path.ensures

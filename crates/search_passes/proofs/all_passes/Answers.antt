@@ -12,8 +12,8 @@ start-requires c = let s = c in (s.requires.0.long, s.requires.0.used, s.require
 
 pub loop-l-init : goal.loop-l-init
 loop-l-init c =
-    let begun : Begun call.args.work.now c.start.new.work call.args.depth call.args.e.0 =
-    let p = call.requires in
+    let begun : Begun c.args.work.now c.start.new.work c.args.depth c.args.e.0 =
+    let p = c.requires in
     record { links = p.0; tops = p.1; few = p.2; started = c.start.ensures; len = c.start.auto.work } in
     search_start begun _
 
@@ -22,8 +22,8 @@ shape_of-work-then-s-eq0 c = c.loop-l.invariant.len ∙ c.start.auto.work
 
 pub returns-then-s-eq0 : goal.returns-then-s-eq0
 returns-then-s-eq0 c =
-    let begun : Begun call.args.work.now c.start.new.work call.args.depth call.args.e.0 =
-    let p = call.requires in
+    let begun : Begun c.args.work.now c.start.new.work c.args.depth c.args.e.0 =
+    let p = c.requires in
     record { links = p.0; tops = p.1; few = p.2; started = c.start.ensures; len = c.start.auto.work } in
     let g = c in
     search_empty begun c.loop-l.invariant g.limit_of-limit.ensures c.if-s-eq0.true
@@ -38,8 +38,8 @@ shape_of-work-in-Ended c =
 
 pub returns-in-Ended : goal.returns-in-Ended
 returns-in-Ended c =
-    let begun : Begun call.args.work.now c.start.new.work call.args.depth call.args.e.0 =
-    let p = call.requires in
+    let begun : Begun c.args.work.now c.start.new.work c.args.depth c.args.e.0 =
+    let p = c.requires in
     record { links = p.0; tops = p.1; few = p.2; started = c.start.ensures; len = c.start.auto.work } in
     let p = c.pass in
     let t = c in
@@ -54,8 +54,8 @@ shape_of-work-in-Over c =
 
 pub returns-in-Over : goal.returns-in-Over
 returns-in-Over c =
-    let begun : Begun call.args.work.now c.start.new.work call.args.depth call.args.e.0 =
-    let p = call.requires in
+    let begun : Begun c.args.work.now c.start.new.work c.args.depth c.args.e.0 =
+    let p = c.requires in
     record { links = p.0; tops = p.1; few = p.2; started = c.start.ensures; len = c.start.auto.work } in
     let p = c.pass in
     let t = c in
@@ -73,8 +73,8 @@ loop-l-smaller c = omega (arith, c.loop-l-test.true)
 
 pub loop-l-preserved : goal.loop-l-preserved
 loop-l-preserved c =
-    let begun : Begun call.args.work.now c.start.new.work call.args.depth call.args.e.0 =
-    let p = call.requires in
+    let begun : Begun c.args.work.now c.start.new.work c.args.depth c.args.e.0 =
+    let p = c.requires in
     record { links = p.0; tops = p.1; few = p.2; started = c.start.ensures; len = c.start.auto.work } in
     let p = c.pass in
     let t = c in
@@ -86,8 +86,8 @@ shape_of-work c = c.loop-l.invariant.len ∙ c.start.auto.work
 
 pub returns : goal.returns
 returns c =
-    let begun : Begun call.args.work.now c.start.new.work call.args.depth call.args.e.0 =
-    let p = call.requires in
+    let begun : Begun c.args.work.now c.start.new.work c.args.depth c.args.e.0 =
+    let p = c.requires in
     record { links = p.0; tops = p.1; few = p.2; started = c.start.ensures; len = c.start.auto.work } in
     let g = c in
     search_end begun c.loop-l.invariant g.limit_of-limit.ensures c.loop-l-test.false

@@ -19,7 +19,7 @@ add-q-requires c =
     answers.not-asked c.args.p c.question-number.ensures c.if-number-ne0.false in
     let test = c in
     let s = test in
-    answers.add-asks s.pre.0 s.pre.1 s.args.quotes s.args.node s.args.next s.pre.2 free
+    answers.add-asks s.requires.0 s.requires.1 s.args.quotes s.args.node s.args.next s.requires.2 free
 
 pub returns-then-q : goal.returns-then-q
 returns-then-q c =
@@ -27,7 +27,7 @@ returns-then-q c =
     answers.not-asked c.args.p c.question-number.ensures c.if-number-ne0.false in
     let added = c in
     let s = added in
-    answers.adds-off s.pre.0 s.pre.1 s.args.quotes s.args.node s.args.next s.pre.2 free added.add-q.ensures _
+    answers.adds-off s.requires.0 s.requires.1 s.args.quotes s.args.node s.args.next s.requires.2 free added.add-q.ensures _
     c.if-q.true c.refusal_of-state.ensures
 
 pub note-requires : goal.note-requires
@@ -36,7 +36,7 @@ note-requires c =
     answers.not-asked c.args.p c.question-number.ensures c.if-number-ne0.false in
     let added = c in
     let s = added in
-    answers.note-asks s.pre.0 s.pre.1 s.args.quotes s.args.node s.args.next s.pre.2 free added.add-q.ensures
+    answers.note-asks s.requires.0 s.requires.1 s.args.quotes s.args.node s.args.next s.requires.2 free added.add-q.ensures
     c.if-q.false c.with_quote-kept.ensures
 
 pub returns : goal.returns
@@ -48,5 +48,5 @@ returns c =
     let on = kept in
     let added = on in
     let s = added in
-    answers.adds_on s.pre.0 s.pre.1 s.args.quotes s.args.node s.args.next s.pre.2 free added.add-q.ensures
+    answers.adds_on s.requires.0 s.requires.1 s.args.quotes s.args.node s.args.next s.requires.2 free added.add-q.ensures
     added.record_of-saved.ensures on.if-q.false kept.with_quote-kept.ensures note.ensures.0 note.ensures.1

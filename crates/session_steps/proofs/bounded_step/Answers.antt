@@ -19,4 +19,4 @@ returns c =
     let cs = stepped.core_step in
     let known = stepped in
     let s = known in
-    used_onward s.args.output.now known.space_of-space.ensures s.pre cs.new.work cs.new.words cs.new.output cs.result cs.auto.output cs.ensures
+    used_onward s.args.output.now known.space_of-space.ensures s.requires cs.new.work cs.new.words cs.new.output cs.result cs.auto.output cs.ensures

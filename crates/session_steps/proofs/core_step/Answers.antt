@@ -8,10 +8,6 @@ use Rattle.session_state.specs.Steps.{Comes}
 use Rattle.session_steps.proofs.Answers.{stops-at-end, stops-17}
 use Rattle.session_steps.proofs.core_step.Goals as goal
 
--- The next step is what the file says.
-comes : (x : goal.After-next_step) (r : NextStep) → x.next_step.result ≡ r → let a = x.args in Comes a.file.now a.p.at r
-comes x r e ss st = subst (λ (y : NextStep). FirstStep x.args.file.now ss y) e (x.next_step.ensures.first_step ss st)
-
 pub quoted_step-requires : goal.quoted_step-requires
 quoted_step-requires c =
     let then = c in
@@ -19,30 +15,42 @@ quoted_step-requires c =
 
 pub add_step-requires : goal.add_step-requires
 add_step-requires c =
+    let comes : (r : NextStep) → c.next_step.result ≡ r → let a = c.args in Comes a.file.now a.p.at r =
+    λ r e ss st. subst (λ (y : NextStep). FirstStep c.args.file.now ss y) e (c.next_step.ensures.first_step ss st) in
     let read = c in
-    (read.requires, read.if-p.false, comes read _ c.in-Add.is)
+    (read.requires, read.if-p.false, comes _ c.in-Add.is)
 
 pub undo_step-requires : goal.undo_step-requires
 undo_step-requires c =
+    let comes : (r : NextStep) → c.next_step.result ≡ r → let a = c.args in Comes a.file.now a.p.at r =
+    λ r e ss st. subst (λ (y : NextStep). FirstStep c.args.file.now ss y) e (c.next_step.ensures.first_step ss st) in
     let read = c in
-    (read.requires, read.if-p.false, comes read _ c.in-Restore.is)
+    (read.requires, read.if-p.false, comes _ c.in-Restore.is)
 
 pub undo_step-requires-in-Forget : goal.undo_step-requires-in-Forget
 undo_step-requires-in-Forget c =
+    let comes : (r : NextStep) → c.next_step.result ≡ r → let a = c.args in Comes a.file.now a.p.at r =
+    λ r e ss st. subst (λ (y : NextStep). FirstStep c.args.file.now ss y) e (c.next_step.ensures.first_step ss st) in
     let read = c in
-    (read.requires, read.if-p.false, comes read _ c.in-Forget.is)
+    (read.requires, read.if-p.false, comes _ c.in-Forget.is)
 
 pub add_step-requires-in-Quote : goal.add_step-requires-in-Quote
 add_step-requires-in-Quote c =
+    let comes : (r : NextStep) → c.next_step.result ≡ r → let a = c.args in Comes a.file.now a.p.at r =
+    λ r e ss st. subst (λ (y : NextStep). FirstStep c.args.file.now ss y) e (c.next_step.ensures.first_step ss st) in
     let read = c in
-    (read.requires, read.if-p.false, comes read _ c.in-Quote.is)
+    (read.requires, read.if-p.false, comes _ c.in-Quote.is)
 
 pub returns-in-Take : goal.returns-in-Take
 returns-in-Take c =
+    let comes : (r : NextStep) → c.next_step.result ≡ r → let a = c.args in Comes a.file.now a.p.at r =
+    λ r e ss st. subst (λ (y : NextStep). FirstStep c.args.file.now ss y) e (c.next_step.ensures.first_step ss st) in
     let read = c in
-    stops-17 read.requires read.if-p.false c.stop.ensures (comes read _ c.in-Take.is)
+    stops-17 read.requires read.if-p.false c.stop.ensures (comes _ c.in-Take.is)
 
 pub returns-in-End : goal.returns-in-End
 returns-in-End c =
+    let comes : (r : NextStep) → c.next_step.result ≡ r → let a = c.args in Comes a.file.now a.p.at r =
+    λ r e ss st. subst (λ (y : NextStep). FirstStep c.args.file.now ss y) e (c.next_step.ensures.first_step ss st) in
     let read = c in
-    stops-at-end read.requires read.if-p.false c.stop-in-End.ensures (comes read _ c.in-End.is)
+    stops-at-end read.requires read.if-p.false c.stop-in-End.ensures (comes _ c.in-End.is)

@@ -17,7 +17,7 @@ module _ (x : goal.In-Next-2) where
   there =
       let w = x.write_atom in
       let s = x in
-      put_atom s.args.output.now s.args.counts.size s.args.blob.now s.pre.1 _
+      put_atom s.args.output.now s.args.counts.size s.args.blob.now s.requires.1 _
       (sym (ap (λ r. answers.written r w.new.output) x.in-Next.is) ∙ w.ensures.0)
 
   told : item_prefix (atom_item x.args.blob.now) ≡ x.in-Next.width
@@ -26,7 +26,7 @@ module _ (x : goal.In-Next-2) where
 pub with_atom-requires : goal.with_atom-requires
 with_atom-requires c =
     let s = c in
-    few_prefixes s.args.output.now _ s.args.counts (atom_item s.args.blob.now) _ _ (there c) (told c) s.pre.0
+    few_prefixes s.args.output.now _ s.args.counts (atom_item s.args.blob.now) _ _ (there c) (told c) s.requires.0
 
 pub returns-in-Next : goal.returns-in-Next
 returns-in-Next c =

@@ -30,7 +30,7 @@ found : (x : Searched) (r : Path) → x.find.result ≡ r
 found x r q =
     let s = start x in
     let f = rw q at x.find.ensures in
-    found_there x.find.auto.work f.kept s.args.place s.pre.1 s.args.node s.pre.2
+    found_there x.find.auto.work f.kept s.args.place s.requires.1 s.args.node s.requires.2
     (eqb-false _ s.args.node.0 (sym x.is_sentinel.ensures ∙ x.if-is_sentinel.false))
     x.entry_of-e.ensures f.ready
 
@@ -43,8 +43,8 @@ turns x path q y =
     let s = start x in
     let f = rw q at x.find.ensures in
     let k = x.find.auto.work in (
-      after_search k f.kept s.args.place s.pre.1 s.args.node s.pre.2
-          (y.0 s.args.measure (finds_there k f.kept s.args.place s.pre.1 s.args.node s.pre.2 f)),
+      after_search k f.kept s.args.place s.requires.1 s.args.node s.requires.2
+          (y.0 s.args.measure (finds_there k f.kept s.args.place s.requires.1 s.args.node s.requires.2 f)),
       y.1,
     )
 
@@ -61,7 +61,7 @@ pub write_full-requires : goal.write_full-requires
 write_full-requires c =
     let x = c in
     let s = start x in
-    (search_places x.find.auto.work x.find.ensures.kept s.args.place s.pre.1 s.pre.0, found x _ c.in-NoPath.is)
+    (search_places x.find.auto.work x.find.ensures.kept s.args.place s.requires.1 s.requires.0, found x _ c.in-NoPath.is)
 
 pub returns-in-At : goal.returns-in-At
 returns-in-At c =

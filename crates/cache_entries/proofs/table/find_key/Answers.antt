@@ -16,9 +16,9 @@ returns-then-work-e-2 c =
     let f = c in
     let t = f in
     let k = t in
-    let s = c in
+    let s = k in
     let words = k.words_of-k.ensures in
-    seek_found s.args.work.now s.pre _ _ _ k.slot_of-slot.ensures k.loop-head.head t.wide-e.result k.loop-head.invariant t.loop-head-test.true t.wide-e.ensures
+    seek_found s.args.work.now s.requires _ _ _ k.slot_of-slot.ensures k.loop-head.head t.wide-e.result k.loop-head.invariant t.loop-head-test.true t.wide-e.ensures
     (f.if-work-e.true, c.if-work-e-2.true)
     ∙ (λ j. find_row (words.0 j) (words.1 j) (rows_of s.args.work.now))
 
@@ -26,15 +26,15 @@ pub loop-head-smaller : goal.loop-head-smaller
 loop-head-smaller c =
     let t = c in
     let k = t in
-    let s = c in
-    seek_less s.args.work.now s.pre _ _ _ k.slot_of-slot.ensures k.loop-head.head t.wide-e.result k.loop-head.invariant t.loop-head-test.true t.wide-e.ensures
+    let s = k in
+    seek_less s.args.work.now s.requires _ _ _ k.slot_of-slot.ensures k.loop-head.head t.wide-e.result k.loop-head.invariant t.loop-head-test.true t.wide-e.ensures
 
 pub loop-head-preserved : goal.loop-head-preserved
 loop-head-preserved c =
     let t = c in
     let k = t in
-    let s = c in
-    seek_next s.args.work.now s.pre _ _ _ k.slot_of-slot.ensures k.loop-head.head t.wide-e.result k.loop-head.invariant t.loop-head-test.true t.wide-e.ensures
+    let s = k in
+    seek_next s.args.work.now s.requires _ _ _ k.slot_of-slot.ensures k.loop-head.head t.wide-e.result k.loop-head.invariant t.loop-head-test.true t.wide-e.ensures
     (λ has. ⊎_elim (λ x. x.3.left has.1) (λ x. x.left has.0) c.if-work-e.branch)
 
 pub returns : goal.returns

@@ -18,30 +18,30 @@ loop-e-init c =
     let w = s.args.work.now in
     (omega arith, omega (arith, further_none w), lists_brought_none w s.args.from)
 
--- The count of the next entry is as it was.
-count-still : (l : goal.At-loop-e) →
-    let s = l in
-    l.loop-e.e < s.args.n → at l.loop-e.work (COUNTS + l.loop-e.e) ≡ at s.args.work.now (COUNTS + l.loop-e.e)
-count-still l h = let s = l in l.loop-e.invariant.2.low (COUNTS + l.loop-e.e) (omega (arith, s.requires.1, s.requires.3))
-
 pub overflow_cast-entry : goal.overflow_cast-entry
 overflow_cast-entry c = let s = c in omega (arith, s.requires.1)
 
 pub count_of-count-requires : goal.count_of-count-requires
 count_of-count-requires c =
+    let count-still : let s = c in
+    c.loop-e.e < s.args.n → at c.loop-e.work (COUNTS + c.loop-e.e) ≡ at s.args.work.now (COUNTS + c.loop-e.e) =
+    λ h. let s = c in c.loop-e.invariant.2.low (COUNTS + c.loop-e.e) (omega (arith, s.requires.1, s.requires.3)) in
     let l = c in
     let s = l in
     let h : l.loop-e.e < s.args.n = omega arith in
-    (omega (arith, s.requires.0, l.loop-e.invariant.2.len), omega (arith, s.requires.1), omega (arith, s.requires.2 l.loop-e.e h, count-still l h))
+    (omega (arith, s.requires.0, l.loop-e.invariant.2.len), omega (arith, s.requires.1), omega (arith, s.requires.2 l.loop-e.e h, count-still h))
 
 pub bring_list-next-requires : goal.bring_list-next-requires
 bring_list-next-requires c =
+    let count-still : let s = c in
+    c.loop-e.e < s.args.n → at c.loop-e.work (COUNTS + c.loop-e.e) ≡ at s.args.work.now (COUNTS + c.loop-e.e) =
+    λ h. let s = c in c.loop-e.invariant.2.low (COUNTS + c.loop-e.e) (omega (arith, s.requires.1, s.requires.3)) in
     let n = c in
     let l = n in
     let s = l in
     let w = s.args.work.now in
     let h : l.loop-e.e < s.args.n = omega arith in
-    let k = ap further (n.count_of-count.ensures.0 ∙ count-still l h) in
+    let k = ap further (n.count_of-count.ensures.0 ∙ count-still h) in
     let m = further_within w s.args.n l.loop-e.e h in
     let q = l.loop-e.invariant.1 in (
       omega (arith, s.requires.0, l.loop-e.invariant.2.len),
@@ -53,13 +53,16 @@ bring_list-next-requires c =
 
 pub loop-e-preserved : goal.loop-e-preserved
 loop-e-preserved c =
+    let count-still : let s = c in
+    c.loop-e.e < s.args.n → at c.loop-e.work (COUNTS + c.loop-e.e) ≡ at s.args.work.now (COUNTS + c.loop-e.e) =
+    λ h. let s = c in c.loop-e.invariant.2.low (COUNTS + c.loop-e.e) (omega (arith, s.requires.1, s.requires.3)) in
     let m = c in
     let n = m in
     let l = n in
     let s = l in
     let w = s.args.work.now in
     let h : l.loop-e.e < s.args.n = omega arith in
-    let k = ap further (n.count_of-count.ensures.0 ∙ count-still l h) in (
+    let k = ap further (n.count_of-count.ensures.0 ∙ count-still h) in (
       omega arith,
       omega (arith, m.bring_list-next.ensures.0, l.loop-e.invariant.1, k, further_more w l.loop-e.e),
       lists_brought_more w l.loop-e.work _ l.loop-e.e (further n.count_of-count.result) s.args.from l.loop-e.next (omega (arith, s.requires.1)) k

@@ -23,11 +23,11 @@ pub loop-e-preserved : goal.loop-e-preserved
 loop-e-preserved c =
     let f = c in
     let l = f in
-    let s = c in
+    let s = l in
     let e = l.loop-e.e - 1 in (
       omega arith,
       omega arith,
-      taking_more s.args.work.now l.loop-e.work l.loop-e.e e f.slot_of-slot.result s.pre.0 (omega arith) (omega arith) f.slot_of-slot.ensures l.loop-e.invariant.2,
+      taking_more s.args.work.now l.loop-e.work l.loop-e.e e f.slot_of-slot.result s.requires.0 (omega arith) (omega arith) f.slot_of-slot.ensures l.loop-e.invariant.2,
     )
 
 pub shape_of-work : goal.shape_of-work
@@ -36,7 +36,7 @@ shape_of-work c = simp length-set c.loop-e.invariant.2.len
 pub returns : goal.returns
 returns c =
     let l = c in
-    let s = c in
+    let s = l in
     let w = s.args.work.now in
     let done : l.loop-e.e ≡ s.args.n = omega arith in
-    taken_off w l.loop-e.work s.args.n s.pre.0.long (subst (λ (x : ℕ). Taking w l.loop-e.work x) done l.loop-e.invariant.2) (omega (arith, s.pre.0.used))
+    taken_off w l.loop-e.work s.args.n s.requires.0.long (subst (λ (x : ℕ). Taking w l.loop-e.work x) done l.loop-e.invariant.2) (omega (arith, s.requires.0.used))

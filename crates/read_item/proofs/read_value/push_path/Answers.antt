@@ -29,7 +29,7 @@ settle-requires c =
     let walked = c in
     let t = walked.traverse_path_with_vec in
     let q = c.push_node-next in
-    let p = walked.pre in
+    let p = walked.requires in
     paths.node_on_top _ _ _ _ p.0 _ _ p.1 _ walked.parse_atom_ptr-path.ensures _ _ _ t.ensures.0
     _ c.in-Node.is t.ensures.1 t.kept.1.0 t.kept.1.1.0 _ q.auto.work q.ensures.0 _ q.ensures.1 in
     let x = pushed in (x.0, x.1.inside)
@@ -42,7 +42,7 @@ returns-in-Node c =
     let walked = c in
     let t = walked.traverse_path_with_vec in
     let q = c.push_node-next in
-    let p = walked.pre in
+    let p = walked.requires in
     paths.node_on_top _ _ _ _ p.0 _ _ p.1 _ walked.parse_atom_ptr-path.ensures _ _ _ t.ensures.0
     _ c.in-Node.is t.ensures.1 t.kept.1.0 t.kept.1.1.0 _ q.auto.work q.ensures.0 _ q.ensures.1 in
     let settled = c in

@@ -34,7 +34,7 @@ push_bytes-whole-requires c =
     let s = x in
     let f = x.push_number-filled in (
       f.ensures.sound,
-      ones_fits s.args.store.now f.new.store f.result bits first full s.args.ones s.pre.1 f.auto.store ones_first (omega (arith, few)),
+      ones_fits s.args.store.now f.new.store f.result bits first full s.args.ones s.requires.1 f.auto.store ones_first (omega (arith, few)),
     )
 
 pub push_number-requires-2 : goal.push_number-requires-2
@@ -57,7 +57,7 @@ push_number-requires-2 c =
     let s = x in
     let b = w.push_bytes-whole in (
       b.ensures.sound,
-      ones_fits s.args.store.now b.new.store b.result bits (full + first) ((s.args.ones - first) % 8) s.args.ones s.pre.1
+      ones_fits s.args.store.now b.new.store b.result bits (full + first) ((s.args.ones - first) % 8) s.args.ones s.requires.1
           (b.auto.store ∙ x.push_number-filled.kept.0) whole (omega (arith, few)),
     )
 

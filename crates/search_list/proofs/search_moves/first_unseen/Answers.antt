@@ -31,8 +31,8 @@ is_seen-requires c =
 
 pub returns-then-not-is_seen : goal.returns-then-not-is_seen
 returns-then-not-is_seen c =
-    let seen : seen_at start.args.work.now (link_at start.args.work.now start.args.e.0 c.loop-i.i / 2) ≡ c.is_seen.result =
-    ap (seen_at start.args.work.now) (sym (c.entry.ensures ∙ ap (λ (z : ℕ). z / 2) c.parent_at-p.ensures))
+    let seen : seen_at c.args.work.now (link_at c.args.work.now c.args.e.0 c.loop-i.i / 2) ≡ c.is_seen.result =
+    ap (seen_at c.args.work.now) (sym (c.entry.ensures ∙ ap (λ (z : ℕ). z / 2) c.parent_at-p.ensures))
     ∙ sym c.is_seen.ensures in
     let s = c in
     let p = c in
@@ -43,8 +43,8 @@ returns-then-not-is_seen c =
 
 pub loop-i-preserved : goal.loop-i-preserved
 loop-i-preserved c =
-    let seen : seen_at start.args.work.now (link_at start.args.work.now start.args.e.0 c.loop-i.i / 2) ≡ c.is_seen.result =
-    ap (seen_at start.args.work.now) (sym (c.entry.ensures ∙ ap (λ (z : ℕ). z / 2) c.parent_at-p.ensures))
+    let seen : seen_at c.args.work.now (link_at c.args.work.now c.args.e.0 c.loop-i.i / 2) ≡ c.is_seen.result =
+    ap (seen_at c.args.work.now) (sym (c.entry.ensures ∙ ap (λ (z : ℕ). z / 2) c.parent_at-p.ensures))
     ∙ sym c.is_seen.ensures in
     let next : c.loop-i.i < count_at c.args.work.now c.args.e.0 =
     omega (arith, c.loop-i-test.true, c.count_of-all.ensures.0) in

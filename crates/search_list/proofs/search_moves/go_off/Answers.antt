@@ -12,10 +12,10 @@ overflow_sub-last c =
     c.args.s.depth c.add_stacked-last.result =
     let p = c.requires in
     record {
-      long = p.0.0.long;
-      nodes = p.0.2;
-      slot = p.1.0;
-      room = p.1.2;
+      long = p.links.0.long;
+      nodes = p.links.2;
+      slot = p.slot_lt_paths.0;
+      room = p.slot_lt_paths.2;
       list = c.add_stacked-last.ensures;
       len = c.add_stacked-last.auto.work;
     } in
@@ -27,10 +27,10 @@ drop_path-requires c =
     c.args.s.depth c.add_stacked-last.result =
     let p = c.requires in
     record {
-      long = p.0.0.long;
-      nodes = p.0.2;
-      slot = p.1.0;
-      room = p.1.2;
+      long = p.links.0.long;
+      nodes = p.links.2;
+      slot = p.slot_lt_paths.0;
+      room = p.slot_lt_paths.2;
       list = c.add_stacked-last.ensures;
       len = c.add_stacked-last.auto.work;
     } in
@@ -45,10 +45,10 @@ returns c =
     c.args.s.depth c.add_stacked-last.result =
     let p = c.requires in
     record {
-      long = p.0.0.long;
-      nodes = p.0.2;
-      slot = p.1.0;
-      room = p.1.2;
+      long = p.links.0.long;
+      nodes = p.links.2;
+      slot = p.slot_lt_paths.0;
+      room = p.slot_lt_paths.2;
       list = c.add_stacked-last.ensures;
       len = c.add_stacked-last.auto.work;
     } in

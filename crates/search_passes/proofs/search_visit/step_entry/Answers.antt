@@ -25,9 +25,9 @@ drop_path-requires c =
     let x = c in
     let s = x in
     let a = s.args in
-    let e : a.s.paths - 1 + 1 ≡ a.s.paths = omega (arith, s.pre.1) in
-    let p = subst (λ (k : ℕ). PathsOK a.work.now a.s.nodes k) (sym e) s.pre.0.paths in
-    (s.pre.0.links.long, s.pre.0.nodes, p, omega (arith, s.pre.1), omega (arith, few s.pre.0))
+    let e : a.s.paths - 1 + 1 ≡ a.s.paths = omega (arith, s.requires.1) in
+    let p = subst (λ (k : ℕ). PathsOK a.work.now a.s.nodes k) (sym e) s.requires.0.paths in
+    (s.requires.0.links.long, s.requires.0.nodes, p, omega (arith, s.requires.1), omega (arith, few s.requires.0))
 
 pub returns-then-is_seen : goal.returns-then-is_seen
 returns-then-is_seen c =

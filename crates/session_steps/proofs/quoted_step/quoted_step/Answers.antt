@@ -21,10 +21,6 @@ use Rattle.session_state.specs.Steps.{Comes}
 use Rattle.session_steps.proofs.quoted_step.Answers as answers
 use Rattle.session_steps.proofs.quoted_step.quoted_step.Goals as goal
 
--- The next step is what the file says.
-comes : (x : goal.After-next_step) (r : NextStep) → x.next_step.result ≡ r → let a = x.args in Comes a.file.now a.p.at r
-comes x r e ss st = subst (λ (y : NextStep). FirstStep x.args.file.now ss y) e (x.next_step.ensures.first_step ss st)
-
 -- The number of a taking is none of the others'.
 none_of : OneOf (0 ∷ 1 ∷ 2 ∷ 3 ∷ 5 ∷ []) 4 → ⊥
 none_of (inl e) = omega (arith, e)
@@ -42,26 +38,32 @@ no-taking (next_step.Quote node next) k input ss h = rw h.1 (λ q. clash cc)
 no-taking (next_step.Take next) k input ss h = absurd (none_of k)
 no-taking next_step.End k input ss h = rw h tt
 
-other : (x : goal.In_default) → let a = x.args in (ss : List Step) → StepsAt a.file.now a.p.at ss → IfAny (λ x. x ≢ take_quote) (nth ss 0)
-other x ss st = let n = x.next_step in no-taking n.result x.in-Take.keys2 x.args.file.now ss (n.ensures.0 ss st)
-
 pub take_quote-requires : goal.take_quote-requires
 take_quote-requires c =
+    let comes : (r : NextStep) → c.next_step.result ≡ r → let a = c.args in Comes a.file.now a.p.at r =
+    λ r e ss st. subst (λ (y : NextStep). FirstStep c.args.file.now ss y) e (c.next_step.ensures.first_step ss st) in
     let s = c in
-    answers.take-asks s.pre.0 s.pre.1 _ (comes c _ c.in-Take.is)
+    answers.take-asks s.requires.0 s.requires.1 _ (comes _ c.in-Take.is)
 
 pub drop_quote-requires : goal.drop_quote-requires
-drop_quote-requires c = let s = c in answers.drop-asks s.pre.0 s.pre.1 (other c)
+drop_quote-requires c =
+    let other : let a = c.args in (ss : List Step) → StepsAt a.file.now a.p.at ss → IfAny (λ c. c ≢ take_quote) (nth ss 0) =
+    λ ss st. let n = c.next_step in no-taking n.result c.in-Take.keys2 c.args.file.now ss (n.ensures.0 ss st) in
+    let s = c in answers.drop-asks s.requires.0 s.requires.1 other
 
 pub returns-in-Take : goal.returns-in-Take
 returns-in-Take c =
+    let comes : (r : NextStep) → c.next_step.result ≡ r → let a = c.args in Comes a.file.now a.p.at r =
+    λ r e ss st. subst (λ (y : NextStep). FirstStep c.args.file.now ss y) e (c.next_step.ensures.first_step ss st) in
     let t = c in
     let read = t in
     let s = read in
-    answers.takes-on s.pre.0 s.pre.1 _ (comes read _ t.in-Take.is) t.take_quote.ensures.0 t.take_quote.ensures.1
+    answers.takes-on s.requires.0 s.requires.1 _ (comes _ t.in-Take.is) t.take_quote.ensures.0 t.take_quote.ensures.1
 
 pub returns-in_default : goal.returns-in_default
 returns-in_default c =
+    let other : let a = c.args in (ss : List Step) → StepsAt a.file.now a.p.at ss → IfAny (λ c. c ≢ take_quote) (nth ss 0) =
+    λ ss st. let n = c.next_step in no-taking n.result c.in-Take.keys2 c.args.file.now ss (n.ensures.0 ss st) in
     let d = c in
     let s = d in
-    answers.drops-on s.pre.0 s.pre.1 (other d) d.drop_quote.auto.work d.drop_quote.ensures.0 d.drop_quote.ensures.1
+    answers.drops-on s.requires.0 s.requires.1 other d.drop_quote.auto.work d.drop_quote.ensures.0 d.drop_quote.ensures.1

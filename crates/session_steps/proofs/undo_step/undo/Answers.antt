@@ -8,7 +8,7 @@ pub restore-requires : goal.restore-requires
 restore-requires c =
     let br = c in
     let s = br in
-    restore_asks s.args.forgets s.pre br.bring_cache.auto.work br.bring_cache.ensures
+    restore_asks s.args.forgets s.requires br.bring_cache.auto.work br.bring_cache.ensures
 
 pub returns : goal.returns
 returns c =

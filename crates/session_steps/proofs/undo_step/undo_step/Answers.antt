@@ -16,7 +16,7 @@ undo-requires c =
     let few : c.args.number < c.args.p.adds =
     omega (arith, c.if-n-p) in
     let s = c in
-    answers.undo-asks s.pre.0 s.pre.1 s.args.forgets s.args.number s.args.next s.pre.2 few
+    answers.undo-asks s.requires.0 s.requires.1 s.args.forgets s.args.number s.args.next s.requires.2 few
 
 pub note-requires : goal.note-requires
 note-requires c =
@@ -24,7 +24,7 @@ note-requires c =
     omega (arith, c.if-n-p) in
     let test = c in
     let s = test in
-    answers.undo-note-asks s.pre.0 s.pre.1 s.args.forgets s.args.number s.args.next s.pre.2 few c.undone-q.ensures
+    answers.undo-note-asks s.requires.0 s.requires.1 s.args.forgets s.args.number s.args.next s.requires.2 few c.undone-q.ensures
 
 pub returns : goal.returns
 returns c =
@@ -35,5 +35,5 @@ returns c =
     let un = undone.undo in
     let test = undone in
     let s = test in
-    answers.undoes-on s.pre.0 s.pre.1 s.args.forgets s.args.number s.args.next s.pre.2 few un.auto.work un.ensures
+    answers.undoes-on s.requires.0 s.requires.1 s.args.forgets s.args.number s.args.next s.requires.2 few un.auto.work un.ensures
     undone.undone-q.ensures no.ensures.0 no.ensures.1
