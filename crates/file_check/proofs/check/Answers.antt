@@ -14,15 +14,15 @@ pub returns-then-not-has_mark : goal.returns-then-not-has_mark
 returns-then-not-has_mark c =
     let has-mark = c.has_mark in
     file_unmarked c.args.file.now c.turned_down-then-not-has_mark.result (omega arith)
-    (sym has-mark.ensures ∙ not-true has-mark.result c.if-not-has_mark.true) c.turned_down-then-not-has_mark.ensures
+    (sym has-mark.ensures ∙ c.if-not-has_mark.true) c.turned_down-then-not-has_mark.ensures
 
 pub after_mark-requires : goal.after_mark-requires
 after_mark-requires c =
     let has-mark = c.has_mark in
-    (mark_there c.args.file.now (sym has-mark.ensures ∙ not-false has-mark.result c.if-not-has_mark.false), omega arith)
+    (mark_there c.args.file.now (sym has-mark.ensures ∙ c.if-not-has_mark.false), omega arith)
 
 pub returns : goal.returns
 returns c =
     let has-mark = c.has_mark in
     file_marked c.args.file.now c.after_mark.result (omega arith)
-    (sym has-mark.ensures ∙ not-false has-mark.result c.if-not-has_mark.false) c.after_mark.ensures
+    (sym has-mark.ensures ∙ c.if-not-has_mark.false) c.after_mark.ensures

@@ -15,7 +15,7 @@ returns-then-not-long_enough c =
     all_of (λ (n : ℕ). n < 256) c.args.input.now 0 (λ i l. omega (arith, c.type_inv.input i)) in
     let tested = c in
     let t = tested.long_enough in
-    let the_facts = promised _ bytes _ _ (too_short _ _ _ _ _ t.result t.ensures (not-true _ c.if-not-long_enough.true) _ c.refusal.ensures) in
+    let the_facts = promised _ bytes _ _ (too_short _ _ _ _ _ t.result t.ensures c.if-not-long_enough.true _ c.refusal.ensures) in
     record { bytes_after = the_facts.0; reads_plainly = the_facts.1 }
 
 pub returns-then-input-gt65535 : goal.returns-then-input-gt65535
@@ -25,14 +25,14 @@ returns-then-input-gt65535 c =
     let tested = c in
     let t = tested.long_enough in
     let the_facts = promised _ bytes _ _
-    (too_long _ _ _ _ _ t.result t.ensures (not-false _ c.if-not-long_enough.false) (omega (arith, c.if-input-gt65535)) _ c.refusal-then-input-gt65535.ensures) in
+    (too_long _ _ _ _ _ t.result t.ensures c.if-not-long_enough.false (omega (arith, c.if-input-gt65535)) _ c.refusal-then-input-gt65535.ensures) in
     record { bytes_after = the_facts.0; reads_plainly = the_facts.1 }
 
 pub read_in-requires : goal.read_in-requires
 read_in-requires c =
     let short = c in
     let t = short.long_enough in
-    (sym t.ensures ∙ not-false _ short.if-not-long_enough.false, omega (arith, short.if-input-gt65535))
+    (sym t.ensures ∙ short.if-not-long_enough.false, omega (arith, short.if-input-gt65535))
 
 pub returns : goal.returns
 returns c =
@@ -43,5 +43,5 @@ returns c =
     let tested = short in
     let t = tested.long_enough in
     let the_facts = promised _ bytes _ _
-    (within _ _ _ _ _ t.result t.ensures (not-false _ short.if-not-long_enough.false) (omega (arith, short.if-input-gt65535)) _ read.read_in.ensures) in
+    (within _ _ _ _ _ t.result t.ensures short.if-not-long_enough.false (omega (arith, short.if-input-gt65535)) _ read.read_in.ensures) in
     record { bytes_after = the_facts.0; reads_plainly = the_facts.1 }

@@ -13,12 +13,12 @@ use Rattle.search_find.proofs.find_marked.Goals as goal
 pub returns-then-not-is_marked : goal.returns-then-not-is_marked
 returns-then-not-is_marked c = λ h named.
     let x = c in
-    finds_unmarked named x.requires.3 (sym x.is_marked.ensures ∙ not-true x.is_marked.result c.if-not-is_marked.true)
+    finds_unmarked named x.requires.3 (sym x.is_marked.ensures ∙ c.if-not-is_marked.true)
 
 pub returns-then-len-lt-MIN_SERIALIZED_LENGTH : goal.returns-then-len-lt-MIN_SERIALIZED_LENGTH
 returns-then-len-lt-MIN_SERIALIZED_LENGTH c =
     let marked : marked_at c.args.work.now c.args.e.0 ≡ true =
-    sym c.is_marked.ensures ∙ not-false c.is_marked.result c.if-not-is_marked.false in
+    sym c.is_marked.ensures ∙ c.if-not-is_marked.false in
     λ h named. let x = c in finds_short named x.requires.3 marked x.length_at-len.ensures c.if-len-lt-MIN_SERIALIZED_LENGTH.true
 
 pub find_path-requires : goal.find_path-requires
@@ -29,7 +29,7 @@ find_path-requires c =
 pub returns : goal.returns
 returns c =
     let marked : marked_at c.args.work.now c.args.e.0 ≡ true =
-    sym c.is_marked.ensures ∙ not-false c.is_marked.result c.if-not-is_marked.false in
+    sym c.is_marked.ensures ∙ c.if-not-is_marked.false in
     λ h named.
     let x = c in
     let s = x in

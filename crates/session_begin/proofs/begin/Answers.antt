@@ -19,12 +19,12 @@ returns-then-not-long_enough c =
     let l = c.long_enough in
     let known = c in
     let a = known.args in
-    (bytes, begin_short a.measure a.file.now a.work.now a.words a.records (sym l.ensures ∙ not-true l.result c.if-not-long_enough.true) c.refused.ensures)
+    (bytes, begin_short a.measure a.file.now a.work.now a.words a.records (sym l.ensures ∙ c.if-not-long_enough.true) c.refused.ensures)
 
 pub returns-then-checked-ne0 : goal.returns-then-checked-ne0
 returns-then-checked-ne0 c =
     let long : let a = c.args in are_long (length a.work.now) a.words a.records ≡ true =
-    let l = c.long_enough in sym l.ensures ∙ not-false l.result c.if-not-long_enough.false in
+    let l = c.long_enough in sym l.ensures ∙ c.if-not-long_enough.false in
     let bytes : Bytes c.args.file.now =
     all_of (λ (n : ℕ). n < 256) c.args.file.now 0 (λ i m. omega (arith, c.type_inv.file i)) in
     let checked = c in
@@ -36,7 +36,7 @@ returns-then-checked-ne0 c =
 pub open-requires : goal.open-requires
 open-requires c =
     let long : let a = c.args in are_long (length a.work.now) a.words a.records ≡ true =
-    let l = c.long_enough in sym l.ensures ∙ not-false l.result c.if-not-long_enough.false in
+    let l = c.long_enough in sym l.ensures ∙ c.if-not-long_enough.false in
     let checked = c in
     let a = checked.args in
     let k = checked.check-checked in
@@ -45,7 +45,7 @@ open-requires c =
 pub returns : goal.returns
 returns c =
     let long : let a = c.args in are_long (length a.work.now) a.words a.records ≡ true =
-    let l = c.long_enough in sym l.ensures ∙ not-false l.result c.if-not-long_enough.false in
+    let l = c.long_enough in sym l.ensures ∙ c.if-not-long_enough.false in
     let bytes : Bytes c.args.file.now =
     all_of (λ (n : ℕ). n < 256) c.args.file.now 0 (λ i m. omega (arith, c.type_inv.file i)) in
     let o = c.open in

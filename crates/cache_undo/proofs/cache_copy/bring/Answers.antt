@@ -82,13 +82,34 @@ bring_lists-requires c =
 
 pub returns : goal.returns
 returns c v b =
-    let l = c in
-    let f = l in
-    let d = f in
+    let maps-copied : Copied c.take_off.new.work c.copy_within.new.words (copied_maps c.args.k) MAPS c.wide-pairs.result =
+    let o = c in
+    let s = o in
+    let b = s.requires.1.1 in
+    let m = o.wide-pairs in
+    copied _ (copied_maps s.args.k) MAPS m.result (omega (arith, b.sound.long, o.take_off.ensures.len, m.ensures, b.few_pairs))
+    (omega (arith, b.sound.long, o.take_off.ensures.len, m.ensures, b.few_pairs)) _ c.copy_within.ensures in
+    let counts-copied : Copied c.copy_within.new.words c.copy_within-2.new.words (copied_counts c.args.k) COUNTS c.wide-n.result =
+    let m = c in
+    let o = m in
+    let s = o in
+    let b = s.requires.1.1 in
+    let n = o.wide-n in
+    let l = maps-copied.len in
+    copied _ (copied_counts s.args.k) COUNTS n.result (omega (arith, b.sound.long, o.take_off.ensures.len, n.ensures, b.copied.used, b.then_sound.used))
+    (omega (arith, b.sound.long, o.take_off.ensures.len, n.ensures, b.copied.used, b.then_sound.used)) _ c.copy_within-2.ensures in
+    let firsts-copied : let d = c in
+    let o = d in
+    Copied d.copy_within-2.new.words c.bring_first_links.new.work (copied_firsts o.args.k) PARENTS o.wide-n.result =
+    let d = c in
     let m = d in
     let o = m in
     let s = o in
+    let b = s.requires.1.1 in
     let n = o.wide-n in
-    cache_brought v s.args.work.now _ _ _ _ s.args.k n.result _ s.requires.0 b n.ensures o.wide-pairs.ensures
-    o.take_off.ensures (maps-copied m) (counts-copied d) (firsts-copied f) _
-    l.bring_lists.ensures
+    let l = counts-copied.len ∙ maps-copied.len in
+    copied _ (copied_firsts s.args.k) PARENTS n.result (omega (arith, b.sound.long, o.take_off.ensures.len, n.ensures, b.copied.used, b.then_sound.used))
+    (omega (arith, b.sound.long, o.take_off.ensures.len, n.ensures, b.copied.used, b.then_sound.used)) _ c.bring_first_links.ensures in
+    cache_brought v c.args.work.now _ _ _ _ c.args.k c.wide-n.result _ c.requires.0 b c.wide-n.ensures c.wide-pairs.ensures
+    c.take_off.ensures maps-copied counts-copied firsts-copied _
+    c.bring_lists.ensures

@@ -27,7 +27,7 @@ pub returns-then-not-path_bit : goal.returns-then-not-path_bit
 returns-then-not-path_bit c =
     let h = c in
     λ bits e l. down_stop bits h.args.depth h.loop-i.i (h.loop-i.invariant.2 bits e l) (omega arith)
-    (sym (c.path_bit.ensures bits e (omega arith)) ∙ not-true _ c.if-not-path_bit.true)
+    (sym (c.path_bit.ensures bits e (omega arith)) ∙ c.if-not-path_bit.true)
 
 pub loop-i-preserved : goal.loop-i-preserved
 loop-i-preserved c =
@@ -35,7 +35,7 @@ loop-i-preserved c =
       omega arith,
       omega arith,
       λ bits e l. down_more bits h.args.depth h.loop-i.i (h.loop-i.invariant.2 bits e l) (omega arith) (omega arith)
-          (sym (c.path_bit.ensures bits e (omega arith)) ∙ not-false _ c.if-not-path_bit.false),
+          (sym (c.path_bit.ensures bits e (omega arith)) ∙ c.if-not-path_bit.false),
     )
 
 pub returns : goal.returns

@@ -23,7 +23,7 @@ returns-then-not-is_pair c =
     let h = c in
     let a = h.args in
     λ bits e l. onward_atom a.pairs.now a.used bits a.from a.start.0 h.loop-i.i h.loop-i.node.0 (h.loop-i.invariant.2 bits e l) (omega arith)
-    (sym c.is_pair.ensures ∙ not-true _ c.if-not-is_pair.true)
+    (sym c.is_pair.ensures ∙ c.if-not-is_pair.true)
 
 pub path_bit-requires : goal.path_bit-requires
 path_bit-requires c = omega (arith, c.requires.1)
@@ -35,14 +35,14 @@ side-node-requires c =
     omega (
       arith,
       h.loop-i.invariant.1.room,
-      pair_within a.used (node_of h.loop-i.node.0) (sym c.is_pair.ensures ∙ not-false _ c.if-not-is_pair.false) h.loop-i.invariant.1.here,
+      pair_within a.used (node_of h.loop-i.node.0) (sym c.is_pair.ensures ∙ c.if-not-is_pair.false) h.loop-i.invariant.1.here,
     )
 
 pub loop-i-preserved : goal.loop-i-preserved
 loop-i-preserved c =
     let h = c in
     let a = h.args in
-    let p = sym c.is_pair.ensures ∙ not-false _ c.if-not-is_pair.false in (
+    let p = sym c.is_pair.ensures ∙ c.if-not-is_pair.false in (
       omega arith,
       reachable_next a.pairs.now a.used h.loop-i.node.0 h.loop-i.invariant.1 p c.path_bit.result c.side-node.result.0 c.side-node.ensures,
       λ bits e l. onward_next a.pairs.now a.used bits a.from a.start.0 h.loop-i.i h.loop-i.node.0 (h.loop-i.invariant.2 bits e l) (omega arith) p

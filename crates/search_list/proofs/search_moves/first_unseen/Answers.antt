@@ -39,7 +39,7 @@ returns-then-not-is_seen c =
     let k = p.loop-i in
     let n = p.count_of-all in
     seeking_found s.args.work.now s.args.e.0 k.i p.parent_at-p.result.0 n.result n.ensures.0 k.invariant
-    (seen ∙ not-true _ c.if-not-is_seen.true) p.parent_at-p.ensures
+    (seen ∙ c.if-not-is_seen.true) p.parent_at-p.ensures
 
 pub loop-i-preserved : goal.loop-i-preserved
 loop-i-preserved c =
@@ -51,7 +51,7 @@ loop-i-preserved c =
     let s = c in
     let k = c.loop-i in
     seeking_more s.args.work.now s.args.e.0 k.i k.invariant
-    next (seen ∙ not-false _ c.if-not-is_seen.false)
+    next (seen ∙ c.if-not-is_seen.false)
 
 pub returns : goal.returns
 returns c =
