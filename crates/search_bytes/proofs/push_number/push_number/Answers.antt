@@ -24,7 +24,7 @@ loop-left-preserved c =
     let t = c in
     let l = t.loop-left in
     push_more l.invariant _ _ (one_holds p.ensures) p.auto.store (omega (arith, t.loop-left-test.true))
-    (number_next l.left l.rest _ _ t.loop-left-test.true c.Lowest-step.ensures)
+    (number_next l.left l.rest _ _ t.loop-left-test.true c.lowest_step.ensures)
 
 pub shape_of-store : goal.shape_of-store
 shape_of-store c = c.loop-left.invariant.len
