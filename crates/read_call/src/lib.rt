@@ -58,8 +58,7 @@ fn read_in(
 }
 
 // Reads a serialized tree into a fresh, empty store. The slices are lent: work, and the pairs, atoms and atom bytes of the store.
-#[unsafe(no_mangle)]
-pub extern "C" fn nikvoldra_read(
+pub fn nikvoldra_read(
     input: &[u8],
     work: &mut [u32],
     pairs: &mut [u32],

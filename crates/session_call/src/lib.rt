@@ -16,8 +16,7 @@ use session_state::Checkpoint;
 
 // A session file is run. The slices are lent: work, three words for each step, sixteen checkpoint records, and the output. A found path is measured by the
 // Rust's ranges.
-#[unsafe(no_mangle)]
-pub extern "C" fn nikvoldra_session(
+pub fn nikvoldra_session(
     file: &[u8],
     work: &mut [u32],
     words: &mut [u32],
@@ -34,8 +33,7 @@ pub extern "C" fn nikvoldra_session(
 }
 
 // The same, but a found path is measured as the documentation has it: a reference is written where it is no longer than what it stands for.
-#[unsafe(no_mangle)]
-pub extern "C" fn nikvoldra_session_documented(
+pub fn nikvoldra_session_documented(
     file: &[u8],
     work: &mut [u32],
     words: &mut [u32],

@@ -6,7 +6,7 @@ use mathlib.Core.Bool.{true}
 use native.Mathlib.Omega.{arith}
 use borrow.Author.Rules.{rules}
 use Rattle.work_layout.specs.Layout.{FIRST}
-use Rattle.allocator.specs.Handle.{listed-atom, node_of, handle_of}
+use Rattle.allocator.specs.Handle.{listed_atom, node_of, handle_of}
 use Rattle.words.specs.Words.{at}
 use Rattle.cache_entries.specs.Effects.{is_listed}
 use Rattle.cache_entries.proofs.Atoms.{listed_few, first_few, stands_listed, stands_small}
@@ -38,7 +38,7 @@ returns-then-is_listed c =
     let i = c.wide-i.ensures ∙ c.index.ensures in
     let f = c.first_of-first.ensures ∙ ap (λ (k : ℕ). at s.args.work.now (FIRST + k)) i in
     stands_listed s.args.work.now s.args.h.0 s.requires.0 s.requires.1 listed c.bytes.result.0
-    (c.bytes.ensures ∙ ap (λ (k : ℕ). handle_of (listed-atom k)) f)
+    (c.bytes.ensures ∙ ap (λ (k : ℕ). handle_of (listed_atom k)) f)
 
 pub returns : goal.returns
 returns c =

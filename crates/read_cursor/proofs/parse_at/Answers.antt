@@ -1,7 +1,7 @@
 -- `read_cursor::parse_at` meets its contract.
 -- Assumes nothing.
 use borrow.Author.Rules.{rules}
-use Rattle.atom_decode.specs.Answers.{parse-of}
+use Rattle.atom_decode.specs.Answers.{parse_of}
 use Rattle.read_cursor.proofs.Steps as steps
 use Rattle.read_cursor.proofs.parse_at.Goals as goal
 
@@ -15,12 +15,12 @@ pub returns-then-b-2 : goal.returns-then-b-2
 returns-then-b-2 c =
     let g = c.first.given in
     let s = c in
-    steps.parsed_path s.args.first g.0.0 g.1 s.args.input.now s.args.position (parse-of c.parse_atom-found.result) c.parse_atom-found.ensures
+    steps.parsed_path s.args.first g.0.0 g.1 s.args.input.now s.args.position (parse_of c.parse_atom-found.result) c.parse_atom-found.ensures
     c.if-b.false c.if-b-2.true
 
 pub returns-else-b-2 : goal.returns-else-b-2
 returns-else-b-2 c =
     let g = c.first.given in
     let s = c in
-    steps.parsed_atom s.args.first g.0.0 g.1 s.args.input.now s.args.position (parse-of c.parse_atom-found.result) c.parse_atom-found.ensures
+    steps.parsed_atom s.args.first g.0.0 g.1 s.args.input.now s.args.position (parse_of c.parse_atom-found.result) c.parse_atom-found.ensures
     c.if-b.false c.if-b-2.false

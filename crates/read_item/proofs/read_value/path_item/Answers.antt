@@ -1,7 +1,7 @@
 -- `read_item::read_value::path_item` meets its contract.
 -- Assumes nothing.
 use mathlib.Core.Path.{refl, sym, ap, ◌∙◌}
-use Rattle.atom_decode.specs.Answers.{parse-of}
+use Rattle.atom_decode.specs.Answers.{parse_of}
 use Rattle.read_item.proofs.read_value.Paths as paths
 use borrow.Author.Rules.{rules}
 use Rattle.read_item.proofs.read_value.path_item.Goals as goal
@@ -10,10 +10,10 @@ pub push_path-requires : goal.push_path-requires
 push_path-requires c =
     let s = c in
     let g = c.found.given in
-    (s.requires.0, record { start = g.0.0; there = sym (ap parse-of g.1) ∙ s.requires.1; found = refl })
+    (s.requires.0, record { start = g.0.0; there = sym (ap parse_of g.1) ∙ s.requires.1; found = refl })
 
 pub returns-in-SerializationError : goal.returns-in-SerializationError
-returns-in-SerializationError c = paths.path_turned_down _ _ _ _ 14 (sym (ap parse-of c.in-SerializationError.is) ∙ c.requires.1)
+returns-in-SerializationError c = paths.path_turned_down _ _ _ _ 14 (sym (ap parse_of c.in-SerializationError.is) ∙ c.requires.1)
 
 pub returns-in-NonCanonicalSerialization : goal.returns-in-NonCanonicalSerialization
-returns-in-NonCanonicalSerialization c = paths.path_turned_down _ _ _ _ 15 (sym (ap parse-of c.in-NonCanonicalSerialization.is) ∙ c.requires.1)
+returns-in-NonCanonicalSerialization c = paths.path_turned_down _ _ _ _ 15 (sym (ap parse_of c.in-NonCanonicalSerialization.is) ∙ c.requires.1)
