@@ -11,13 +11,8 @@ use Rattle.read_call.proofs.nikvoldra_read.Goals as goal
 
 pub returns-then-not-long_enough : goal.returns-then-not-long_enough
 returns-then-not-long_enough c =
-<<<<<<< HEAD
     let bytes : Bytes c.args.input.now =
     all_of (λ (n : ℕ). n < 256) c.args.input.now 0 (λ i l. omega (arith, c.type_inv.input i)) in
-=======
-    let bytes : Bytes input-known.before.args.input.now =
-    all_of (λ (n : ℕ). n < 256) input-known.before.args.input.now 0 (λ i l. omega (arith, input-known.shared-slice-known.given i)) in
->>>>>>> 544a362a (The static library is a crate of its own, nikvoldra, over read_call and session_call)
     let tested = c in
     let t = tested.long_enough in
     let the_facts = promised _ bytes _ _ (too_short _ _ _ _ _ t.result t.ensures c.if-not-long_enough.true _ c.refusal.ensures) in
@@ -25,13 +20,8 @@ returns-then-not-long_enough c =
 
 pub returns-then-input-gt65535 : goal.returns-then-input-gt65535
 returns-then-input-gt65535 c =
-<<<<<<< HEAD
     let bytes : Bytes c.args.input.now =
     all_of (λ (n : ℕ). n < 256) c.args.input.now 0 (λ i l. omega (arith, c.type_inv.input i)) in
-=======
-    let bytes : Bytes input-known.before.args.input.now =
-    all_of (λ (n : ℕ). n < 256) input-known.before.args.input.now 0 (λ i l. omega (arith, input-known.shared-slice-known.given i)) in
->>>>>>> 544a362a (The static library is a crate of its own, nikvoldra, over read_call and session_call)
     let tested = c in
     let t = tested.long_enough in
     let the_facts = promised _ bytes _ _
@@ -46,13 +36,8 @@ read_in-requires c =
 
 pub returns : goal.returns
 returns c =
-<<<<<<< HEAD
     let bytes : Bytes c.args.input.now =
     all_of (λ (n : ℕ). n < 256) c.args.input.now 0 (λ i l. omega (arith, c.type_inv.input i)) in
-=======
-    let bytes : Bytes input-known.before.args.input.now =
-    all_of (λ (n : ℕ). n < 256) input-known.before.args.input.now 0 (λ i l. omega (arith, input-known.shared-slice-known.given i)) in
->>>>>>> 544a362a (The static library is a crate of its own, nikvoldra, over read_call and session_call)
     let read = c in
     let short = read in
     let tested = short in
