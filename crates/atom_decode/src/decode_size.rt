@@ -1,6 +1,6 @@
 // The prefix of an atom or a path, read: how many bytes it takes, and the size that it carries.
 ghost use Rattle.std.specs.Prelude.{◌≡◌, ◌+◌, ◌-◌, ◌^◌, ◌≤◌, ◌<◌, length, get_or, drop};
-ghost use Rattle.atom.specs.Parse.{ones, «one_byte», decode_size};
+ghost use Rattle.atom.specs.Parse.{ones, one_byte, decode_size};
 ghost use Rattle.atom_decode.specs.decode_size.Answers.{decoded_size};
 
 use atom::{SIZE_LIMIT, least_size};
@@ -42,7 +42,7 @@ fn leading_ones(byte: u8) -> Ones
 
 // A prefix that carries the size 1: the byte has to follow, and not be one that stands for itself.
 fn one_byte(input: &[u8], position: usize, offset: usize) -> DecodeSize
-    ensures { decoded_size result ≡ «one_byte» offset (drop position input.now) }
+    ensures { decoded_size result ≡ one_byte offset (drop position input.now) }
 {
     if input.len() <= position {
         return DecodeSize::SerializationError;

@@ -1,7 +1,7 @@
 // The prefix of an atom, written.
 ghost use Rattle.std.specs.Prelude.{◌≡◌, ◌+◌, ◌^◌, ◌≤◌, ◌<◌, length};
 ghost use Rattle.std.proofs.Math.Seq.{paste};
-ghost use Rattle.words.specs.BigEndian.{«big_endian»};
+ghost use Rattle.words.specs.BigEndian.{big_endian};
 ghost use Rattle.atom.specs.Prefix.{mark, prefix};
 
 // The leading ones of a prefix of each width.
@@ -17,7 +17,7 @@ fn mark_of(width: usize) -> u64
 // The last `width` bytes of a number, the highest first, from `position` on.
 fn write_number(output: &mut [u8], position: usize, width: usize, number: u64)
     requires { position + width ≤ length output.old }
-    ensures { output.new ≡ paste output.old position («big_endian» width number) width }
+    ensures { output.new ≡ paste output.old position (big_endian width number) width }
 {
     let mut left = width;
     let mut rest = number;

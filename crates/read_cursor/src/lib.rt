@@ -2,7 +2,7 @@
 #![tactic(auto)]
 
 ghost use Rattle.std.specs.Prelude.{◌≡◌, ◌+◌, ◌<◌, ◌^◌};
-ghost use Rattle.read_cursor.specs.Heads.{«byte_at», mark_width, parsed, «head_at», there_of};
+ghost use Rattle.read_cursor.specs.Heads.{byte_at, mark_width, parsed, head_at, there_of};
 
 use atom::{BACK_REFERENCE, CONS_BOX_MARKER};
 use atom_decode::ParseAtom;
@@ -31,7 +31,7 @@ pub enum Head {
 }
 
 fn byte_at(input: &[u8], position: usize) -> First
-    ensures { result ≡ «byte_at» input.now position }
+    ensures { result ≡ byte_at input.now position }
 {
     if position < input.len() {
         return First::Byte(input[position]);
@@ -75,7 +75,7 @@ fn parse_at(input: &[u8], position: usize, first: First) -> Head
 
 // The byte at the cursor, or that there is none.
 fn read_byte<'a>(c: Cursor<'a>) -> First
-    ensures { result ≡ «byte_at» c.entry.input.now c.entry.position }
+    ensures { result ≡ byte_at c.entry.input.now c.entry.position }
 {
     byte_at(c.input, c.position)
 }
@@ -100,7 +100,7 @@ fn parse<'a>(c: Cursor<'a>, first: First) -> Head
 
 // What stands at a place of the input. A reference's path is parsed after its mark.
 pub fn head_at(input: &[u8], position: usize) -> Head
-    ensures { there_of result ≡ «head_at» input.now position }
+    ensures { there_of result ≡ head_at input.now position }
 {
     let c = Cursor { input, position };
     let first = read_byte(c);

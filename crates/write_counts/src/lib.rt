@@ -2,7 +2,7 @@
 #![tactic(auto)]
 
 ghost use Rattle.std.specs.Prelude.{◌≡◌, ◌+◌, ◌≤◌};
-ghost use Rattle.write_counts.specs.Counts.{«no_items», grown};
+ghost use Rattle.write_counts.specs.Counts.{no_items, grown};
 
 // Their bytes, the references among them, and the bytes of prefixes, those of paths included.
 #[derive(Clone, Copy)]
@@ -14,7 +14,7 @@ pub struct Counts {
 
 // Nothing is written.
 pub fn none() -> Counts
-    ensures { result ≡ «no_items» }
+    ensures { result ≡ no_items }
 {
     Counts {
         size: 0,

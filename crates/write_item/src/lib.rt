@@ -5,7 +5,7 @@
 pub mod write_reference;
 
 ghost use Rattle.std.specs.Prelude.{◌≡◌, ◌+◌, ◌^◌, ◌<◌, leb, length};
-ghost use Rattle.allocator.specs.SmallAtom.{«small_bytes»};
+ghost use Rattle.allocator.specs.SmallAtom.{small_bytes};
 ghost use Rattle.spec_session.specs.Items.{cons_item, atom_item};
 ghost use Rattle.write_counts.specs.Counts.{Bounded};
 ghost use Rattle.write_item.specs.Answers.{ItemPut};
@@ -59,7 +59,7 @@ pub fn write_listed(output: &mut [u8], counts: Counts, blob: &[u8]) -> Put
 // A small atom, which has no bytes in the file.
 pub fn write_small(output: &mut [u8], counts: Counts, value: u32) -> Put
     requires { (Bounded counts) × (value < 2 ^ 26) }
-    ensures { ItemPut output.old output.new counts (atom_item («small_bytes» value)) result }
+    ensures { ItemPut output.old output.new counts (atom_item (small_bytes value)) result }
 {
     let small = small_atom::small_atom_bytes(value);
     let bytes = small.bytes;

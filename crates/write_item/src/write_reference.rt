@@ -5,7 +5,7 @@ ghost use Rattle.std.proofs.Math.Option.{some};
 ghost use Rattle.std.proofs.Math.Seq.{paste};
 ghost use Rattle.words.specs.Words.{WORK};
 ghost use Rattle.atom.specs.Prefix.{prefix, prefix_width};
-ghost use Rattle.path.specs.Bytes.{«path_bytes»};
+ghost use Rattle.path.specs.Bytes.{path_bytes};
 ghost use Rattle.spec_search.specs.PathBits.{Ends};
 ghost use Rattle.search_list.specs.State.{Readable, path_at};
 ghost use Rattle.spec_session.specs.Items.{reference_item};
@@ -29,7 +29,7 @@ fn path_width(bits: usize) -> usize
     requires { bits ≤ 8192 }
     ensures { (result ≤ 5)
         × ((path : List Bool) → bits ≡ length (path ++ true ∷ [])
-        → prefix_width («path_bytes» (path ++ true ∷ [])) ≡ some result) }
+        → prefix_width (path_bytes (path ++ true ∷ [])) ≡ some result) }
 {
     if bits < 8 {
         return 0;
@@ -43,7 +43,7 @@ fn put_path(work: &[u32], slot: usize, output: &mut [u8], start: usize, count: u
         × (Readable work.now slot)
         × (count ≡ (length (path_at work.now slot) + 7) / 8)
         × (start + count ≤ length output.old) }
-    ensures { output.new ≡ paste output.old start («path_bytes» (path_at work.now slot)) count }
+    ensures { output.new ≡ paste output.old start (path_bytes (path_at work.now slot)) count }
 {
     let end = start + count;
     search_bytes::path_bytes(work, slot, &mut output[start..end]);
@@ -65,7 +65,7 @@ fn put_reference(
     requires width_bound { (width ≤ 5) × (size + (1 + (width + count)) ≤ length output.old) }
     ensures { output.new
         ≡ paste (paste (set output.old size 0xfe) (size + 1) (prefix width count) width) (size + 1 + width)
-        («path_bytes» (path_at work.now slot)) count }
+        (path_bytes (path_at work.now slot)) count }
 {
     output[size] = atom::BACK_REFERENCE;
     write_prefix::write_prefix(output, size + 1, width, count as u64);

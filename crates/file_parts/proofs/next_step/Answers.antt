@@ -11,6 +11,7 @@ use Rattle.spec_session.specs.File.{add, restore, forget, quote}
 use Rattle.file_parts.specs.PlaceLaws.{size_low}
 use Rattle.file_parts.proofs.LoadLaws.{step_short, step_first, coded, handle_size, number_size, restore_coded}
 use Rattle.file_parts.proofs.next_step.Goals as goal
+use Rattle.file_parts.proofs.next_step.Goals.{then-code-eq1-via-then-code-eq1, then-code-eq1-via-else-code-eq1+then-code-eq4}
 
 pub returns-then-file-at : goal.returns-then-file-at
 returns-then-file-at c =
@@ -26,7 +27,7 @@ returns-then-code-eq5 c =
 pub returns-then-left-lt5 : goal.returns-then-left-lt5
 returns-then-left-lt5 c =
     let of-handle : let v = c.number_at-code.result in (v ≡ 1) ⊎ (v ≡ 4) =
-    ⊎_elim (λ w. inl w.taken) (λ w. inr (eqb-true c.number_at-code.result 4 w.1.taken)) c.if-code-eq1.branch in
+    elim c.then-code-eq1.branch [ then-code-eq1-via-then-code-eq1 w ↦ inl w.if-code-eq1.true | then-code-eq1-via-else-code-eq1+then-code-eq4 w ↦ inr w.if-code-eq4.true ] in
     let a = c.args in
     let code = c.number_at-code in
     record { first_step = step_short a.file.now a.at code.result code.ensures 5 (handle_size a.file.now a.at code.result of-handle) (omega arith); beyond = tt }
@@ -40,7 +41,7 @@ returns-then-code-eq4-2 c =
 pub returns-then-code-eq1 : goal.returns-then-code-eq1
 returns-then-code-eq1 c =
     let of-handle : let v = c.number_at-code.result in (v ≡ 1) ⊎ (v ≡ 4) =
-    ⊎_elim (λ w. inl w.taken) (λ w. inr (eqb-true c.number_at-code.result 4 w.1.taken)) c.if-code-eq1.branch in
+    elim c.then-code-eq1.branch [ then-code-eq1-via-then-code-eq1 w ↦ inl w.if-code-eq1.true | then-code-eq1-via-else-code-eq1+then-code-eq4 w ↦ inr w.if-code-eq4.true ] in
     let a = c.args in
     let code = c.number_at-code in
     let operand = c.number_at in
@@ -51,7 +52,7 @@ returns-then-left-lt3 c =
     let b = c in
     let a = b.args in
     let code = b.number_at-code in
-    let size = number_size a.file.now a.at code.result b.if-code-eq5.false b.if-code-eq1.false (eqb-false code.result 4 b.if-code-eq4.false) in
+    let size = number_size a.file.now a.at code.result b.if-code-eq5.false b.if-code-eq1.false b.if-code-eq4.false in
     record { first_step = step_short a.file.now a.at code.result code.ensures 3 size (omega arith); beyond = tt }
 
 pub returns-then-code-eq3 : goal.returns-then-code-eq3
@@ -67,4 +68,4 @@ returns c =
     let a = b.args in
     let code = b.number_at-code in
     let operand = c.number_at-number in
-    let same = restore_coded a.file.now a.at code.result b.if-code-eq5.false b.if-code-eq1.false (eqb-false code.result 4 b.if-code-eq4.false) c.if-code-eq3.false in record { first_step = step_first a.file.now a.at code.result code.ensures _ (ap restore operand.ensures ∙ sym same) (omega arith); beyond = (omega arith, omega arith) }
+    let same = restore_coded a.file.now a.at code.result b.if-code-eq5.false b.if-code-eq1.false b.if-code-eq4.false c.if-code-eq3.false in record { first_step = step_first a.file.now a.at code.result code.ensures _ (ap restore operand.ensures ∙ sym same) (omega arith); beyond = (omega arith, omega arith) }

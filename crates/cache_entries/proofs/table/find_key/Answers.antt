@@ -7,6 +7,7 @@ use Rattle.work_layout.specs.Rows.{rows_of}
 use Rattle.cache_entries.specs.table.Effects.{find_row}
 use Rattle.cache_entries.proofs.table.Chain.{Sought, seek_start, seek_found, seek_less, seek_next, seek_none}
 use Rattle.cache_entries.proofs.table.find_key.Goals as goal
+use Rattle.cache_entries.proofs.table.find_key.Goals.{then-work-e+else-work-e-2, else-work-e}
 
 pub loop-head-init : goal.loop-head-init
 loop-head-init c = let s = c in seek_start s.args.work.now s.requires _ _ c.slot_of-slot.result c.slot_of-slot.ensures
@@ -35,7 +36,7 @@ loop-head-preserved c =
     let k = t in
     let s = k in
     seek_next s.args.work.now s.requires _ _ _ k.slot_of-slot.ensures k.loop-head.head t.wide-e.result k.loop-head.invariant t.loop-head-test.true t.wide-e.ensures
-    (λ has. ⊎_elim (λ x. x.3.left has.1) (λ x. x.left has.0) c.if-work-e.branch)
+    (λ has. elim c.if-work-e.branch [ then-work-e+else-work-e-2 x ↦ x.if-work-e-2.false has.1 | else-work-e x ↦ x.if-work-e.false has.0 ])
 
 pub returns : goal.returns
 returns c =

@@ -9,8 +9,7 @@ use Rattle.read_item.proofs.read_value.path_item.Goals as goal
 pub push_path-requires : goal.push_path-requires
 push_path-requires c =
     let s = c in
-    let g = c.found.given in
-    (s.requires.0, record { start = g.0.0; there = sym (ap parse_of g.1) ∙ s.requires.1; found = refl })
+    (s.requires.0, record { start = c.in-Blob.start; there = sym (ap parse_of c.in-Blob.is) ∙ s.requires.1; found = refl })
 
 pub returns-in-SerializationError : goal.returns-in-SerializationError
 returns-in-SerializationError c = paths.path_turned_down _ _ _ _ 14 (sym (ap parse_of c.in-SerializationError.is) ∙ c.requires.1)

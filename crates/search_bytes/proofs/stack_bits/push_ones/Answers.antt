@@ -58,7 +58,7 @@ push_number-requires-2 c =
     let b = w.push_bytes-whole in (
       b.ensures.sound,
       ones_fits s.args.store.now b.new.store b.result bits (full + first) ((s.args.ones - first) % 8) s.args.ones s.requires.1
-          (b.auto.store ∙ x.push_number-filled.kept.0) whole (omega (arith, few)),
+          (b.auto.store ∙ x.push_number-filled.auto.store) whole (omega (arith, few)),
     )
 
 pub returns : goal.returns
