@@ -13,7 +13,7 @@ loop-i-preserved c =
     let k = c in
     let xs = c.args.bytes.now in
     let l = k.loop-i in
-    (omega arith, l.invariant.1 ∙ sum_more xs l.sum l.i (omega arith) ∙ rw (c.wrapping_add_u32-sum.ensures, c.wrapping_add_u32-twice.ensures, c.word.ensures))
+    (omega arith, l.invariant.1 ∙ sum_more xs l.sum l.i (omega arith) ∙ rw (c.wrapping_add_u32-sum.ensures.value, c.wrapping_add_u32-twice.ensures.value, c.word.ensures))
 
 pub returns : goal.returns
 unfolding slot_of
