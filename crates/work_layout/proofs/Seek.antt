@@ -1,6 +1,6 @@
 -- A lookup goes along one chain alone: what is sought stands in it, and what lies between two of its places is not sought.
 -- Assumes nothing.
-use Rattle.std.proofs.Common.{◌≡◌, ℕ, suc, ◌-◌, ◌<◌, ◌≤◌, sym, ap, ◌∙◌, arith}
+use Rattle.std.proofs.Common.{◌≡◌, ℕ, suc, ◌<◌, ◌≤◌, sym, ap, ◌∙◌, arith}
 use native.Mathlib.Decide.{ℕ_discrete, dec_lt}
 use Rattle.work_layout.specs.Rows.{prev}
 use Rattle.work_layout.specs.Prev.{prev_le, prev_prev, prev_slot, prev_above}

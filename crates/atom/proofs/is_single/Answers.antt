@@ -2,7 +2,6 @@
 -- Assumes nothing.
 use mathlib.Core.Path.{sym}
 use Rattle.atom.specs.PrefixLaws.{single_one, single_other}
-use borrow.Author.Rules.{rules}
 use Rattle.atom.proofs.is_single.Goals as goal
 
 pub returns-then-atom-eq1 : goal.returns-then-atom-eq1

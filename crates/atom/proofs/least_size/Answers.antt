@@ -3,7 +3,6 @@
 use native.Mathlib.Omega.{arith}
 use Rattle.atom.specs.Prefix.{least}
 use Rattle.atom.specs.PrefixLaws.{table_at, least_sizes}
-use borrow.Author.Rules.{rules}
 use Rattle.atom.proofs.least_size.Goals as goal
 
 pub returns : goal.returns

@@ -2,7 +2,6 @@
 -- Assumes nothing.
 use mathlib.Core.Path.{sym, ◌∙◌}
 use Rattle.atom.specs.WriteLaws.{width_of_single, width_of_large, width_of_sized}
-use borrow.Author.Rules.{rules}
 use Rattle.atom.proofs.prefix_width.Goals as goal
 
 pub returns-then-is_single : goal.returns-then-is_single

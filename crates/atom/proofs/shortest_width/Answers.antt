@@ -1,9 +1,7 @@
 -- `atom::shortest_width` meets its contract. The invariant: no width below `w` holds the size.
 -- Assumes nothing.
-use Prim.Native.Nat.{◌≤◌, ◌-◌}
 use mathlib.Core.Path.{◌≡◌, refl, ◌∙◌}
 use native.Mathlib.Omega.{arith}
-use Rattle.atom.specs.Prefix.{first_width, width}
 use Rattle.atom.specs.PrefixLaws.{least_next, width_here, width_on}
 use Rattle.atom.proofs.shortest_width.Goals as goal
 

@@ -1,10 +1,8 @@
 -- `atom::shortest_width` meets its contract. The invariant: no width below `w` holds the size.
 -- Assumes nothing.
 use Prim.Native.Nat.{◌≤◌, ◌-◌}
-use mathlib.Core.Path.{◌≡◌, refl, ◌∙◌}
-use native.Mathlib.Omega.{arith}
+use mathlib.Core.Path.{◌≡◌}
 use Rattle.atom.specs.Prefix.{first_width, width}
-use Rattle.atom.specs.PrefixLaws.{least_next, width_here, width_on}
 use Rattle.atom.proofs.shortest_width.Given as goal
 
 abbrev pub invariant-loop-w : goal.invariant-loop-w

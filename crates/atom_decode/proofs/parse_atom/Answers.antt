@@ -6,7 +6,6 @@ use mathlib.Core.Path.{sym, ap, ◌∙◌}
 use native.Mathlib.Omega.{arith}
 use native.Mathlib.Nat.{add-zero}
 use Rattle.atom.specs.ParseLaws.{at_end, at_single}
-use borrow.Author.Rules.{rules}
 use Rattle.atom_decode.proofs.parse_atom.Goals as goal
 
 pub returns-then-input-position : goal.returns-then-input-position

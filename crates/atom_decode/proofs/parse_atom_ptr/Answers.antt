@@ -2,7 +2,6 @@
 -- Assumes nothing.
 use mathlib.Core.Path.{sym}
 use Rattle.atom.specs.ParseLaws.{blob_refused}
-use borrow.Author.Rules.{rules}
 use Rattle.atom_decode.proofs.parse_atom_ptr.Goals as goal
 
 pub returns-in-Blob : goal.returns-in-Blob

@@ -3,7 +3,6 @@
 use mathlib.Core.Path.{sym}
 use native.Mathlib.Omega.{arith}
 use Rattle.atom.specs.ParseLaws.{blob_backward, blob_beyond, blob_there}
-use borrow.Author.Rules.{rules}
 use Rattle.atom_decode.proofs.part_of.Goals as goal
 
 pub returns-then-end-start : goal.returns-then-end-start

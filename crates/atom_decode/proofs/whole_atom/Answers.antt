@@ -6,7 +6,6 @@ use borrow.Author.Tests.{lt-ltb, le-ltb}
 use mathlib.Core.Path.{sym}
 use native.Mathlib.Omega.{arith}
 use Rattle.words.specs.Choice.{cond_true, cond_false}
-use borrow.Author.Rules.{rules}
 use Rattle.atom_decode.proofs.whole_atom.Goals as goal
 
 pub returns-then-left-size : goal.returns-then-left-size

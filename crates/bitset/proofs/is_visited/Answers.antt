@@ -2,7 +2,6 @@
 -- Assumes nothing.
 use mathlib.Core.Path.{sym}
 use Rattle.bitset.specs.BitSetLaws.{bits_of_at}
-use borrow.Author.Rules.{rules}
 use Rattle.bitset.proofs.is_visited.Goals as goal
 
 pub returns : goal.returns

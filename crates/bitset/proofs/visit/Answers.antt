@@ -3,7 +3,6 @@
 use mathlib.Core.Path.{sym}
 use Rattle.bitset.specs.BitSetLaws.{bits_of_at}
 use Rattle.bitset.proofs.Marked.{marked}
-use borrow.Author.Rules.{rules}
 use Rattle.bitset.proofs.visit.Goals as goal
 
 pub returns : goal.returns

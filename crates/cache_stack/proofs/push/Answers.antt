@@ -2,7 +2,6 @@
 -- Assumes nothing.
 use native.Mathlib.Omega.{arith}
 use lib.ListN.{length-set}
-use borrow.Author.Rules.{rules}
 use Rattle.cache_stack.proofs.Stacks.{pushed}
 use Rattle.cache_stack.proofs.push.Goals as goal
 

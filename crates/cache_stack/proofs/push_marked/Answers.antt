@@ -1,6 +1,5 @@
 -- `cache_stack::push_marked` meets its contract, by those of `push` and `mark`.
 -- Assumes nothing.
-use borrow.Author.Rules.{rules}
 use Rattle.cache_stack.proofs.Marking.{push_only, push_and_mark}
 use Rattle.cache_stack.proofs.push_marked.Goals as goal
 

@@ -1,13 +1,9 @@
 -- `words::number_at` meets its contract. The invariant: `value` is the number of the bytes passed.
 -- Assumes nothing.
-use Prim.Native.Nat.{ℕ, ◌≤◌, ◌<◌, ◌-◌, ◌+◌, ◌*◌, ◌^◌}
-use mathlib.Core.Path.{◌≡◌, refl, ◌∙◌, ap}
-use native.Mathlib.Omega.{arith}
-use native.Mathlib.Nat.{pow-suc}
-use native.Mathlib.Numerals.{add-one}
+use Prim.Native.Nat.{◌≤◌, ◌<◌, ◌-◌, ◌*◌, ◌^◌}
+use mathlib.Core.Path.{◌≡◌}
 use Rattle.words.specs.BigEndian.{number_after}
 use Rattle.words.specs.Words.{part}
-use Rattle.words.proofs.Numbers.{number_turn, pow_bound}
 use Rattle.words.proofs.number_at.Given as goal
 
 abbrev pub invariant-loop-read : goal.invariant-loop-read

@@ -1,10 +1,7 @@
 -- `words::same_bytes` meets its contract. The invariant: the slices are the same where what is left of them is.
 -- Assumes nothing.
-use mathlib.Core.Path.{◌≡◌, refl, sym, ◌∙◌}
-use Prim.Native.Nat.{◌≤◌, ◌-◌}
+use mathlib.Core.Path.{refl, sym, ◌∙◌}
 use native.Mathlib.Omega.{arith}
-use lib.ListN.{length, drop}
-use Rattle.words.specs.Lists.{same}
 use Rattle.words.proofs.Copies as copies
 use Rattle.words.proofs.same_bytes.Goals as goal
 

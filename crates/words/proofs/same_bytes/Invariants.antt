@@ -1,11 +1,9 @@
 -- `words::same_bytes` meets its contract. The invariant: the slices are the same where what is left of them is.
 -- Assumes nothing.
-use mathlib.Core.Path.{◌≡◌, refl, sym, ◌∙◌}
+use mathlib.Core.Path.{◌≡◌}
 use Prim.Native.Nat.{◌≤◌, ◌-◌}
-use native.Mathlib.Omega.{arith}
 use lib.ListN.{length, drop}
 use Rattle.words.specs.Lists.{same}
-use Rattle.words.proofs.Copies as copies
 use Rattle.words.proofs.same_bytes.Given as goal
 
 abbrev pub invariant-loop-passed : goal.invariant-loop-passed

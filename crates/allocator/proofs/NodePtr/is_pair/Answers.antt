@@ -1,6 +1,5 @@
 -- `NodePtr::is_pair` meets its contract: it goes by the node's type alone.
 -- Assumes nothing.
-use borrow.Author.Rules.{rules}
 use Rattle.allocator.specs.Handle.{node_of}
 use Rattle.allocator.specs.HandleLaws.{is_pair_by_type}
 use Rattle.allocator.proofs.NodePtr.is_pair.Goals as goal

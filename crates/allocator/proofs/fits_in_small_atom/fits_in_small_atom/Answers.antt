@@ -1,7 +1,6 @@
 -- `fits_in_small_atom` meets its contract: small bytes answer with the number that they make.
 -- Assumes nothing.
 use mathlib.Core.Path.{sym, ◌∙◌}
-use borrow.Author.Rules.{rules}
 use Rattle.allocator.proofs.fits_in_small_atom.Fits.{small_length, answer_small, answer_listed}
 use Rattle.allocator.proofs.fits_in_small_atom.fits_in_small_atom.Goals as goal
 

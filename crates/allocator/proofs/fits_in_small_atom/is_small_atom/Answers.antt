@@ -2,7 +2,6 @@
 -- Assumes nothing.
 use Prim.Native.Nat.{ℕ, ◌<◌}
 use native.Mathlib.Omega.{arith}
-use borrow.Author.Rules.{rules}
 use Rattle.words.specs.Lists.{all_of}
 use Rattle.allocator.proofs.fits_in_small_atom.Fits.{empty_small, long_listed, negative_listed, first_decides, short_small}
 use Rattle.allocator.proofs.fits_in_small_atom.is_small_atom.Goals as goal

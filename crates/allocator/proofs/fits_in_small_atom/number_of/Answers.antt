@@ -1,9 +1,8 @@
 -- `number_of` meets its contract. The invariant: `ret` is the number of the bytes passed. The measure is what is left of the length.
 -- Assumes nothing.
-use Prim.Native.Nat.{ℕ, ◌≤◌, ◌<◌, ◌-◌}
-use mathlib.Core.Path.{◌≡◌, refl, ap, ◌∙◌}
+use Prim.Native.Nat.{ℕ, ◌<◌}
+use mathlib.Core.Path.{refl, ap, ◌∙◌}
 use native.Mathlib.Omega.{arith}
-use lib.ListN.{length, take}
 use lib.Seq.{take_all}
 use Rattle.words.specs.Lists.{all_of}
 use Rattle.words.specs.BigEndian.{number_after, number}

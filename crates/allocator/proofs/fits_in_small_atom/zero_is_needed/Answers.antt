@@ -1,6 +1,5 @@
 -- `zero_is_needed` meets its contract: after a first zero the next byte's top bit decides.
 -- Assumes nothing.
-use borrow.Author.Rules.{rules}
 use native.Mathlib.Omega.{arith}
 use Rattle.words.specs.Lists.{all_of}
 use Prim.Native.Nat.{ℕ, ◌<◌}

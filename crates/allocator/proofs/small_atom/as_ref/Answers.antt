@@ -1,6 +1,5 @@
 -- `as_ref` meets its contract: what is left from the start on is the whole rest.
 -- Assumes nothing.
-use borrow.Author.Rules.{rules}
 use native.Mathlib.Omega.{arith}
 use Prim.Native.Nat.{ℕ, ◌-◌}
 use lib.ListN.{length, drop, length-drop}

@@ -1,6 +1,5 @@
 -- `small_atom_bytes` meets its contract: a small atom's bytes are the last of four.
 -- Assumes nothing.
-use borrow.Author.Rules.{rules}
 use native.Mathlib.Omega.{arith}
 use Rattle.allocator.proofs.small_atom.Numbers.{small_atom_bytes}
 use Rattle.allocator.proofs.small_atom.small_atom_bytes.Goals as goal

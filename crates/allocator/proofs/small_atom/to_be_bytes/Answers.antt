@@ -1,6 +1,5 @@
 -- `to_be_bytes` meets its contract: shifts by 24, 16 and 8 bring each byte down.
 -- Assumes nothing.
-use borrow.Author.Rules.{rules}
 use native.Mathlib.Omega.{arith}
 use Rattle.allocator.proofs.small_atom.Numbers.{four_bytes}
 use Rattle.allocator.proofs.small_atom.to_be_bytes.Goals as goal

@@ -3,7 +3,6 @@
 use mathlib.Core.Path.{◌∙◌}
 use native.Mathlib.Omega.{arith}
 use Rattle.atom_decode.proofs.decode_size.Decoding.{First, Read, decode_one, decode_seven, decode_short, decode_large, decode_long, decode_byte, decode_right}
-use borrow.Author.Rules.{rules}
 use Rattle.atom_decode.proofs.decode_size.decode_size_with_offset.Goals as goal
 
 pub returns-then-width-gt6 : goal.returns-then-width-gt6

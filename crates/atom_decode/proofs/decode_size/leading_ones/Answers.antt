@@ -1,9 +1,7 @@
 -- `atom_decode::decode_size::leading_ones` meets its contract. The invariant: as many ones are counted off as bits are gone, and `rest` is what is left of the byte.
 -- Assumes nothing.
-use Prim.Native.Nat.{◌≤◌, ◌-◌, ◌+◌, ◌/◌, ◌^◌}
-use mathlib.Core.Path.{◌≡◌, refl}
+use mathlib.Core.Path.{refl}
 use native.Mathlib.Omega.{arith}
-use Rattle.atom.specs.Parse.{ones}
 use Rattle.atom_decode.proofs.decode_size.LeadingOnes.{ones_turn, ones_end, ones_all}
 use Rattle.atom_decode.proofs.decode_size.leading_ones.Goals as goal
 

@@ -1,10 +1,8 @@
 -- `atom_decode::decode_size::leading_ones` meets its contract. The invariant: as many ones are counted off as bits are gone, and `rest` is what is left of the byte.
 -- Assumes nothing.
 use Prim.Native.Nat.{◌≤◌, ◌-◌, ◌+◌, ◌/◌, ◌^◌}
-use mathlib.Core.Path.{◌≡◌, refl}
-use native.Mathlib.Omega.{arith}
+use mathlib.Core.Path.{◌≡◌}
 use Rattle.atom.specs.Parse.{ones}
-use Rattle.atom_decode.proofs.decode_size.LeadingOnes.{ones_turn, ones_end, ones_all}
 use Rattle.atom_decode.proofs.decode_size.leading_ones.Given as goal
 
 abbrev pub invariant-loop-left : goal.invariant-loop-left

@@ -3,7 +3,6 @@
 use mathlib.Core.Path.{sym}
 use native.Mathlib.Omega.{arith}
 use Rattle.atom.specs.ParseLaws.{one_missing, one_single, one_right}
-use borrow.Author.Rules.{rules}
 use Rattle.atom_decode.proofs.decode_size.one_byte.Goals as goal
 
 pub returns-then-input-position : goal.returns-then-input-position

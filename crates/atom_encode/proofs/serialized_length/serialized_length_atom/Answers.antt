@@ -5,7 +5,6 @@ use native.Mathlib.Omega.{arith}
 use Rattle.atom.specs.Answers.{width_of}
 use Rattle.atom.specs.PrefixLaws.{prefixed}
 use Rattle.atom.specs.WriteLaws.{length_some, length_none}
-use borrow.Author.Rules.{rules}
 use Rattle.atom_encode.proofs.serialized_length.serialized_length_atom.Goals as goal
 
 pub overflow_add-result : goal.overflow_add-result

@@ -7,7 +7,6 @@ use Rattle.atom.specs.Answers.{width_of}
 use Rattle.atom.specs.Prefix.{prefix_width}
 use Rattle.atom.specs.PrefixLaws.{prefixed}
 use Rattle.atom.specs.WriteLaws.{put_too_long, put_no_room, put_prefixed}
-use borrow.Author.Rules.{rules}
 use Rattle.atom_encode.proofs.write_atom.write_atom.Goals as goal
 
 pub returns-in_default : goal.returns-in_default

@@ -2,7 +2,6 @@
 -- Assumes nothing.
 use Rattle.atom.specs.Prefix.{mark}
 use Rattle.atom.specs.PrefixLaws.{table_at, marks}
-use borrow.Author.Rules.{rules}
 use Rattle.atom_encode.proofs.write_prefix.mark_of.Goals as goal
 
 pub returns : goal.returns

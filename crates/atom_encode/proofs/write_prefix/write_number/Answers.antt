@@ -1,10 +1,10 @@
 -- `atom_encode::write_prefix::write_number` meets its contract. The invariant: the bytes from `left` on are written, and those before are the bytes of `rest`.
 -- Assumes nothing.
-use Prim.Native.Nat.{ℕ, ◌≤◌, ◌-◌, ◌+◌, ◌%◌}
+use Prim.Native.Nat.{ℕ, ◌-◌, ◌+◌, ◌%◌}
 use mathlib.Core.List.{List}
 use mathlib.Core.Path.{◌≡◌, refl, ◌∙◌, ap}
 use native.Mathlib.Omega.{arith}
-use lib.ListN.{length, take, set, length-set}
+use lib.ListN.{set, length-set}
 use lib.Seq.{take_all}
 use Rattle.words.specs.BigEndian.{big_endian, length_big_endian}
 use Rattle.atom_encode.proofs.write_prefix.Numbers as numbers

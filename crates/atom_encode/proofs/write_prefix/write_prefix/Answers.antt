@@ -7,7 +7,6 @@ use lib.Seq.{paste, paste-zero}
 use Rattle.words.specs.BigEndian.{big_endian}
 use Rattle.atom.specs.Prefix.{prefix}
 use Rattle.atom.specs.WriteLaws.{mark_bound}
-use borrow.Author.Rules.{rules}
 use Rattle.atom_encode.proofs.write_prefix.write_prefix.Goals as goal
 
 pub returns-then-width-eq0 : goal.returns-then-width-eq0

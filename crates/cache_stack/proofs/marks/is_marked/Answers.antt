@@ -1,7 +1,6 @@
 -- `cache_stack::marks::is_marked` meets its contract: the bit of the lent part is the entry's mark.
 -- Assumes nothing.
 use mathlib.Core.Path.{◌∙◌}
-use borrow.Author.Rules.{rules}
 use Rattle.words.specs.Words.{part}
 use Rattle.cache_stack.proofs.marks.Bits.{marked_part}
 use Rattle.cache_stack.proofs.marks.is_marked.Goals as goal

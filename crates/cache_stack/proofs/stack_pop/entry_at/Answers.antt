@@ -1,7 +1,6 @@
 -- `cache_stack::stack_pop::entry_at` meets its contract: what a sound stack holds is an entry.
 -- Assumes nothing.
 use mathlib.Core.Path.{refl}
-use borrow.Author.Rules.{rules}
 use Rattle.cache_stack.proofs.stack_pop.entry_at.Goals as goal
 
 pub returns : goal.returns

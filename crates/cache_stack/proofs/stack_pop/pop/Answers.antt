@@ -1,6 +1,5 @@
 -- `cache_stack::stack_pop::pop` meets its contract: its store takes the top off TOPS.
 -- Assumes nothing.
-use borrow.Author.Rules.{rules}
 use Rattle.cache_stack.proofs.stack_pop.Popping.{popped}
 use Rattle.cache_stack.proofs.stack_pop.pop.Goals as goal
 

@@ -1,6 +1,5 @@
 -- `cache_stack::stack_pop::pop2` meets its contract, by that of `pop`.
 -- Assumes nothing.
-use borrow.Author.Rules.{rules}
 use Rattle.cache_stack.proofs.stack_pop.Popping.{popped_two}
 use Rattle.cache_stack.proofs.stack_pop.pop2.Goals as goal
 

@@ -2,7 +2,6 @@
 -- Assumes nothing.
 use Prim.Native.Nat.{ℕ, ◌<◌}
 use native.Mathlib.Omega.{arith}
-use borrow.Author.Rules.{rules}
 use Rattle.words.specs.Lists.{all_of}
 use Rattle.path.proofs.path_bits.Bits.{bit_at}
 use Rattle.path.proofs.path_bits.path_bit.Goals as goal

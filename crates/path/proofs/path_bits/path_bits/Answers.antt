@@ -2,7 +2,6 @@
 -- Assumes nothing.
 use Prim.Native.Nat.{ℕ, ◌<◌}
 use native.Mathlib.Omega.{arith}
-use borrow.Author.Rules.{rules}
 use Rattle.words.specs.Lists.{all_of}
 use Rattle.path.proofs.path_bits.Bits.{counted_none, counted_bits}
 use Rattle.path.proofs.path_bits.path_bits.Goals as goal

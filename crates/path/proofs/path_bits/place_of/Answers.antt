@@ -1,7 +1,7 @@
 -- `path::path_bits::place_of` meets its contract: the mask is halved until 1 is left.
 -- Assumes nothing.
 use native.Mathlib.Omega.{arith}
-use Rattle.path.proofs.path_bits.Bits.{Halved, halved_start, halved_more, halved_end}
+use Rattle.path.proofs.path_bits.Bits.{halved_start, halved_more, halved_end}
 use Rattle.path.proofs.path_bits.place_of.Goals as goal
 
 pub loop-rest-init : goal.loop-rest-init

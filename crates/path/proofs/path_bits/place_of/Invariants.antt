@@ -1,7 +1,6 @@
 -- `path::path_bits::place_of` meets its contract: the mask is halved until 1 is left.
 -- Assumes nothing.
-use native.Mathlib.Omega.{arith}
-use Rattle.path.proofs.path_bits.Bits.{Halved, halved_start, halved_more, halved_end}
+use Rattle.path.proofs.path_bits.Bits.{Halved}
 use Rattle.path.proofs.path_bits.place_of.Given as goal
 
 abbrev pub invariant-loop-rest : goal.invariant-loop-rest

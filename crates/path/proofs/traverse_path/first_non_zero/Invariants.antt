@@ -1,13 +1,9 @@
 -- `path::traverse_path::first_non_zero` meets its contract. The loop's invariant: the zeros in front are those passed and those in front of the rest.
 -- Assumes nothing.
 use mathlib.Core.Path.{◌≡◌}
-use Prim.Native.Nat.{◌+◌, ◌-◌, ◌≤◌, ◌<◌}
-use native.Mathlib.Omega.{arith}
-use borrow.Author.Rules.{rules}
-use borrow.Author.Tests.{eqb-true, eqb-false}
+use Prim.Native.Nat.{◌+◌, ◌-◌, ◌≤◌}
 use lib.ListN.{length, drop}
 use Rattle.path.specs.Traverse.{zeros_in_front}
-use Rattle.path.specs.TraverseLaws.{zeros_more, zeros_stop, zeros_end}
 use Rattle.path.proofs.traverse_path.first_non_zero.Given as goal
 
 abbrev pub invariant-loop-c : goal.invariant-loop-c

@@ -1,11 +1,10 @@
 -- `words::slices::clear_bytes` meets its contract. The invariant: the first `k` elements are zero and the rest as they came.
 -- Assumes nothing.
-use mathlib.Core.Path.{◌≡◌, refl, ◌∙◌, ap}
-use mathlib.Core.List.{List, ◌++◌}
-use Prim.Native.Nat.{ℕ, ◌≤◌, ◌-◌}
+use mathlib.Core.Path.{refl, ◌∙◌, ap}
+use mathlib.Core.List.{List}
+use Prim.Native.Nat.{ℕ}
 use native.Mathlib.Omega.{arith}
-use lib.ListN.{length, replicate, drop, set, length-set}
-use borrow.Author.Rules.{rules}
+use lib.ListN.{set, length-set}
 use borrow.Author.Fill.{fill_none, fill_more}
 use Rattle.words.proofs.Words.{filled}
 use Rattle.words.proofs.slices.clear_bytes.Goals as goal

@@ -1,13 +1,9 @@
 -- `words::slices::clear_bytes` meets its contract. The invariant: the first `k` elements are zero and the rest as they came.
 -- Assumes nothing.
-use mathlib.Core.Path.{◌≡◌, refl, ◌∙◌, ap}
-use mathlib.Core.List.{List, ◌++◌}
-use Prim.Native.Nat.{ℕ, ◌≤◌, ◌-◌}
-use native.Mathlib.Omega.{arith}
-use lib.ListN.{length, replicate, drop, set, length-set}
-use borrow.Author.Rules.{rules}
-use borrow.Author.Fill.{fill_none, fill_more}
-use Rattle.words.proofs.Words.{filled}
+use mathlib.Core.Path.{◌≡◌}
+use mathlib.Core.List.{◌++◌}
+use Prim.Native.Nat.{◌≤◌, ◌-◌}
+use lib.ListN.{length, replicate, drop}
 use Rattle.words.proofs.slices.clear_bytes.Given as goal
 
 abbrev pub invariant-loop-k : goal.invariant-loop-k

@@ -1,13 +1,9 @@
 -- `words::slices::copy_within` meets its contract. The invariant: the first `moved` words are copied; those still to come are as they were.
 -- Assumes nothing.
-use mathlib.Core.Path.{◌≡◌, refl, ◌∙◌, ap}
-use mathlib.Core.List.{List}
-use Prim.Native.Nat.{ℕ, ◌≤◌, ◌-◌, ◌+◌}
-use native.Mathlib.Omega.{arith}
-use lib.ListN.{length, set, get_or, drop, length-set}
-use lib.Seq.{paste, paste-zero}
-use borrow.Author.Rules.{rules}
-use Rattle.words.proofs.Copies.{within_more}
+use mathlib.Core.Path.{◌≡◌}
+use Prim.Native.Nat.{◌≤◌, ◌-◌}
+use lib.ListN.{length, drop}
+use lib.Seq.{paste}
 use Rattle.words.proofs.slices.copy_within.Given as goal
 
 abbrev pub invariant-loop-moved : goal.invariant-loop-moved

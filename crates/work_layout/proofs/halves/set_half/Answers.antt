@@ -1,6 +1,5 @@
 -- `set_half` meets its contract: the store leaves the word with that half set.
 -- Assumes nothing.
-use Rattle.std.proofs.Common.{rules}
 use Rattle.work_layout.specs.Halves.{half_set}
 use Rattle.work_layout.proofs.halves.set_half.Goals as goal
 

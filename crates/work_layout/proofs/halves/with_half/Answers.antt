@@ -1,6 +1,6 @@
 -- `with_half` meets its contract: each of its two sums is the word with that half set.
 -- Assumes nothing.
-use Rattle.std.proofs.Common.{arith, rules}
+use Rattle.std.proofs.Common.{arith}
 use Rattle.work_layout.specs.Halves.{with_low, with_high}
 use Rattle.work_layout.proofs.halves.with_half.Goals as goal
 

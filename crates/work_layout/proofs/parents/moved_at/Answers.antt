@@ -1,6 +1,5 @@
 -- `moved_at` meets its contract: the half that is read is that parent's.
 -- Assumes nothing.
-use Rattle.std.proofs.Common.{rules}
 use Rattle.work_layout.specs.Rows.{moved_at}
 use Rattle.work_layout.proofs.parents.moved_at.Goals as goal
 

@@ -1,6 +1,6 @@
 -- `parent_at` meets its contract: the half that is read is that parent's.
 -- Assumes nothing.
-use Rattle.std.proofs.Common.{ℕ, ◌%◌, ap, ◌∙◌, rules}
+use Rattle.std.proofs.Common.{ℕ, ◌%◌, ap, ◌∙◌}
 use Rattle.words.specs.Words.{at}
 use Rattle.work_layout.specs.Halves.{half}
 use Rattle.work_layout.specs.Rows.{link_at}

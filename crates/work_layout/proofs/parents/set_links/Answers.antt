@@ -1,6 +1,5 @@
 -- `set_links` meets its contract: the word that is stored is that of two parents of the entry, and no other's.
 -- Assumes nothing.
-use Rattle.std.proofs.Common.{rules}
 use Rattle.work_layout.specs.Parents.{links_set}
 use Rattle.work_layout.proofs.parents.set_links.Goals as goal
 

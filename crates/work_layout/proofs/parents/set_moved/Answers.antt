@@ -1,6 +1,5 @@
 -- `set_moved` meets its contract: the half that is set is that parent's, and no other's.
 -- Assumes nothing.
-use Rattle.std.proofs.Common.{rules}
 use Rattle.work_layout.specs.Parents.{moved_set}
 use Rattle.work_layout.proofs.parents.set_moved.Goals as goal
 

@@ -1,6 +1,6 @@
 -- `set_parent` meets its contract: the half that is set is that parent's, and no other parent's.
 -- Assumes nothing.
-use Rattle.std.proofs.Common.{ℕ, ◌%◌, subst, rules}
+use Rattle.std.proofs.Common.{ℕ, ◌%◌, subst}
 use Rattle.work_layout.specs.Halves.{HalfSet}
 use Rattle.work_layout.specs.Parents.{parent_set}
 use Rattle.work_layout.proofs.parents.set_parent.Goals as goal
