@@ -6,7 +6,6 @@ use lib.ListN.{length}
 use Rattle.read_item.specs.State.{Ready}
 use Rattle.read_item.specs.Values.{PathPushed, path_settled}
 use Rattle.read_item.proofs.read_value.Paths as paths
-use borrow.Author.Rules.{rules}
 use Rattle.read_item.proofs.read_value.push_path.Goals as goal
 
 pub traverse_path_with_vec-requires : goal.traverse_path_with_vec-requires
