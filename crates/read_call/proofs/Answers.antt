@@ -144,7 +144,7 @@ module _ (input w p a b w₁ p₁ a₁ b₁ : List ℕ) where
               work = zeroed_same w w₁ lw i;
               pairs = filled_whole p p₁ (2 * r.pairs) lp l.pairs_in l.pairs_rest i;
               atoms = filled_whole a a₁ (2 * r.atoms) la l.atoms_in l.atoms_rest i;
-              bytes = filled_whole b b₁ r.bytes lb l.bytes_in l.bytes-rest i;
+              bytes = filled_whole b b₁ r.bytes lb l.bytes_in l.bytes_rest i;
             };
       })
       ∙ ap (λ (d : Read Stored). after d (slices w p a b)) (sym t.same)

@@ -1,7 +1,6 @@
 -- `read_answer::answer` gives the lowest value's node and the reader's counts.
 -- Assumes nothing.
 use mathlib.Core.Path.{refl}
-use native.Mathlib.Omega.{arith}
 use Rattle.read_answer.proofs.answer.Goals as goal
 
 pub returns : goal.returns

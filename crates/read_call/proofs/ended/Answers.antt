@@ -3,7 +3,6 @@
 use Prim.Native.Nat.{ℕ}
 use mathlib.Core.Path.{◌≡◌, sym, ap, subst, ◌∙◌}
 use mathlib.Core.List.{List}
-use borrow.Author.Rules.{rules}
 use Rattle.spec_reading.specs.Call.{Result}
 use Rattle.read_answer.specs.Answer.{slices}
 use Rattle.read_call.specs.declared.read_items.Verdict.{Verdict}

@@ -3,8 +3,6 @@
 use Prim.Native.Nat.{ℕ, ◌<◌}
 use mathlib.Core.Path.{sym, ◌∙◌}
 use native.Mathlib.Omega.{arith}
-use borrow.Author.Rules.{rules}
-use borrow.Author.Tests.{not-true, not-false}
 use Rattle.words.specs.Lists.{Bytes, all_of}
 use Rattle.read_call.proofs.Answers.{too_short, too_long, within, promised}
 use Rattle.read_call.proofs.nikvoldra_read.Goals as goal

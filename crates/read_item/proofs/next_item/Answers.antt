@@ -3,7 +3,6 @@
 use Rattle.read_cursor.specs.declared.Head.TheVariants as head
 use Rattle.read_cursor.specs.HeadLaws.{told}
 use Rattle.read_item.proofs.Items as items
-use borrow.Author.Rules.{rules}
 use Rattle.read_item.proofs.next_item.Goals as goal
 
 pub pair_item-requires : goal.pair_item-requires

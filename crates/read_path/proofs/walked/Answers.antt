@@ -3,7 +3,6 @@
 use mathlib.Core.Path.{sym, ap}
 use Rattle.read_path.specs.declared.path_walk.Walked.{Walked}
 use Rattle.read_path.specs.Leads.{reached}
-use borrow.Author.Rules.{rules}
 use Rattle.read_path.proofs.walked.Goals as goal
 
 pub returns-in-Node : goal.returns-in-Node

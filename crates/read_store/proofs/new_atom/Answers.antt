@@ -2,7 +2,6 @@
 -- Assumes nothing.
 use mathlib.Core.Path.{sym, ◌∙◌}
 use native.Mathlib.Omega.{arith}
-use borrow.Author.Rules.{rules}
 use Rattle.allocator.specs.SmallAtomLaws.{fits_some}
 use Rattle.read_store.proofs.Stored.{answered_small, answered_listed, small_stored, listed_stored}
 use Rattle.read_store.proofs.new_atom.Goals as goal

@@ -3,7 +3,6 @@
 use mathlib.Core.Path.{refl}
 use native.Mathlib.Omega.{arith}
 use lib.ListN.{length-set}
-use borrow.Author.Rules.{rules}
 use Rattle.read_store.proofs.Stored.{two_stores}
 use Rattle.read_store.proofs.new_listed.Goals as goal
 

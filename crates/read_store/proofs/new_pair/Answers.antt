@@ -2,7 +2,6 @@
 -- Assumes nothing.
 use native.Mathlib.Omega.{arith}
 use lib.ListN.{length-set}
-use borrow.Author.Rules.{rules}
 use Rattle.read_store.proofs.Stored.{two_stores}
 use Rattle.read_store.proofs.new_pair.Goals as goal
 

@@ -1,10 +1,8 @@
 -- `read_call::read_items::read_all` reads every item as the definition says. The loop's invariant: the items that are left, at most
 -- `left` of them, give what the whole input gives. The measure is `left`. Assumes nothing.
-use mathlib.Core.Path.{◌≡◌, refl, ◌∙◌}
+use mathlib.Core.Path.{refl, ◌∙◌}
 use native.Mathlib.Omega.{arith}
-use lib.ListN.{length}
-use borrow.Author.Rules.{rules}
-use Rattle.read_call.proofs.read_items.Items.{Reads, reads_start, reads_none, reads_go, reads_whole, reads_refused}
+use Rattle.read_call.proofs.read_items.Items.{reads_start, reads_none, reads_go, reads_whole, reads_refused}
 use Rattle.read_call.proofs.read_items.read_all.Goals as goal
 
 pub loop-left-init : goal.loop-left-init
@@ -17,24 +15,24 @@ pub returns-in-Whole : goal.returns-in-Whole
 returns-in-Whole c =
     let x = c in
     let l = x.loop-left in
-    reads_whole _ _ _ _ _ _ _ l.inv.0 (omega arith) _ _ _ _ _ _ c.in-Whole.is x.next_item.ensures
+    reads_whole _ _ _ _ _ _ _ l.invariant.0 (omega arith) _ _ _ _ _ _ c.in-Whole.is x.next_item.ensures
 
 pub returns-in-Refused : goal.returns-in-Refused
 returns-in-Refused c =
     let x = c in
     let l = x.loop-left in
-    reads_refused _ _ _ _ _ _ _ l.inv.0 (omega arith) _ _ _ _ _ _ c.in-Refused.is x.next_item.ensures
+    reads_refused _ _ _ _ _ _ _ l.invariant.0 (omega arith) _ _ _ _ _ _ c.in-Refused.is x.next_item.ensures
 
 pub loop-left-preserved : goal.loop-left-preserved
 loop-left-preserved c =
     let x = c in
     let l = x.loop-left in
-    let k = x.next_item.kept.1 in (
-      reads_go _ _ _ _ _ _ _ l.inv.0 (omega arith) _ _ _ _ _ _ c.in-Go.is x.next_item.ensures,
-      k.0 ∙ l.inv.1,
-      k.1.0 ∙ l.inv.2,
-      k.1.1.0 ∙ l.inv.3,
-      k.1.1.1.0 ∙ l.inv.4,
+    let k = x.next_item.auto in (
+      reads_go _ _ _ _ _ _ _ l.invariant.0 (omega arith) _ _ _ _ _ _ c.in-Go.is x.next_item.ensures,
+      k.work ∙ l.invariant.1,
+      k.pairs ∙ l.invariant.2,
+      k.atoms ∙ l.invariant.3,
+      k.bytes ∙ l.invariant.4,
     )
 
 pub shape_of-work : goal.shape_of-work

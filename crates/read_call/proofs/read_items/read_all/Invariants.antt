@@ -1,10 +1,8 @@
 -- `read_call::read_items::read_all` reads every item as the definition says. The loop's invariant: the items that are left, at most
 -- `left` of them, give what the whole input gives. The measure is `left`. Assumes nothing.
-use mathlib.Core.Path.{◌≡◌, refl, ◌∙◌}
-use native.Mathlib.Omega.{arith}
+use mathlib.Core.Path.{◌≡◌}
 use lib.ListN.{length}
-use borrow.Author.Rules.{rules}
-use Rattle.read_call.proofs.read_items.Items.{Reads, reads_start, reads_none, reads_go, reads_whole, reads_refused}
+use Rattle.read_call.proofs.read_items.Items.{Reads}
 use Rattle.read_call.proofs.read_items.read_all.Given as goal
 
 abbrev pub invariant-loop-left : goal.invariant-loop-left

@@ -3,7 +3,6 @@
 use mathlib.Core.Path.{sym, ap, ◌∙◌}
 use Rattle.atom_decode.specs.Answers.{parse_of}
 use Rattle.read_item.proofs.read_value.Atoms as atoms
-use borrow.Author.Rules.{rules}
 use Rattle.read_item.proofs.read_value.atom_item.Goals as goal
 
 pub push_atom-next-requires : goal.push_atom-next-requires

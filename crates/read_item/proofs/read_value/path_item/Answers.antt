@@ -3,7 +3,6 @@
 use mathlib.Core.Path.{refl, sym, ap, ◌∙◌}
 use Rattle.atom_decode.specs.Answers.{parse_of}
 use Rattle.read_item.proofs.read_value.Paths as paths
-use borrow.Author.Rules.{rules}
 use Rattle.read_item.proofs.read_value.path_item.Goals as goal
 
 pub push_path-requires : goal.push_path-requires

@@ -3,7 +3,6 @@
 use mathlib.Core.Path.{refl, ap}
 use native.Mathlib.Omega.{arith}
 use lib.ListN.{length}
-use borrow.Author.Rules.{rules}
 use Rattle.read_item.proofs.read_value.push_atom.Goals as goal
 
 pub new_atom-a-requires : goal.new_atom-a-requires

@@ -6,7 +6,6 @@ use lib.ListN.{length}
 use Rattle.read_item.specs.State.{Ready}
 use Rattle.read_item.specs.Values.{PathPushed, path_settled}
 use Rattle.read_item.proofs.read_value.Paths as paths
-use borrow.Author.Rules.{rules}
 use Rattle.read_item.proofs.read_value.push_path.Goals as goal
 
 pub traverse_path_with_vec-requires : goal.traverse_path_with_vec-requires
@@ -19,7 +18,7 @@ pub push_node-next-requires : goal.push_node-next-requires
 push_node-next-requires c =
     let t = c.traverse_path_with_vec in
     let p = c.requires.0 in
-    (omega (arith, p.work, t.kept.1.0), paths.few_values _ _ _ _ p, paths.few_ghosts _ _ _ _ p t.result _ c.in-Node.is t.ensures.1)
+    (omega (arith, p.work, t.auto.work), paths.few_values _ _ _ _ p, paths.few_ghosts _ _ _ _ p t.result _ c.in-Node.is t.ensures.same_total)
 
 pub settle-requires : goal.settle-requires
 settle-requires c =
@@ -30,8 +29,8 @@ settle-requires c =
     let t = walked.traverse_path_with_vec in
     let q = c.push_node-next in
     let p = walked.requires in
-    paths.node_on_top _ _ _ _ p.0 _ _ p.1 _ walked.parse_atom_ptr-path.ensures _ _ _ t.ensures.0
-    _ c.in-Node.is t.ensures.1 t.kept.1.0 t.kept.1.1.0 _ q.auto.work q.ensures.0 _ q.ensures.1 in
+    paths.node_on_top _ _ _ _ p.0 _ _ p.1 _ walked.parse_atom_ptr-path.ensures _ _ _ t.ensures.leads_to
+    _ c.in-Node.is t.ensures.same_total t.auto.work t.auto.pairs _ q.auto.work q.ensures.0 _ q.ensures.1 in
     let x = pushed in (x.0, x.1.inside)
 
 pub returns-in-Node : goal.returns-in-Node
@@ -43,8 +42,8 @@ returns-in-Node c =
     let t = walked.traverse_path_with_vec in
     let q = c.push_node-next in
     let p = walked.requires in
-    paths.node_on_top _ _ _ _ p.0 _ _ p.1 _ walked.parse_atom_ptr-path.ensures _ _ _ t.ensures.0
-    _ c.in-Node.is t.ensures.1 t.kept.1.0 t.kept.1.1.0 _ q.auto.work q.ensures.0 _ q.ensures.1 in
+    paths.node_on_top _ _ _ _ p.0 _ _ p.1 _ walked.parse_atom_ptr-path.ensures _ _ _ t.ensures.leads_to
+    _ c.in-Node.is t.ensures.same_total t.auto.work t.auto.pairs _ q.auto.work q.ensures.0 _ q.ensures.1 in
     let settled = c in
     let y = settled.settle in
     path_settled _ _ _ pushed.1 y.auto.work y.auto.pairs y.ensures
@@ -54,4 +53,4 @@ returns-in-IntoAtom c =
     let walked = c in
     let t = walked.traverse_path_with_vec in
     let p = walked.requires in
-    paths.path_into_atom _ _ _ _ p.0 _ _ p.1 _ walked.parse_atom_ptr-path.ensures _ _ _ t.ensures.0 c.in-IntoAtom.is
+    paths.path_into_atom _ _ _ _ p.0 _ _ p.1 _ walked.parse_atom_ptr-path.ensures _ _ _ t.ensures.leads_to c.in-IntoAtom.is

@@ -1,9 +1,8 @@
 -- `read_item::settle::join_all` meets its contract. The invariant: what is left gives what all would give.
 -- Assumes nothing.
-use mathlib.Core.Path.{◌≡◌, refl, ◌∙◌}
+use mathlib.Core.Path.{refl, ◌∙◌}
 use native.Mathlib.Omega.{arith}
-use lib.ListN.{length}
-use Rattle.read_item.specs.State.{Ready, Onward}
+use Rattle.read_item.specs.State.{Ready}
 use Rattle.read_item.proofs.settle.Joins as joins
 use Rattle.read_item.proofs.settle.join_all.Goals as goal
 

@@ -1,10 +1,8 @@
 -- `read_item::settle::join_all` meets its contract. The invariant: what is left gives what all would give.
 -- Assumes nothing.
-use mathlib.Core.Path.{◌≡◌, refl, ◌∙◌}
-use native.Mathlib.Omega.{arith}
+use mathlib.Core.Path.{◌≡◌}
 use lib.ListN.{length}
-use Rattle.read_item.specs.State.{Ready, Onward}
-use Rattle.read_item.proofs.settle.Joins as joins
+use Rattle.read_item.specs.State.{Onward}
 use Rattle.read_item.proofs.settle.join_all.Given as goal
 
 abbrev pub invariant-loop-r : goal.invariant-loop-r

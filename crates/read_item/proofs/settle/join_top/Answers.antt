@@ -4,7 +4,6 @@ use Prim.Native.Nat.{◌≤◌}
 use mathlib.Core.Path.{refl}
 use native.Mathlib.Omega.{arith}
 use Rattle.read_item.proofs.settle.Joins as joins
-use borrow.Author.Rules.{rules}
 use Rattle.read_item.proofs.settle.join_top.Goals as goal
 
 pub overflow_sub-r : goal.overflow_sub-r

@@ -2,7 +2,6 @@
 -- Assumes nothing.
 use native.Mathlib.Omega.{arith}
 use Rattle.read_item.proofs.settle.Settling as settling
-use borrow.Author.Rules.{rules}
 use Rattle.read_item.proofs.settle.settle.Goals as goal
 
 pub returns-then-r-input : goal.returns-then-r-input

@@ -1,6 +1,5 @@
 -- `read_path::path_walk::side` meets its contract: the left side of a pair is its first word, the right side its second.
 -- Assumes nothing.
-use borrow.Author.Rules.{rules}
 use Rattle.read_path.proofs.path_walk.Walking.{side_right, side_left}
 use Rattle.read_path.proofs.path_walk.side.Goals as goal
 

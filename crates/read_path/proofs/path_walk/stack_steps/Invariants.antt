@@ -1,15 +1,13 @@
 -- `read_path::path_walk::stack_steps` meets its contract. The loop's invariant: the set bits in front are those passed and those in front of the rest.
 -- Assumes nothing.
 use Prim.Native.Nat.{◌≤◌, ◌-◌}
-use mathlib.Core.Path.{◌≡◌, sym, ◌∙◌}
+use mathlib.Core.Path.{◌≡◌}
 use mathlib.Core.Bool.{Bool}
 use mathlib.Core.List.{List}
 use mathlib.Core.Option.{some}
-use native.Mathlib.Omega.{arith}
-use borrow.Author.Tests.{not-true, not-false}
 use lib.ListN.{length}
 use Rattle.path.specs.Bytes.{read_path}
-use Rattle.read_path.proofs.path_walk.Walking.{Down, down_start, down_deep, down_over, down_stop, down_more}
+use Rattle.read_path.proofs.path_walk.Walking.{Down}
 use Rattle.read_path.proofs.path_walk.stack_steps.Given as goal
 
 abbrev pub invariant-loop-i : goal.invariant-loop-i

@@ -1,18 +1,9 @@
 -- `read_path::path_walk::walk_bits` meets its contract. The loop's invariant: the whole walk is the walk from the node by the bits that are left.
 -- Assumes nothing.
-use Prim.Native.Nat.{◌≤◌, ◌-◌}
-use mathlib.Core.Path.{◌≡◌, refl, sym, ◌∙◌}
-use mathlib.Core.Bool.{Bool}
-use mathlib.Core.List.{List}
-use mathlib.Core.Option.{some}
+use mathlib.Core.Path.{refl, sym, ◌∙◌}
 use native.Mathlib.Omega.{arith}
-use borrow.Author.Rules.{rules}
-use borrow.Author.Tests.{not-true, not-false}
-use lib.ListN.{length}
-use Rattle.path.specs.Bytes.{read_path}
 use Rattle.allocator.specs.Handle.{node_of}
-use Rattle.read_path.specs.Answers.{Reachable}
-use Rattle.read_path.proofs.path_walk.Walking.{pair_within, Onward, onward_end, onward_atom, onward_next, reachable_next}
+use Rattle.read_path.proofs.path_walk.Walking.{pair_within, onward_end, onward_atom, onward_next, reachable_next}
 use Rattle.read_path.proofs.path_walk.walk_bits.Goals as goal
 
 pub loop-i-init : goal.loop-i-init

@@ -3,7 +3,6 @@
 use Prim.Native.Nat.{◌≤◌}
 use mathlib.Core.Path.{refl}
 use native.Mathlib.Omega.{arith}
-use borrow.Author.Rules.{rules}
 use Rattle.read_path.proofs.stack_list.Adding.{adds_cached, adds_made, bare_ghost, pair_handle_small}
 use Rattle.read_path.proofs.stack_list.add_value.Goals as goal
 

@@ -1,14 +1,11 @@
 -- `read_path::stack_list::build_list` meets its contract. The loop's invariant: the list of the lowest i values is made, and a ghost
 -- pair was spent for each of them without a list; i is past the values that had theirs. Assumes nothing.
 use Prim.Native.Nat.{◌+◌, ◌-◌, ◌≤◌, min}
-use mathlib.Core.Path.{◌≡◌, refl, ◌∙◌}
-use native.Mathlib.Omega.{arith}
+use mathlib.Core.Path.{◌≡◌}
 use lib.ListN.{length}
-use borrow.Author.Rules.{rules}
 use Rattle.read_store.specs.Layout.{values_of}
 use Rattle.spec_reading.specs.Sound.{unlisted}
 use Rattle.read_path.specs.Lists.{Lists}
-use Rattle.read_path.proofs.stack_list.Adding.{fewer_listed, lists_start, lists_more, lists_end, spent_start, spent_more, one_left}
 use Rattle.read_path.proofs.stack_list.build_list.Given as goal
 
 abbrev pub invariant-loop-i : goal.invariant-loop-i

@@ -2,7 +2,6 @@
 -- Assumes nothing.
 use mathlib.Core.Path.{sym, ◌∙◌}
 use native.Mathlib.Omega.{arith}
-use borrow.Author.Rules.{rules}
 use Rattle.allocator.specs.HandleLaws.{handle_of_nil}
 use Rattle.read_path.proofs.stack_list.Adding.{top_listed, top_list, no_list}
 use Rattle.read_path.proofs.stack_list.list_at.Goals as goal

@@ -1,7 +1,6 @@
 -- `read_store::join_values::join` meets its contract: `new_pair` appends the pair of the second and the first value, and `push_value`
 -- puts it over the second. Assumes nothing.
 use native.Mathlib.Omega.{arith}
-use borrow.Author.Rules.{rules}
 use Rattle.read_store.proofs.join_values.Joining.{joined}
 use Rattle.read_store.proofs.join_values.join.Goals as goal
 

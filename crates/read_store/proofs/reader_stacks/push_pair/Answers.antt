@@ -2,7 +2,6 @@
 -- Assumes nothing.
 use native.Mathlib.Omega.{arith}
 use lib.ListN.{length-set}
-use borrow.Author.Rules.{rules}
 use Rattle.read_store.proofs.reader_stacks.Stacks.{pushed_pair}
 use Rattle.read_store.proofs.reader_stacks.push_pair.Goals as goal
 

@@ -2,7 +2,6 @@
 -- Assumes nothing.
 use native.Mathlib.Omega.{arith}
 use lib.ListN.{length-set}
-use borrow.Author.Rules.{rules}
 use Rattle.read_store.proofs.reader_stacks.Stacks.{pushed_value}
 use Rattle.read_store.proofs.reader_stacks.push_value.Goals as goal
 
