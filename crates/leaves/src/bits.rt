@@ -4,6 +4,8 @@ ghost use Rattle.path_builder.specs.Builder.{Sound};
 
 use crate::print;
 use path_builder::{ChildPos, PathBuilder};
+use std::io;
+use std::io::Write;
 
 // The most bits of a path, and the bytes that hold as many.
 const MAX_BITS: usize = 5120;
@@ -24,35 +26,33 @@ fn push_all(store: &mut [u8], bits: &[u8]) -> PathBuilder
     ensures { Sound store.new result }
 {
     let mut builder = PathBuilder::new();
-    let mut i = 0;
-    while i < bits.len() {
-        builder = builder.push(store, child_pos(bits[i]));
-        i += 1;
+    for bit in bits {
+        builder = builder.push(store, child_pos(*bit));
     }
     builder
 }
 
 // `len`, `serialized_length` and the bytes of `done`.
-fn print_path(store: &mut [u8], builder: PathBuilder)
+fn print_path<W: Write>(out: &mut W, store: &mut [u8], builder: PathBuilder) -> io::Result<()>
     requires { Sound store.old builder }
 {
-    text::decimal(builder.len() as u64);
-    text::space();
-    text::decimal(builder.serialized_length(store) as u64);
-    text::space();
+    text::decimal(out, u64::from(builder.len()))?;
+    text::space(out)?;
+    text::decimal(out, u64::from(builder.serialized_length(store)))?;
+    text::space(out)?;
     let n = builder.done(store);
-    text::hex(&store[..n]);
+    text::hex(out, &store[..n])
 }
 
 // `b`: the path with these bits; 0 is a step to the left, any other byte one to the right.
-pub fn path_of_bits(bits: &[u8]) -> bool {
+pub fn path_of_bits<W: Write>(out: &mut W, bits: &[u8]) -> io::Result<bool> {
     if MAX_BITS < bits.len() {
-        return false;
+        return Ok(false);
     }
     let mut store = [0u8; MAX_BYTES];
     let builder = push_all(&mut store, bits);
-    print_path(&mut store, builder);
-    true
+    print_path(out, &mut store, builder)?;
+    Ok(true)
 }
 
 // One operation on the set: 0 asks for the bit, any other code sets it too.
@@ -67,13 +67,11 @@ fn operation(set: &mut [u32; 8], code: u8, idx: usize) -> bool
 }
 
 // `t`: pairs of an operation and an index, on one set of 256 bits.
-pub fn visits(pairs: &[u8]) -> bool {
+pub fn visits<W: Write>(out: &mut W, pairs: &[u8]) -> io::Result<bool> {
     let mut set = [0u32; 8];
-    let mut rest = pairs;
-    while 1 < rest.len() {
-        let bit = operation(&mut set, rest[0], print::wide(rest[1]));
-        text::decimal(bit as u64);
-        rest = &rest[2..];
+    for pair in pairs.chunks_exact(2) {
+        let bit = operation(&mut set, pair[0], print::wide(pair[1]));
+        text::decimal(out, u64::from(bit))?;
     }
-    true
+    Ok(true)
 }

@@ -1,16 +1,19 @@
 // What this program alone writes, and a byte as a wider number.
 ghost use Rattle.std.specs.Prelude.{◌≡◌, ◌<◌};
 
+use std::io;
+use std::io::Write;
+
 pub fn wide(x: u8) -> usize
     ensures { (result ≡ x) × (result < 256) }
 {
     x as usize
 }
 
-pub fn bad_record() {
-    io::write_all(1, b"bad record\n");
+pub fn bad_record<W: Write>(out: &mut W) -> io::Result<()> {
+    out.write_all(b"bad record\n")
 }
 
-pub fn none() {
-    io::write_all(1, b"none");
+pub fn none<W: Write>(out: &mut W) -> io::Result<()> {
+    out.write_all(b"none")
 }

@@ -3,74 +3,97 @@
 
 mod print;
 
-use libc::STDIN_FILENO;
 use print::Row;
-use text::questions;
+use std::alloc::Global;
+use std::env::FillError;
+use std::io;
+use std::io::{BufWriter, Read, Write};
+use std::rt::{Env, Files};
+use text::{input, questions};
 
-// The answer, the pairs, the listed atoms and the atom bytes; and the question that got no. The parameters' types have the arrays'
-// lengths, so that no zeros are counted.
-fn report_with(
+// The answer, the pairs, the listed atoms and the atom bytes; and the question that got no.
+fn report_with<W: Write, E: Write>(
+    out: &mut W,
+    err: &mut E,
     input: &[u8],
-    work: &mut [u32; words::WORK],
-    pairs: &mut [u32; read_answer::PAIRS],
-    atoms: &mut [u32; read_answer::ATOMS],
-    bytes: &mut [u8; read_answer::BYTES],
-) {
+    work: &mut [u32],
+    pairs: &mut [u32],
+    atoms: &mut [u32],
+    bytes: &mut [u8],
+) -> io::Result<()> {
     let a = read_call::nikvoldra_read(input, work, pairs, atoms, bytes);
-    print::answer(a);
-    print::rows(Row::Pair, pairs, a.pairs);
-    print::rows(Row::Atom, atoms, a.atoms);
-    print::hex(bytes, a.bytes);
-    questions::question(a.number);
+    print::answer(out, a)?;
+    print::rows(out, Row::Pair, pairs, a.pairs)?;
+    print::rows(out, Row::Atom, atoms, a.atoms)?;
+    print::hex(out, bytes, a.bytes)?;
+    out.flush()?;
+    questions::question(err, a.number)
 }
 
-// The same, with arrays of its own.
-fn report(input: &[u8]) {
-    let mut work = [0u32; words::WORK];
-    let mut pairs = [0u32; read_answer::PAIRS];
-    let mut atoms = [0u32; read_answer::ATOMS];
-    let mut bytes = [0u8; read_answer::BYTES];
-    report_with(input, &mut work, &mut pairs, &mut atoms, &mut bytes);
+// The same, with memory of its own.
+fn report<W: Write, E: Write>(
+    out: &mut W,
+    err: &mut E,
+    alloc: Global,
+    input: &[u8],
+) -> io::Result<()> {
+    let mut work = vec![in alloc; 0u32; words::WORK]?;
+    let mut pairs = vec![in alloc; 0u32; read_answer::PAIRS]?;
+    let mut atoms = vec![in alloc; 0u32; read_answer::ATOMS]?;
+    let mut bytes = vec![in alloc; 0u8; read_answer::BYTES]?;
+    report_with(
+        out, err, input, &mut work, &mut pairs, &mut atoms, &mut bytes,
+    )
 }
 
 // A read of no bytes first, which fails where nothing can be read, as from a directory.
-fn read_from(fd: i32, name: &[u8]) {
-    let mut nothing = [0u8; 1];
-    if libc::read(fd, &mut nothing[..0]) < 0 {
-        os::fail(name);
-        return;
+fn read_from<W: Write, E: Write, R: Read + Drop>(
+    out: &mut W,
+    err: &mut E,
+    alloc: Global,
+    from: R,
+    name: &[u8],
+) -> io::Result<()> {
+    let mut from = from;
+    match from.read(&mut []) {
+        Ok(_) => {
+            let input = input::read_full(alloc, from)?;
+            report(out, err, alloc, &input)
+        }
+        Err(error) => input::fail(err, alloc, name, error),
     }
-    let mut input = io::large_buffer();
-    let n = io::read_full(fd, &mut input);
-    report(&input[..n]);
 }
 
-fn read_named(i: usize) {
-    let mut path = io::buffer();
-    let length = os::arg(i, &mut path);
-    if os::errno() != 0 {
-        os::fail(b"argument");
-        return;
+fn read_named<W: Write, E: Write, R: Files>(
+    out: &mut W,
+    err: &mut E,
+    alloc: Global,
+    rt: &R,
+    name: &[u8],
+) -> io::Result<()> {
+    match input::open(rt, name) {
+        Ok(file) => read_from(out, err, alloc, file, name),
+        Err(error) => {
+            input::fail(err, alloc, name, error)?;
+            print::usage(err)
+        }
     }
-    let fd = os::open_read(&path[..length]);
-    if fd < 0 {
-        os::fail(&path[..length]);
-        print::usage();
-        return;
-    }
-    read_from(fd, &path[..length]);
-    libc::close(fd);
 }
 
-fn main() {
-    let count = os::arg_count();
-    if count < 2 {
-        read_from(STDIN_FILENO, b"standard input");
-        return;
+fn main(rt: HostRuntime) -> io::Result<()> {
+    let alloc = rt.alloc();
+    let mut out = BufWriter::new(alloc, rt.stdout())?;
+    let mut err = rt.stderr();
+    let mut name = [0u8; input::LONGEST_NAME];
+    for i in 1..usize::MAX {
+        match rt.arg(i, &mut name) {
+            Ok(n) => read_named(&mut out, &mut err, alloc, &rt, &name[..n])?,
+            Err(FillError::TooLong) => input::too_long(&mut err, alloc)?,
+            Err(FillError::NotPresent) if i == 1 => {
+                return read_from(&mut out, &mut err, alloc, rt.stdin(), b"standard input");
+            }
+            Err(FillError::NotPresent) => return Ok(()),
+        }
     }
-    let mut i = 1;
-    while i < count {
-        read_named(i);
-        i += 1;
-    }
+    Ok(())
 }

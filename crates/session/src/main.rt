@@ -2,10 +2,21 @@
 // step's references and prefix bytes too; after --documented found paths are measured as the documentation has it.
 #![tactic(auto)]
 
-use libc::STDIN_FILENO;
 use session_answer::SessionAnswer;
 use session_state::Checkpoint;
+use std::alloc::Global;
+use std::env::FillError;
+use std::io;
+use std::io::{BufWriter, Read, Write};
+use std::rt::{Env, Files};
+use text::input;
 use text::session_text::{items, print};
+
+// Three words for each of the steps, of which a session has at most 1,024.
+const WORDS: usize = 3072;
+
+// The most bytes of an output.
+const OUTPUT: usize = 65535;
 
 // What the arguments ask for: the output item by item, each step's counts, the documentation's measure.
 #[derive(Clone, Copy)]
@@ -60,89 +71,123 @@ fn run_by(
     run(file, work, words, output)
 }
 
-// A line for each finished step, the output in hexadecimal or item by item, and the number of the question that got no. The parameters'
-// types have the arrays' lengths, so that no zeros are counted.
-fn report_with(
+// A line for each finished step, the output in hexadecimal or item by item, and the number of the question that got no.
+fn report_with<W: Write, E: Write>(
+    out: &mut W,
+    err: &mut E,
     file: &[u8],
     options: Options,
-    work: &mut [u32; words::WORK],
-    words: &mut [u32; 3072],
-    output: &mut [u8; 65535],
-) {
+    work: &mut [u32],
+    words: &mut [u32],
+    output: &mut [u8],
+) -> io::Result<()> {
     let a = run_by(options.documented, file, work, words, output);
-    print::steps(words, a.steps, options.counts);
-    items::output(output, a.size, options.items);
-    print::refusal(a.number);
+    print::steps(out, words, a.steps, options.counts)?;
+    items::output(out, output, a.size, options.items)?;
+    print::refusal(out, err, a.number)?;
+    out.flush()
 }
 
-// The same, with arrays of its own.
-fn report(file: &[u8], options: Options) {
-    let mut work = [0u32; words::WORK];
-    let mut words = [0u32; 3072];
-    let mut output = [0u8; 65535];
-    report_with(file, options, &mut work, &mut words, &mut output);
+// The same, with memory of its own.
+fn report<W: Write, E: Write>(
+    out: &mut W,
+    err: &mut E,
+    alloc: Global,
+    file: &[u8],
+    options: Options,
+) -> io::Result<()> {
+    let mut work = vec![in alloc; 0u32; words::WORK]?;
+    let mut words = vec![in alloc; 0u32; WORDS]?;
+    let mut output = vec![in alloc; 0u8; OUTPUT]?;
+    report_with(out, err, file, options, &mut work, &mut words, &mut output)
 }
 
 // A read of no bytes first, which fails where nothing can be read, as from a directory.
-fn read_from(fd: i32, name: &[u8], options: Options) {
-    let mut nothing = [0u8; 1];
-    if libc::read(fd, &mut nothing[..0]) < 0 {
-        os::fail(name);
-        return;
+fn read_from<W: Write, E: Write, R: Read + Drop>(
+    out: &mut W,
+    err: &mut E,
+    alloc: Global,
+    from: R,
+    name: &[u8],
+    options: Options,
+) -> io::Result<()> {
+    let mut from = from;
+    match from.read(&mut []) {
+        Ok(_) => {
+            let file = input::read_full(alloc, from)?;
+            report(out, err, alloc, &file, options)
+        }
+        Err(error) => input::fail(err, alloc, name, error),
     }
-    let mut file = io::large_buffer();
-    let n = io::read_full(fd, &mut file);
-    report(&file[..n], options);
 }
 
-// A file that an argument names. The arguments --items, --counts and --documented name none: what is asked for after it.
-fn read_named(i: usize, options: Options) -> Options {
-    let mut path = io::buffer();
-    let length = os::arg(i, &mut path);
-    if os::errno() != 0 {
-        os::fail(b"argument");
-        return options;
+// What the arguments --items, --counts and --documented ask for after them; others ask for nothing.
+fn asked(options: Options, argument: &[u8]) -> Option<Options> {
+    match argument {
+        b"--items" => Some(Options {
+            items: true,
+            ..options
+        }),
+        b"--counts" => Some(Options {
+            counts: true,
+            ..options
+        }),
+        b"--documented" => Some(Options {
+            documented: true,
+            ..options
+        }),
+        _ => None,
     }
-    if words::same_bytes(&path[..length], b"--items") {
-        let mut asked = options;
-        asked.items = true;
-        return asked;
-    }
-    if words::same_bytes(&path[..length], b"--counts") {
-        let mut asked = options;
-        asked.counts = true;
-        return asked;
-    }
-    if words::same_bytes(&path[..length], b"--documented") {
-        let mut asked = options;
-        asked.documented = true;
-        return asked;
-    }
-    let fd = os::open_read(&path[..length]);
-    if fd < 0 {
-        os::fail(&path[..length]);
-        print::usage();
-        return options;
-    }
-    read_from(fd, &path[..length], options);
-    libc::close(fd);
-    options
 }
 
-fn main() {
+// A file that an argument names, unless it asks for something: what is asked for after it.
+fn read_named<W: Write, E: Write, R: Files>(
+    out: &mut W,
+    err: &mut E,
+    alloc: Global,
+    rt: &R,
+    name: &[u8],
+    options: Options,
+) -> io::Result<Options> {
+    if let Some(asked) = asked(options, name) {
+        return Ok(asked);
+    }
+    match input::open(rt, name) {
+        Ok(file) => read_from(out, err, alloc, file, name, options)?,
+        Err(error) => {
+            input::fail(err, alloc, name, error)?;
+            print::usage(err)?;
+        }
+    }
+    Ok(options)
+}
+
+fn main(rt: HostRuntime) -> io::Result<()> {
+    let alloc = rt.alloc();
+    let mut out = BufWriter::new(alloc, rt.stdout())?;
+    let mut err = rt.stderr();
     let mut options = Options {
         items: false,
         counts: false,
         documented: false,
     };
-    let count = os::arg_count();
-    if count < 2 {
-        read_from(STDIN_FILENO, b"standard input", options);
-        return;
+    let mut name = [0u8; input::LONGEST_NAME];
+    for i in 1..usize::MAX {
+        match rt.arg(i, &mut name) {
+            Ok(n) => options = read_named(&mut out, &mut err, alloc, &rt, &name[..n], options)?,
+            Err(FillError::TooLong) => input::too_long(&mut err, alloc)?,
+            Err(FillError::NotPresent) if i == 1 => {
+                return read_from(
+                    &mut out,
+                    &mut err,
+                    alloc,
+                    rt.stdin(),
+                    b"standard input",
+                    options,
+                );
+            }
+            Err(FillError::NotPresent) => return Ok(()),
+        }
     }
-    let mut i = 1;
-    while i < count {
-        options = read_named(i, options);
-        i += 1;
-    }
+    Ok(())
 }

@@ -1,31 +1,36 @@
-// What the programs write: numbers and bytes in hexadecimal on standard output, words on standard error.
+// What the programs read, and what they write: numbers and bytes in hexadecimal on standard output, words on standard error.
 #![tactic(auto)]
 
+pub mod input;
 pub mod questions;
 pub mod session_text;
 
-ghost use Rattle.std.specs.Prelude.{◌*◌, ◌≤◌, ◌<◌, length};
+ghost use Rattle.std.specs.Prelude.{◌*◌, ◌<◌, ◌≤◌, length, OnOk};
+ghost use Rattle.std.specs.Fmt.{decimal};
+ghost use Rattle.std.specs.Io.KnownBytes.{Appends};
 
-use libc::{STDERR_FILENO, STDOUT_FILENO};
+use std::io;
+use std::io::Write;
 
 // The lesser of the two.
 pub fn least(count: u32, size: usize) -> usize
     ensures { result ≤ size }
 {
-    let n = count as usize;
-    if n < size { n } else { size }
+    size.min(count as usize)
 }
 
-pub fn decimal(n: u64) {
-    io::print_decimal(STDOUT_FILENO, n);
+pub fn decimal<W: Write>(out: &mut W, n: u64) -> io::Result<()>
+    ensures { OnOk result (Appends (W.contents out.old) (W.contents out.new) (decimal n)) }
+{
+    write!(out, "{n}")
 }
 
-pub fn space() {
-    io::write_all(STDOUT_FILENO, b" ");
+pub fn space<W: Write>(out: &mut W) -> io::Result<()> {
+    out.write_all(b" ")
 }
 
-pub fn line_end() {
-    io::write_all(STDOUT_FILENO, b"\n");
+pub fn line_end<W: Write>(out: &mut W) -> io::Result<()> {
+    out.write_all(b"\n")
 }
 
 // The digit of a number below 16.
@@ -39,38 +44,32 @@ fn digit(n: u8) -> u8
 fn spell(bytes: &[u8], text: &mut [u8])
     requires { 2 * length bytes.now ≤ length text.old }
 {
-    let mut i = 0;
-    while i < bytes.len() {
-        let x = bytes[i];
-        text[2 * i] = digit(x / 16);
-        text[2 * i + 1] = digit(x % 16);
-        i += 1;
+    for (i, x) in bytes.iter().enumerate() {
+        text[2 * i] = digit(*x / 16);
+        text[2 * i + 1] = digit(*x % 16);
     }
 }
 
 // The most bytes that are printed at once.
 const CHUNK: usize = 2048;
 
-fn hex_chunk(bytes: &[u8])
+fn hex_chunk<W: Write>(out: &mut W, bytes: &[u8]) -> io::Result<()>
     requires { length bytes.now ≤ 2048 }
 {
-    let mut text = io::buffer();
+    let mut text = [0u8; 2 * CHUNK];
     spell(bytes, &mut text);
-    let n = 2 * bytes.len();
-    io::write_all(STDOUT_FILENO, &text[..n]);
+    out.write_all(&text[..2 * bytes.len()])
 }
 
 // The bytes in hexadecimal.
-pub fn hex(bytes: &[u8]) {
-    let mut rest = bytes;
-    while CHUNK < rest.len() {
-        hex_chunk(&rest[..CHUNK]);
-        rest = &rest[CHUNK..];
+pub fn hex<W: Write>(out: &mut W, bytes: &[u8]) -> io::Result<()> {
+    for chunk in bytes.chunks(CHUNK) {
+        hex_chunk(out, chunk)?;
     }
-    hex_chunk(rest);
+    Ok(())
 }
 
 // Words on standard error.
-pub fn say(text: &[u8]) {
-    io::write_all(STDERR_FILENO, text);
+pub fn say<W: Write>(err: &mut W, text: &[u8]) -> io::Result<()> {
+    err.write_all(text)
 }

@@ -1,28 +1,21 @@
 // The questions of both calls, in words.
 use crate::say;
+use std::io;
+use std::io::Write;
 
 // The line of the text with this number, counted from 1, on standard error; nothing where there is none.
-fn say_line(text: &[u8], number: usize) {
-    let mut start = 0;
-    let mut line = 0;
-    let mut i = 0;
-    while i < text.len() {
-        let byte = text[i];
-        i += 1;
-        if byte == b'\n' {
-            line += 1;
-            if line == number {
-                say(&text[start..i]);
-                return;
-            }
-            start = i;
-        }
+fn say_line<W: Write>(err: &mut W, text: &[u8], number: usize) -> io::Result<()> {
+    let mut lines = text.split_inclusive(|byte| *byte == b'\n');
+    match number.checked_sub(1).and_then(|i| lines.nth(i)) {
+        Some(line) => say(err, line),
+        None => Ok(()),
     }
 }
 
 // The question that got no, in words, on standard error; nothing for none.
-pub fn question(number: u32) {
+pub fn question<W: Write>(err: &mut W, number: u32) -> io::Result<()> {
     say_line(
+        err,
         b"question 1 got no: Are the slices long enough?
 question 2 got no: Is the input at most 65,535 bytes?
 question 3 got no: Does the file begin with the mark and version 1?
@@ -43,5 +36,5 @@ question 16 got no: Does every path stay out of atoms?
 question 17 got no: At a 05, is a quote open?
 ",
         number as usize,
-    );
+    )
 }

@@ -1,65 +1,67 @@
 // The items of the output: what find_path answered before each of them.
 use atom::{BACK_REFERENCE, CONS_BOX_MARKER};
 use atom_decode::ParseAtom;
-use libc::STDOUT_FILENO;
+use std::io;
+use std::io::Write;
 
 // A line with a word, and bytes in hexadecimal if there are any.
-fn line(word: &[u8], bytes: &[u8]) {
-    io::write_all(STDOUT_FILENO, word);
-    if 0 < bytes.len() {
-        crate::space();
+fn line<W: Write>(out: &mut W, word: &str, bytes: &[u8]) -> io::Result<()> {
+    write!(out, "{word}")?;
+    if !bytes.is_empty() {
+        crate::space(out)?;
     }
-    crate::hex(bytes);
-    crate::line_end();
+    crate::hex(out, bytes)?;
+    crate::line_end(out)
 }
 
 // The line of the atom or path at a place; the place after it.
-fn atom(word: &[u8], output: &[u8], position: usize) -> usize {
+fn atom<W: Write>(out: &mut W, word: &str, output: &[u8], position: usize) -> io::Result<usize> {
     let found = atom_decode::parse_atom(output, position);
     match found {
         ParseAtom::Blob { start: _, end } => {
-            let bytes = atom_decode::parse_atom_ptr(output, found);
-            line(word, bytes);
-            end
+            line(out, word, atom_decode::parse_atom_ptr(output, found))?;
+            Ok(end)
         }
-        ParseAtom::SerializationError => output.len(),
-        ParseAtom::NonCanonicalSerialization => output.len(),
+        ParseAtom::SerializationError => Ok(output.len()),
+        ParseAtom::NonCanonicalSerialization => Ok(output.len()),
     }
 }
 
 // The line of the item at a place: a reference with its path where find_path gave one, else a pair or an atom. The place after it.
-fn item(output: &[u8], position: usize) -> usize {
+fn item<W: Write>(out: &mut W, output: &[u8], position: usize) -> io::Result<usize> {
     if output.len() <= position {
-        return position;
+        return Ok(position);
     }
-    let b = output[position];
-    if b == CONS_BOX_MARKER {
-        line(b"pair", b"");
-        return position + 1;
+    match output[position] {
+        CONS_BOX_MARKER => {
+            line(out, "pair", b"")?;
+            Ok(position + 1)
+        }
+        BACK_REFERENCE => atom(out, "reference", output, position + 1),
+        _ => atom(out, "atom", output, position),
     }
-    if b == BACK_REFERENCE {
-        return atom(b"reference", output, position + 1);
-    }
-    atom(b"atom", output, position)
 }
 
 // A line for each item. Each takes a byte at least.
-fn items(output: &[u8]) {
+fn items<W: Write>(out: &mut W, output: &[u8]) -> io::Result<()> {
     let mut position = 0;
-    let mut left = output.len();
-    while 0 < left {
-        position = item(output, position);
-        left -= 1;
+    for _ in 0..output.len() {
+        position = item(out, output, position)?;
     }
+    Ok(())
 }
 
 // The first `count` bytes that the slice has, in hexadecimal or item by item.
-pub fn output(bytes: &[u8], count: u32, by_items: bool) {
+pub fn output<W: Write>(
+    out: &mut W,
+    bytes: &[u8],
+    count: u32,
+    by_items: bool,
+) -> io::Result<()> {
     let n = crate::least(count, bytes.len());
     if by_items {
-        items(&bytes[..n]);
-        return;
+        return items(out, &bytes[..n]);
     }
-    crate::hex(&bytes[..n]);
-    crate::line_end();
+    crate::hex(out, &bytes[..n])?;
+    crate::line_end(out)
 }

@@ -1,49 +1,59 @@
 // What the program writes.
 use crate::{decimal, least, line_end, questions, say, space};
-use libc::STDOUT_FILENO;
+use std::io;
+use std::io::Write;
 
 // After a space, a number.
-fn column(number: u32) {
-    space();
-    decimal(number as u64);
+fn column<W: Write>(out: &mut W, number: u32) -> io::Result<()> {
+    space(out)?;
+    decimal(out, u64::from(number))
 }
 
 // A finished step: its number, the size, and 1 if finished; with counts the references and the prefix bytes too.
-fn step(number: usize, word: u32, references: u32, prefix_bytes: u32, counts: bool) {
-    decimal(number as u64);
-    column(word / 2);
-    column(word % 2);
+fn step<W: Write>(
+    out: &mut W,
+    number: usize,
+    word: u32,
+    references: u32,
+    prefix_bytes: u32,
+    counts: bool,
+) -> io::Result<()> {
+    decimal(out, number as u64)?;
+    column(out, word / 2)?;
+    column(out, word % 2)?;
     if counts {
-        column(references);
-        column(prefix_bytes);
+        column(out, references)?;
+        column(out, prefix_bytes)?;
     }
-    line_end();
+    line_end(out)
 }
 
 // A line for each of the first `count` steps whose three words the slice has, counted from 1.
-pub fn steps(words: &[u32], count: u32, counts: bool) {
+pub fn steps<W: Write>(out: &mut W, words: &[u32], count: u32, counts: bool) -> io::Result<()> {
     let n = least(count, words.len() / 3);
-    let mut i = 0;
-    while i < n {
+    for i in 0..n {
         let at = 3 * i;
-        i += 1;
-        step(i, words[at], words[at + 1], words[at + 2], counts);
+        step(out, i + 1, words[at], words[at + 1], words[at + 2], counts)?;
     }
+    Ok(())
 }
 
 // The number of the question that got no, and its words on standard error; nothing for none.
-pub fn refusal(number: u32) {
-    if number != 0 {
-        io::write_all(STDOUT_FILENO, b"refused ");
-        decimal(number as u64);
-        line_end();
-        questions::question(number);
+pub fn refusal<W: Write, E: Write>(out: &mut W, err: &mut E, number: u32) -> io::Result<()> {
+    if number == 0 {
+        return Ok(());
     }
+    out.write_all(b"refused ")?;
+    decimal(out, u64::from(number))?;
+    line_end(out)?;
+    out.flush()?;
+    questions::question(err, number)
 }
 
 // How the program is called, on standard error.
-pub fn usage() {
+pub fn usage<W: Write>(err: &mut W) -> io::Result<()> {
     say(
+        err,
         b"usage: session [--items] [--counts] [--documented] [FILE ..]    no file: standard input\n",
-    );
+    )
 }

@@ -1,0 +1,51 @@
+// What the programs read: standard input, or the files that arguments name.
+use std::alloc::Global;
+use std::fs::File;
+use std::io;
+use std::io::{Read, Write};
+use std::rt::Files;
+use std::str;
+
+// The most bytes that are read of an input: one more than a call takes, so that it sees where there are more.
+const LONGEST: u64 = 65536;
+
+// The most bytes of an argument.
+pub const LONGEST_NAME: usize = 4096;
+
+// What the system calls a name that is too long.
+const ENAMETOOLONG: i32 = 36;
+
+// The input, or its first 65,536 bytes.
+pub fn read_full<R: Read + Drop>(alloc: Global, from: R) -> io::Result<Vec<u8>> {
+    let mut input = Vec::new(alloc);
+    from.take(LONGEST).read_to_end(&mut input)?;
+    Ok(input)
+}
+
+// The file with this name, which is text wherever there is such a file.
+pub fn open<R: Files>(rt: &R, name: &[u8]) -> io::Result<R::File> {
+    match str::from_utf8(name) {
+        Ok(path) => File::open(rt, path),
+        Err(_) => Err(io::Error::from(io::ErrorKind::InvalidFilename)),
+    }
+}
+
+// An error's words, without the number that the system has for it.
+fn words(text: &str) -> &str {
+    match text.split_once(" (os error ") {
+        Some((words, _)) => words,
+        None => text,
+    }
+}
+
+// A line on standard error: what failed, and why.
+pub fn fail<W: Write>(err: &mut W, alloc: Global, name: &[u8], error: io::Error) -> io::Result<()> {
+    let text = format!(in alloc; "{error}")?;
+    err.write_all(name)?;
+    writeln!(err, ": {}", words(&text))
+}
+
+// The same of an argument with more bytes than a name may have.
+pub fn too_long<W: Write>(err: &mut W, alloc: Global) -> io::Result<()> {
+    fail(err, alloc, b"argument", io::Error::from_raw_os_error(ENAMETOOLONG))
+}
