@@ -3,7 +3,8 @@
 use Prim.Native.Nat.{ℕ, zero, suc, ◌+◌, ◌-◌, ◌*◌, ◌/◌, ◌%◌, ◌^◌, ◌≤◌, ◌<◌}
 use Rattle.std.specs.Prelude.{◌≡◌, Bool, true, false, length, get_or, drop}
 use Rattle.std.proofs.Math.Path.{refl, ap}
-use Rattle.std.proofs.Common.{sym, subst, ◌∙◌, arith, zero-add, add-mul, mul-le-mul_right, pow-suc, div-one, div-lt_iff_lt-mul, mod-eq_of_lt, take_at, drop_at, take-add, length-append, pow_mono, pow_pos, lt-ltb, le-ltb, ltb-true}
+use Rattle.std.proofs.Common.{sym, subst, ◌∙◌, arith, zero-add, add-mul, mul-le-mul_right, pow-suc, div-one, div-lt_iff_lt-mul, mod-eq_of_lt, take_at}
+use Rattle.std.proofs.Common.{drop_at, take-add, length-append, pow_mono, pow_pos, lt-ltb, le-ltb, ltb-true}
 use mathlib.Core.List.{List, [], ◌∷◌, ◌++◌, append_assoc}
 use Rattle.std.proofs.Math.Option.{Option, none, some, none-ne-some, some-injective}
 use Rattle.std.proofs.Math.Nat.{pow-succ', one-le-pow, div-div-eq-div-mul, mul-add-div_right}

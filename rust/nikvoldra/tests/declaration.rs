@@ -101,7 +101,7 @@ struct Call {
 
 /// The exported function of the Rattle source.
 fn rattle_call(text: &str, name: &str) -> Call {
-    let start = format!("#[no_mangle] pub extern \"C\" fn {name}(");
+    let start = format!("#[unsafe(no_mangle)] pub extern \"C\" fn {name}(");
     let slice = |part: String| {
         let (name, kind) = named(&part);
         let (written, slice) = match kind.strip_prefix("&mut ") {
@@ -222,16 +222,15 @@ fn same_fields(source: &str, name: &str, c_name: &str) {
     assert_eq!(in_c, declared);
 }
 
-const SESSION: &str = "crates/session_call/src/lib.rt";
+const CALLS: &str = "crates/nikvoldra/src/lib.rt";
 const SESSION_ANSWER: &str = "crates/session_answer/src/lib.rt";
-const READ: &str = "crates/read_call/src/lib.rt";
 const READ_ANSWER: &str = "crates/read_answer/src/lib.rt";
 const CHECKPOINTS: &str = "crates/session_state/src/checkpoints.rt";
 
 /// The call's declaration in the Rattle source. Its checkpoint records are structs, or rows of six words, which have the same
 /// layout.
-fn declared(source: &str, name: &str) -> Call {
-    let mut call = rattle_call(&text(source), name);
+fn declared(name: &str) -> Call {
+    let mut call = rattle_call(&text(CALLS), name);
     for lent in &mut call.lent {
         if lent.element == "Checkpoint" {
             same_fields(CHECKPOINTS, "Checkpoint", "nikvoldra_checkpoint");
@@ -244,24 +243,21 @@ fn declared(source: &str, name: &str) -> Call {
 
 #[test]
 fn calls() {
-    for (source, name, names) in [
+    for (name, names) in [
         (
-            SESSION,
             "nikvoldra_session",
             ["file", "work", "words", "checkpoints", "output"],
         ),
         (
-            SESSION,
             "nikvoldra_session_documented",
             ["file", "work", "words", "checkpoints", "output"],
         ),
         (
-            READ,
             "nikvoldra_read",
             ["input", "work", "pairs", "atoms", "bytes"],
         ),
     ] {
-        let declared = declared(source, name);
+        let declared = declared(name);
         let found: Vec<&str> = declared.lent.iter().map(|l| &l.name[..]).collect();
         assert_eq!(found, names);
         assert_eq!(

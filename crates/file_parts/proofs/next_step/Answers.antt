@@ -22,7 +22,11 @@ returns-then-file-at c =
 pub returns-then-code-eq5 : goal.returns-then-code-eq5
 returns-then-code-eq5 c =
     let a = c.args in
-    let code = c.number_at-code in record { first_step = step_first a.file.now a.at code.result code.ensures _ (ap (coded a.file.now a.at) (sym c.if-code-eq5.true)) (omega arith); beyond = (omega arith, omega arith) }
+    let code = c.number_at-code in
+    record {
+      first_step = step_first a.file.now a.at code.result code.ensures _ (ap (coded a.file.now a.at) (sym c.if-code-eq5.true)) (omega arith);
+      beyond = (omega arith, omega arith);
+    }
 
 pub returns-then-left-lt5 : goal.returns-then-left-lt5
 returns-then-left-lt5 c =
@@ -36,7 +40,11 @@ pub returns-then-code-eq4-2 : goal.returns-then-code-eq4-2
 returns-then-code-eq4-2 c =
     let a = c.args in
     let code = c.number_at-code in
-    let operand = c.number_at in record { first_step = step_first a.file.now a.at code.result code.ensures _ (ap quote operand.ensures ∙ ap (coded a.file.now a.at) (sym c.if-code-eq4-2.true)) (omega arith); beyond = (omega arith, omega arith) }
+    let operand = c.number_at in
+    record {
+      first_step = step_first a.file.now a.at code.result code.ensures _ (ap quote operand.ensures ∙ ap (coded a.file.now a.at) (sym c.if-code-eq4-2.true)) (omega arith);
+      beyond = (omega arith, omega arith);
+    }
 
 pub returns-then-code-eq1 : goal.returns-then-code-eq1
 returns-then-code-eq1 c =
@@ -45,7 +53,11 @@ returns-then-code-eq1 c =
     let a = c.args in
     let code = c.number_at-code in
     let operand = c.number_at in
-    let one : code.result ≡ 1 = ⊎_elim (λ e. e) (λ e. absurd (c.if-code-eq4-2.false e)) of-handle in record { first_step = step_first a.file.now a.at code.result code.ensures _ (ap add operand.ensures ∙ ap (coded a.file.now a.at) (sym one)) (omega arith); beyond = (omega arith, omega arith) }
+    let one : code.result ≡ 1 = ⊎_elim (λ e. e) (λ e. absurd (c.if-code-eq4-2.false e)) of-handle in
+    record {
+      first_step = step_first a.file.now a.at code.result code.ensures _ (ap add operand.ensures ∙ ap (coded a.file.now a.at) (sym one)) (omega arith);
+      beyond = (omega arith, omega arith);
+    }
 
 pub returns-then-left-lt3 : goal.returns-then-left-lt3
 returns-then-left-lt3 c =
@@ -60,7 +72,11 @@ returns-then-code-eq3 c =
     let b = c in
     let a = b.args in
     let code = b.number_at-code in
-    let operand = c.number_at-number in record { first_step = step_first a.file.now a.at code.result code.ensures _ (ap forget operand.ensures ∙ ap (coded a.file.now a.at) (sym c.if-code-eq3.true)) (omega arith); beyond = (omega arith, omega arith) }
+    let operand = c.number_at-number in
+    record {
+      first_step = step_first a.file.now a.at code.result code.ensures _ (ap forget operand.ensures ∙ ap (coded a.file.now a.at) (sym c.if-code-eq3.true)) (omega arith);
+      beyond = (omega arith, omega arith);
+    }
 
 pub returns : goal.returns
 returns c =
@@ -68,4 +84,8 @@ returns c =
     let a = b.args in
     let code = b.number_at-code in
     let operand = c.number_at-number in
-    let same = restore_coded a.file.now a.at code.result b.if-code-eq5.false b.if-code-eq1.false b.if-code-eq4.false c.if-code-eq3.false in record { first_step = step_first a.file.now a.at code.result code.ensures _ (ap restore operand.ensures ∙ sym same) (omega arith); beyond = (omega arith, omega arith) }
+    let same = restore_coded a.file.now a.at code.result b.if-code-eq5.false b.if-code-eq1.false b.if-code-eq4.false c.if-code-eq3.false in
+    record {
+      first_step = step_first a.file.now a.at code.result code.ensures _ (ap restore operand.ensures ∙ sym same) (omega arith);
+      beyond = (omega arith, omega arith);
+    }

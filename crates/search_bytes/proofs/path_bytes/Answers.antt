@@ -10,13 +10,19 @@ pub push_node-node-requires : goal.push_node-node-requires
 push_node-node-requires c =
     let s = c in
     let r = s.requires.1 in
-    record { in_bounds = (s.requires.0, rw (c.wide-a.ensures ∙ c.node_of.ensures) r.chain, rw (c.wide-a.ensures ∙ c.node_of.ensures) r.len); fits = node_fits r (c.wide-a.ensures ∙ c.node_of.ensures) (c.wide-x.ensures ∙ c.extra_of.ensures) s.requires.2 }
+    record {
+      in_bounds = (s.requires.0, rw (c.wide-a.ensures ∙ c.node_of.ensures) r.chain, rw (c.wide-a.ensures ∙ c.node_of.ensures) r.len);
+      fits = node_fits r (c.wide-a.ensures ∙ c.node_of.ensures) (c.wide-x.ensures ∙ c.extra_of.ensures) s.requires.2;
+    }
 
 pub push_stack-whole-requires : goal.push_stack-whole-requires
 push_stack-whole-requires c =
     let n = c in
-    let s = c in
-    (n.push_node-node.ensures.sound, stack_asks s.requires.1 (c.wide-a.ensures ∙ c.node_of.ensures) (c.wide-x.ensures ∙ c.extra_of.ensures) (n.push_node-node.auto.store ∙ s.requires.2) n.push_node-node.ensures)
+    let s = c in (
+      n.push_node-node.ensures.sound,
+      stack_asks s.requires.1 (c.wide-a.ensures ∙ c.node_of.ensures) (c.wide-x.ensures ∙ c.extra_of.ensures) (n.push_node-node.auto.store ∙ s.requires.2)
+          n.push_node-node.ensures,
+    )
 
 pub returns : goal.returns
 returns c =

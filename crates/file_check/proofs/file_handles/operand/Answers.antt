@@ -6,7 +6,8 @@ use borrow.Author.Tests.{eqb-true, eqb-false}
 use borrow.Author.Rules.{rules}
 use Rattle.file_parts.proofs.session_file.FieldLaws.{operand_handle, operand_number, operand_take, operand_unknown}
 use Rattle.file_check.proofs.file_handles.operand.Goals as goal
-use Rattle.file_check.proofs.file_handles.operand.Goals.{then-code-eq1-via-then-code-eq1, then-code-eq1-via-else-code-eq1+then-code-eq4, then-code-eq2-via-then-code-eq2, then-code-eq2-via-else-code-eq2+then-code-eq3}
+use Rattle.file_check.proofs.file_handles.operand.Goals.{then-code-eq1-via-then-code-eq1, then-code-eq1-via-else-code-eq1+then-code-eq4}
+use Rattle.file_check.proofs.file_handles.operand.Goals.{then-code-eq2-via-then-code-eq2, then-code-eq2-via-else-code-eq2+then-code-eq3}
 
 pub returns-then-code-eq1 : goal.returns-then-code-eq1
 returns-then-code-eq1 c =

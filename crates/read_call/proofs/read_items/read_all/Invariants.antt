@@ -7,7 +7,8 @@ use Rattle.read_call.proofs.read_items.read_all.Given as goal
 
 abbrev pub invariant-loop-left : goal.invariant-loop-left
 invariant-loop-left l =
-    Reads l.input l.work l.pairs l.atoms l.bytes l.r l.left × (length l.work ≡ length l.initial.work) × (length l.pairs ≡ length l.initial.pairs) × (length l.atoms ≡ length l.initial.atoms) × (length l.bytes ≡ length l.initial.bytes)
+    Reads l.input l.work l.pairs l.atoms l.bytes l.r l.left × (length l.work ≡ length l.initial.work) × (length l.pairs ≡ length l.initial.pairs) × (length l.atoms ≡ length l.initial.atoms)
+    × (length l.bytes ≡ length l.initial.bytes)
 
 abbrev pub decreases-loop-left : goal.decreases-loop-left
 decreases-loop-left l = l.left

@@ -20,7 +20,7 @@ push_long-first-requires t c =
     let taken = c.take_bits-latest in
     let k = count_fits c.args.n c.if-n-eq0.false in
     let rest : c.args.n - ((c.args.n - 1) % 64 + 1) ≡ length (node_bits c.args.work.now taken.result.before) =
-        omega (arith, p.2, before_size taken.ensures, k.0) in
+    omega (arith, p.2, before_size taken.ensures, k.0) in
     (omega (arith, c.decreases, c.if-n-eq0.false), (p.0, taken.ensures.chain, rest, fits_fewer p.3 (omega arith)))
 
 pub push_number-requires : goal.push_number-requires

@@ -12,7 +12,8 @@ use Rattle.search_bytes.proofs.push_number.push_number.Given as goal
 
 abbrev pub invariant-loop-left : goal.invariant-loop-left
 invariant-loop-left l =
-    Pushing l.initial.store (l.count + length (built l.initial.store l.initial.longer)) (with_number l.count l.number (built l.initial.store l.initial.longer)) l.store l.longer l.left (with_number l.left l.rest)
+    Pushing l.initial.store (l.count + length (built l.initial.store l.initial.longer)) (with_number l.count l.number (built l.initial.store l.initial.longer)) l.store l.longer l.left
+    (with_number l.left l.rest)
 
 abbrev pub decreases-loop-left : goal.decreases-loop-left
 decreases-loop-left l = l.left

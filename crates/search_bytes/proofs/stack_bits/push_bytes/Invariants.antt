@@ -11,7 +11,8 @@ use Rattle.search_bytes.proofs.stack_bits.push_bytes.Given as goal
 
 abbrev pub invariant-loop-left : goal.invariant-loop-left
 invariant-loop-left l =
-    Pushing l.initial.store (8 * l.bytes + length (built l.initial.store l.initial.longer)) (trues (8 * l.bytes) (built l.initial.store l.initial.longer)) l.store l.longer (8 * l.left) (trues (8 * l.left))
+    Pushing l.initial.store (8 * l.bytes + length (built l.initial.store l.initial.longer)) (trues (8 * l.bytes) (built l.initial.store l.initial.longer)) l.store l.longer (8 * l.left)
+    (trues (8 * l.left))
 
 abbrev pub decreases-loop-left : goal.decreases-loop-left
 decreases-loop-left l = l.left

@@ -11,7 +11,10 @@ pub add_node-requires : goal.add_node-requires
 add_node-requires c =
     let s = c in
     let p = s.requires.0.paths s.args.slot s.requires.1 in
-    record { in_bounds = (s.requires.0.links.long, s.requires.0.nodes, s.requires.4, omega (arith, few s.requires.0, s.requires.1)); slot_bound = (p.node, omega (arith, p.entry s.requires.2, s.requires.0.links.used)) }
+    record {
+      in_bounds = (s.requires.0.links.long, s.requires.0.nodes, s.requires.4, omega (arith, few s.requires.0, s.requires.1));
+      slot_bound = (p.node, omega (arith, p.entry s.requires.2, s.requires.0.links.used));
+    }
 
 pub first_unseen-k-requires : goal.first_unseen-k-requires
 first_unseen-k-requires c =

@@ -29,7 +29,11 @@ pub put_reference-requires : goal.put_reference-requires
 put_reference-requires c =
     let w = c in
     let b = w.path_bits-bits.ensures in
-    let s = w in record { in_bounds = (s.requires.0, s.requires.1, ap (λ (k : ℕ). (k + 7) / 8) b.0, omega (arith, b.1)); width_bound = (w.path_width-width.ensures.0, has_room _ _ _ c.fits2.ensures c.if-not-fits.false) }
+    let s = w in
+    record {
+      in_bounds = (s.requires.0, s.requires.1, ap (λ (k : ℕ). (k + 7) / 8) b.0, omega (arith, b.1));
+      width_bound = (w.path_width-width.ensures.0, has_room _ _ _ c.fits2.ensures c.if-not-fits.false);
+    }
 
 pub overflow_add-size : goal.overflow_add-size
 overflow_add-size c =
