@@ -10,29 +10,29 @@ use Rattle.write_item.proofs.Puts.{put_atom, put_atom_there}
 use Rattle.write_item.proofs.Counting.{few_prefixes, put_counted}
 use Rattle.write_item.proofs.write_listed.Goals as goal
 
--- The atom was put there, and its prefix has the width that is told.
-module _ (x : goal.In-Next-2) where
-  there : record { answer = next x.in-Next.next; output = x.write_atom.new.output }
-      ≡ put x.args.output.now x.args.counts.size (some (item_bytes (atom_item x.args.blob.now)))
-  there =
-      let w = x.write_atom in
-      let s = x in
-      put_atom s.args.output.now s.args.counts.size s.args.blob.now s.requires.1 _
-      (sym (ap (λ r. answers.written r w.new.output) x.in-Next.is) ∙ w.ensures.0)
-
-  told : item_prefix (atom_item x.args.blob.now) ≡ x.in-Next.width
-  told = ap width_or_0 (subst (answers.WidthTold x.args.blob.now) x.in-Next.is x.write_atom.ensures.1)
-
 pub with_atom-requires : goal.with_atom-requires
 with_atom-requires c =
-    let s = c in
-    few_prefixes s.args.output.now _ s.args.counts (atom_item s.args.blob.now) _ _ (there c) (told c) s.requires.0
+    let s = c.args in
+    let w = c.write_atom in
+    let there : record { answer = next c.in-Next.next; output = w.new.output }
+        ≡ put s.output.now s.counts.size (some (item_bytes (atom_item s.blob.now))) =
+        put_atom s.output.now s.counts.size s.blob.now c.requires.1 _
+        (sym (ap (λ r. answers.written r w.new.output) c.in-Next.is) ∙ w.ensures.0) in
+    let told : item_prefix (atom_item s.blob.now) ≡ c.in-Next.width =
+        ap width_or_0 (subst (answers.WidthTold s.blob.now) c.in-Next.is w.ensures.1) in
+    few_prefixes s.output.now _ s.counts (atom_item s.blob.now) _ _ there told c.requires.0
 
 pub returns-in-Next : goal.returns-in-Next
 returns-in-Next c =
-    let x = c in
-    let s = x in
-    put_counted s.args.output.now _ s.args.counts (atom_item s.args.blob.now) _ _ (there x) (told x) _ c.with_atom.ensures
+    let s = c.args in
+    let w = c.write_atom in
+    let there : record { answer = next c.in-Next.next; output = w.new.output }
+        ≡ put s.output.now s.counts.size (some (item_bytes (atom_item s.blob.now))) =
+        put_atom s.output.now s.counts.size s.blob.now c.requires.1 _
+        (sym (ap (λ r. answers.written r w.new.output) c.in-Next.is) ∙ w.ensures.0) in
+    let told : item_prefix (atom_item s.blob.now) ≡ c.in-Next.width =
+        ap width_or_0 (subst (answers.WidthTold s.blob.now) c.in-Next.is w.ensures.1) in
+    put_counted s.output.now _ s.counts (atom_item s.blob.now) _ _ there told _ c.with_atom.ensures
 
 pub returns-in-Full : goal.returns-in-Full
 returns-in-Full c =
