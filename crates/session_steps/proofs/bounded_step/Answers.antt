@@ -11,7 +11,7 @@ pub core_step-requires : goal.core_step-requires
 core_step-requires c =
     let known = c in
     let s = known in
-    used_ready s.args.output.now known.space_of-space.ensures s.pre
+    used_ready s.args.output.now known.space_of-space.ensures s.requires
 
 pub returns : goal.returns
 returns c =

@@ -5,7 +5,7 @@ use borrow.Author.Rules.{rules}
 use Rattle.file_parts.specs.Loaded.{FirstStep}
 use Rattle.file_parts.specs.declared.session_file.NextStep.{NextStep}
 use Rattle.session_state.specs.Steps.{Comes}
-use Rattle.session_steps.proofs.Answers.{stops-at-end, stops-17}
+use Rattle.session_steps.proofs.Answers.{stops_at_end, stops_17}
 use Rattle.session_steps.proofs.core_step.Goals as goal
 
 pub quoted_step-requires : goal.quoted_step-requires
@@ -46,11 +46,11 @@ returns-in-Take c =
     let comes : (r : NextStep) → c.next_step.result ≡ r → let a = c.args in Comes a.file.now a.p.at r =
     λ r e ss st. subst (λ (y : NextStep). FirstStep c.args.file.now ss y) e (c.next_step.ensures.first_step ss st) in
     let read = c in
-    stops-17 read.requires read.if-p.false c.stop.ensures (comes _ c.in-Take.is)
+    stops_17 read.requires read.if-p.false c.stop.ensures (comes _ c.in-Take.is)
 
 pub returns-in-End : goal.returns-in-End
 returns-in-End c =
     let comes : (r : NextStep) → c.next_step.result ≡ r → let a = c.args in Comes a.file.now a.p.at r =
     λ r e ss st. subst (λ (y : NextStep). FirstStep c.args.file.now ss y) e (c.next_step.ensures.first_step ss st) in
     let read = c in
-    stops-at-end read.requires read.if-p.false c.stop-in-End.ensures (comes _ c.in-End.is)
+    stops_at_end read.requires read.if-p.false c.stop-in-End.ensures (comes _ c.in-End.is)

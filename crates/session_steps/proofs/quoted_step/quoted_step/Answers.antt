@@ -43,13 +43,13 @@ take_quote-requires c =
     let comes : (r : NextStep) → c.next_step.result ≡ r → let a = c.args in Comes a.file.now a.p.at r =
     λ r e ss st. subst (λ (y : NextStep). FirstStep c.args.file.now ss y) e (c.next_step.ensures.first_step ss st) in
     let s = c in
-    answers.take-asks s.requires.0 s.requires.1 _ (comes _ c.in-Take.is)
+    answers.take_asks s.requires.0 s.requires.1 _ (comes _ c.in-Take.is)
 
 pub drop_quote-requires : goal.drop_quote-requires
 drop_quote-requires c =
     let other : let a = c.args in (ss : List Step) → StepsAt a.file.now a.p.at ss → IfAny (λ c. c ≢ take_quote) (nth ss 0) =
     λ ss st. let n = c.next_step in no-taking n.result c.in-Take.keys2 c.args.file.now ss (n.ensures.0 ss st) in
-    let s = c in answers.drop-asks s.requires.0 s.requires.1 other
+    let s = c in answers.drop_asks s.requires.0 s.requires.1 other
 
 pub returns-in-Take : goal.returns-in-Take
 returns-in-Take c =
@@ -58,7 +58,7 @@ returns-in-Take c =
     let t = c in
     let read = t in
     let s = read in
-    answers.takes-on s.requires.0 s.requires.1 _ (comes _ t.in-Take.is) t.take_quote.ensures.0 t.take_quote.ensures.1
+    answers.takes_on s.requires.0 s.requires.1 _ (comes _ t.in-Take.is) t.take_quote.ensures.0 t.take_quote.ensures.1
 
 pub returns-in_default : goal.returns-in_default
 returns-in_default c =
@@ -66,4 +66,4 @@ returns-in_default c =
     λ ss st. let n = c.next_step in no-taking n.result c.in-Take.keys2 c.args.file.now ss (n.ensures.0 ss st) in
     let d = c in
     let s = d in
-    answers.drops-on s.requires.0 s.requires.1 other d.drop_quote.auto.work d.drop_quote.ensures.0 d.drop_quote.ensures.1
+    answers.drops_on s.requires.0 s.requires.1 other d.drop_quote.auto.work d.drop_quote.ensures.0 d.drop_quote.ensures.1
