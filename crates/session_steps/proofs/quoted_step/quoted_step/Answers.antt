@@ -6,6 +6,7 @@ use mathlib.Core.List.{List, [], ◌∷◌}
 use mathlib.Core.Logic.{◌≢◌, inl, inr}
 use native.Mathlib.Omega.{arith}
 use types.Run.{OneOf}
+use borrow.Enum.Refused.{opened}
 use denote.Enum.Declared.{tag_of}
 use borrow.Author.Rules.{rules}
 use Rattle.words.specs.Choice.{clash}
@@ -30,13 +31,13 @@ none_of (inr (inr (inr (inl e)))) = omega (arith, e)
 none_of (inr (inr (inr (inr e)))) = omega (arith, e)
 
 -- It is any but a taking.
-no-taking : (r : NextStep) → OneOf (0 ∷ 1 ∷ 2 ∷ 3 ∷ 5 ∷ []) (tag_of next_kind.the_type r) → (input : List ℕ) (ss : List Step) → FirstStep input ss r → IfAny (λ x. x ≢ take_quote) (nth ss 0)
-no-taking (next_step.Add node next) k input ss h = rw h.1 (λ q. clash cc)
-no-taking (next_step.Restore number next) k input ss h = rw h.1 (λ q. clash cc)
-no-taking (next_step.Forget number next) k input ss h = rw h.1 (λ q. clash cc)
-no-taking (next_step.Quote node next) k input ss h = rw h.1 (λ q. clash cc)
-no-taking (next_step.Take next) k input ss h = absurd (none_of k)
-no-taking next_step.End k input ss h = rw h tt
+no_taking : (r : NextStep) → OneOf (0 ∷ 1 ∷ 2 ∷ 3 ∷ 5 ∷ []) (tag_of next_kind.the_type r) → (input : List ℕ) (ss : List Step) → FirstStep input ss r → IfAny (λ x. x ≢ take_quote) (nth ss 0)
+no_taking (next_step.Add node next) k input ss h = rw h.1 (λ q. clash cc)
+no_taking (next_step.Restore number next) k input ss h = rw h.1 (λ q. clash cc)
+no_taking (next_step.Forget number next) k input ss h = rw h.1 (λ q. clash cc)
+no_taking (next_step.Quote node next) k input ss h = rw h.1 (λ q. clash cc)
+no_taking (next_step.Take next) k input ss h = absurd (none_of k)
+no_taking next_step.End k input ss h = rw h tt
 
 pub take_quote-requires : goal.take_quote-requires
 take_quote-requires c =
@@ -48,7 +49,7 @@ take_quote-requires c =
 pub drop_quote-requires : goal.drop_quote-requires
 drop_quote-requires c =
     let other : let a = c.args in (ss : List Step) → StepsAt a.file.now a.p.at ss → IfAny (λ c. c ≢ take_quote) (nth ss 0) =
-    λ ss st. let n = c.next_step in no-taking n.result c.in-Take.keys2 c.args.file.now ss (n.ensures.0 ss st) in
+    λ ss st. let n = c.next_step in no_taking n.result (opened c.in_default.in_default-own.keys2) c.args.file.now ss (n.ensures.first_step ss st) in
     let s = c in answers.drop_asks s.requires.0 s.requires.1 other
 
 pub returns-in-Take : goal.returns-in-Take
@@ -63,7 +64,7 @@ returns-in-Take c =
 pub returns-in_default : goal.returns-in_default
 returns-in_default c =
     let other : let a = c.args in (ss : List Step) → StepsAt a.file.now a.p.at ss → IfAny (λ c. c ≢ take_quote) (nth ss 0) =
-    λ ss st. let n = c.next_step in no-taking n.result c.in-Take.keys2 c.args.file.now ss (n.ensures.0 ss st) in
+    λ ss st. let n = c.next_step in no_taking n.result (opened c.in_default.in_default-own.keys2) c.args.file.now ss (n.ensures.first_step ss st) in
     let d = c in
     let s = d in
     answers.drops_on s.requires.0 s.requires.1 other d.drop_quote.auto.work d.drop_quote.ensures.0 d.drop_quote.ensures.1
