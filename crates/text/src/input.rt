@@ -1,10 +1,9 @@
 // What the programs read: standard input, or the files that arguments name.
 use std::alloc::Global;
 use std::fs::File;
-use std::io;
 use std::io::{Read, Write};
 use std::rt::Files;
-use std::str;
+use std::{io, str};
 
 // The most bytes that are read of an input: one more than a call takes, so that it sees where there are more.
 const LONGEST: u64 = 65536;
@@ -47,5 +46,10 @@ pub fn fail<W: Write>(err: &mut W, alloc: Global, name: &[u8], error: io::Error)
 
 // The same of an argument with more bytes than a name may have.
 pub fn too_long<W: Write>(err: &mut W, alloc: Global) -> io::Result<()> {
-    fail(err, alloc, b"argument", io::Error::from_raw_os_error(ENAMETOOLONG))
+    fail(
+        err,
+        alloc,
+        b"argument",
+        io::Error::from_raw_os_error(ENAMETOOLONG),
+    )
 }
