@@ -1,5 +1,5 @@
 -- `leaves::answer::written_in` is safe: what `write_atom` wrote lies within the output.
-use Rattle.std.proofs.Common.{◌≡◌, ◌≤◌, length, rules}
+use Rattle.std.proofs.Common.{◌≤◌, length, rules}
 use Rattle.leaves.proofs.Within.{written_within}
 use Rattle.leaves.proofs.answer.written_in.Goals as goal
 
