@@ -21,7 +21,7 @@ pub fn read_full<R: Read + Drop>(alloc: Global, from: R) -> io::Result<Vec<u8>> 
     Ok(input)
 }
 
-// The file with this name, which is text wherever there is such a file.
+// The file with this name. A name that is not UTF-8 is refused.
 pub fn open<R: Files>(rt: &R, name: &[u8]) -> io::Result<R::File> {
     match str::from_utf8(name) {
         Ok(path) => File::open(rt, path),
