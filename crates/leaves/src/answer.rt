@@ -10,10 +10,9 @@ use std::io::Write;
 // The longest payload's bytes with their prefix.
 const MAX_WRITTEN: usize = 65538;
 
-// `w`: the atom with its prefix.
-fn written<W: Write>(out: &mut W, alloc: Global, payload: &[u8]) -> io::Result<bool> {
-    let mut output = vec![in alloc; 0u8; MAX_WRITTEN]?;
-    match atom_encode::write_atom::write_atom(&mut output, 0, payload) {
+// The atom with its prefix, made in the output's first bytes.
+fn written_in<W: Write>(out: &mut W, output: &mut [u8], payload: &[u8]) -> io::Result<bool> {
+    match atom_encode::write_atom::write_atom(output, 0, payload) {
         WriteAtom::Next(n, _) => {
             text::hex(out, &output[..n])?;
             Ok(true)
@@ -21,6 +20,12 @@ fn written<W: Write>(out: &mut W, alloc: Global, payload: &[u8]) -> io::Result<b
         WriteAtom::Full => Ok(false),
         WriteAtom::TooLong => Ok(false),
     }
+}
+
+// `w`: the atom with its prefix.
+fn written<W: Write>(out: &mut W, alloc: Global, payload: &[u8]) -> io::Result<bool> {
+    let mut output = vec![in alloc; 0u8; MAX_WRITTEN]?;
+    written_in(out, &mut output, payload)
 }
 
 // `l`: the number of those bytes.

@@ -18,6 +18,16 @@ const WORDS: usize = 3072;
 // The most bytes of an output.
 const OUTPUT: usize = 65535;
 
+// A checkpoint record before the call.
+const BLANK: Checkpoint = Checkpoint {
+    opens: 0,
+    depth: 0,
+    size: 0,
+    references: 0,
+    prefix_bytes: 0,
+    sentinel: 0,
+};
+
 // What the arguments ask for: the output item by item, each step's counts, the documentation's measure.
 #[derive(Clone, Copy)]
 pub struct Options {
@@ -28,14 +38,7 @@ pub struct Options {
 
 // The session call with sixteen checkpoint records of its own.
 fn run(file: &[u8], work: &mut [u32], words: &mut [u32], output: &mut [u8]) -> SessionAnswer {
-    let mut checkpoints = [Checkpoint {
-        opens: 0,
-        depth: 0,
-        size: 0,
-        references: 0,
-        prefix_bytes: 0,
-        sentinel: 0,
-    }; 16];
+    let mut checkpoints = [BLANK; 16];
     session_call::nikvoldra_session(file, work, words, &mut checkpoints, output)
 }
 
@@ -46,14 +49,7 @@ fn run_documented(
     words: &mut [u32],
     output: &mut [u8],
 ) -> SessionAnswer {
-    let mut checkpoints = [Checkpoint {
-        opens: 0,
-        depth: 0,
-        size: 0,
-        references: 0,
-        prefix_bytes: 0,
-        sentinel: 0,
-    }; 16];
+    let mut checkpoints = [BLANK; 16];
     session_call::nikvoldra_session_documented(file, work, words, &mut checkpoints, output)
 }
 

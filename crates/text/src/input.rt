@@ -1,10 +1,9 @@
 // What the programs read: standard input, or the files that arguments name.
 use std::alloc::Global;
 use std::fs::File;
-use std::io;
 use std::io::{Read, Write};
 use std::rt::Files;
-use std::str;
+use std::{io, str};
 
 // The most bytes that are read of an input: one more than a call takes, so that it sees where there are more.
 const LONGEST: u64 = 65536;
@@ -22,7 +21,7 @@ pub fn read_full<R: Read + Drop>(alloc: Global, from: R) -> io::Result<Vec<u8>> 
     Ok(input)
 }
 
-// The file with this name, which is text wherever there is such a file.
+// The file with this name. A name that is not UTF-8 is refused.
 pub fn open<R: Files>(rt: &R, name: &[u8]) -> io::Result<R::File> {
     match str::from_utf8(name) {
         Ok(path) => File::open(rt, path),
@@ -47,5 +46,10 @@ pub fn fail<W: Write>(err: &mut W, alloc: Global, name: &[u8], error: io::Error)
 
 // The same of an argument with more bytes than a name may have.
 pub fn too_long<W: Write>(err: &mut W, alloc: Global) -> io::Result<()> {
-    fail(err, alloc, b"argument", io::Error::from_raw_os_error(ENAMETOOLONG))
+    fail(
+        err,
+        alloc,
+        b"argument",
+        io::Error::from_raw_os_error(ENAMETOOLONG),
+    )
 }

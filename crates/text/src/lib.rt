@@ -5,7 +5,7 @@ pub mod input;
 pub mod questions;
 pub mod session_text;
 
-ghost use Rattle.std.specs.Prelude.{◌*◌, ◌<◌, ◌≤◌, length, OnOk};
+ghost use Rattle.std.specs.Prelude.{◌*◌, ◌<◌, ◌≤◌, [], ◌∷◌, length, OnOk};
 ghost use Rattle.std.specs.Fmt.{decimal};
 ghost use Rattle.std.specs.Io.KnownBytes.{Appends};
 
@@ -25,11 +25,15 @@ pub fn decimal<W: Write>(out: &mut W, n: u64) -> io::Result<()>
     write!(out, "{n}")
 }
 
-pub fn space<W: Write>(out: &mut W) -> io::Result<()> {
+pub fn space<W: Write>(out: &mut W) -> io::Result<()>
+    ensures { OnOk result (Appends (W.contents out.old) (W.contents out.new) (32 ∷ [])) }
+{
     out.write_all(b" ")
 }
 
-pub fn line_end<W: Write>(out: &mut W) -> io::Result<()> {
+pub fn line_end<W: Write>(out: &mut W) -> io::Result<()>
+    ensures { OnOk result (Appends (W.contents out.old) (W.contents out.new) (10 ∷ [])) }
+{
     out.write_all(b"\n")
 }
 
@@ -70,6 +74,8 @@ pub fn hex<W: Write>(out: &mut W, bytes: &[u8]) -> io::Result<()> {
 }
 
 // Words on standard error.
-pub fn say<W: Write>(err: &mut W, text: &[u8]) -> io::Result<()> {
+pub fn say<W: Write>(err: &mut W, text: &[u8]) -> io::Result<()>
+    ensures { OnOk result (Appends (W.contents err.old) (W.contents err.new) text.now) }
+{
     err.write_all(text)
 }

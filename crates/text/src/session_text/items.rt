@@ -52,12 +52,7 @@ fn items<W: Write>(out: &mut W, output: &[u8]) -> io::Result<()> {
 }
 
 // The first `count` bytes that the slice has, in hexadecimal or item by item.
-pub fn output<W: Write>(
-    out: &mut W,
-    bytes: &[u8],
-    count: u32,
-    by_items: bool,
-) -> io::Result<()> {
+pub fn output<W: Write>(out: &mut W, bytes: &[u8], count: u32, by_items: bool) -> io::Result<()> {
     let n = crate::least(count, bytes.len());
     if by_items {
         return items(out, &bytes[..n]);
