@@ -2,7 +2,8 @@
 -- Assumes nothing.
 use Prim.Native.Nat.{◌+◌, ◌≤◌}
 use mathlib.Core.List.{[], ◌∷◌}
-use mathlib.Core.Path.{refl, sym}
+use mathlib.Core.Path.{refl, sym, ap}
+use mathlib.Core.Bool.{not}
 use native.Mathlib.Omega.{arith}
 use lib.ListN.{length}
 use borrow.Author.Rules.{rules}
@@ -17,25 +18,25 @@ returns-then-not-fits c =
     let a = c.args in
     let n = a.counts.size in
     record {
-      bytes = sym (put_full a.output.now n (0xff ∷ []) (no_room (length a.output.now) (n + 1) _ c.fits2.ensures c.if-not-fits.true));
+      bytes = sym (put_full a.output.now n (0xff ∷ []) (no_room (length a.output.now) (n + 1) _ c.fits.ensures (ap not c.if-not-fits.true)));
       counted = tt;
     }
 
 pub bounds-output-size : goal.bounds-output-size
 bounds-output-size c =
     let room : c.args.counts.size + 1 ≤ length c.args.output.now =
-    has_room (length c.args.output.now) _ _ c.fits2.ensures c.if-not-fits.false in
+    has_room (length c.args.output.now) _ _ c.fits.ensures (ap not c.if-not-fits.false) in
     omega (arith, room)
 
 pub overflow_add-size : goal.overflow_add-size
 overflow_add-size c =
     let room : c.args.counts.size + 1 ≤ length c.args.output.now =
-    has_room (length c.args.output.now) _ _ c.fits2.ensures c.if-not-fits.false in
+    has_room (length c.args.output.now) _ _ c.fits.ensures (ap not c.if-not-fits.false) in
     record { fits = omega (arith, room) }
 
 pub returns : goal.returns
 returns c =
     let room : c.args.counts.size + 1 ≤ length c.args.output.now =
-    has_room (length c.args.output.now) _ _ c.fits2.ensures c.if-not-fits.false in
+    has_room (length c.args.output.now) _ _ c.fits.ensures (ap not c.if-not-fits.false) in
     let a = c.args in
     put_counted a.output.now _ a.counts cons_item _ 0 (put_byte a.output.now a.counts.size 0xff (omega (arith, room))) refl _ c.with_cons.ensures

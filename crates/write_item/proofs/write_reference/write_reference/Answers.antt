@@ -2,6 +2,7 @@
 -- Assumes nothing.
 use Prim.Native.Nat.{ℕ, ◌+◌, ◌/◌}
 use mathlib.Core.Path.{ap, ◌∙◌}
+use mathlib.Core.Bool.{not}
 use native.Mathlib.Omega.{arith}
 use lib.ListN.{length}
 use borrow.Author.Rules.{rules}
@@ -21,7 +22,7 @@ returns-then-not-fits c =
     record {
       bytes =
           reference_full a.output.now a.counts.size b.result w.path_width-width.result (path_at a.work.now a.slot) path e b.ensures.0
-          w.path_width-width.ensures.1 (no_room _ _ _ c.fits2.ensures c.if-not-fits.true);
+          w.path_width-width.ensures.1 (no_room _ _ _ c.fits.ensures (ap not c.if-not-fits.true));
       counted = tt;
     }
 
@@ -32,7 +33,7 @@ put_reference-requires c =
     let s = w in
     record {
       in_bounds = (s.requires.0, s.requires.1, ap (λ (k : ℕ). (k + 7) / 8) b.0, omega (arith, b.1));
-      width_bound = (w.path_width-width.ensures.0, has_room _ _ _ c.fits2.ensures c.if-not-fits.false);
+      width_bound = (w.path_width-width.ensures.0, has_room _ _ _ c.fits.ensures (ap not c.if-not-fits.false));
     }
 
 pub overflow_add-size : goal.overflow_add-size
@@ -41,7 +42,7 @@ overflow_add-size c =
     let w = t in
     let a = w.args in
     let total = 1 + (w.path_width-width.result + (w.path_bits-bits.result + 7) / 8) in
-    record { fits = omega (arith, has_room (length a.output.now) (a.counts.size + total) _ t.fits2.ensures t.if-not-fits.false) }
+    record { fits = omega (arith, has_room (length a.output.now) (a.counts.size + total) _ t.fits.ensures (ap not t.if-not-fits.false)) }
 
 pub with_reference-requires : goal.with_reference-requires
 with_reference-requires c =
@@ -58,5 +59,5 @@ returns c =
     λ path e.
     put_counted a.output.now _ a.counts (reference_item path) _ _
     (reference_next a.output.now a.counts.size b.result w.path_width-width.result (path_at a.work.now a.slot) path e b.ensures.0
-    w.path_width-width.ensures.1 r.new.output (has_room _ _ _ t.fits2.ensures t.if-not-fits.false) r.ensures)
+    w.path_width-width.ensures.1 r.new.output (has_room _ _ _ t.fits.ensures (ap not t.if-not-fits.false)) r.ensures)
     (ap width_or_0 (w.path_width-width.ensures.1 path (b.ensures.0 ∙ ap length e))) _ c.with_reference.ensures
