@@ -5,7 +5,7 @@ use Rattle.std.proofs.Common.{ap, ◌∙◌, arith, length-append, get_or-append
 use Rattle.std.proofs.Math.ListN.{get_or-append}
 use Rattle.words.specs.Choice.{by_lt}
 use Rattle.path.specs.Bytes.{odd, low_bits}
-use Rattle.path.specs.BytesLaws.{length_low_bits, low_bits_at}
+use Rattle.path.proofs.BytesLaws.{length_low_bits, low_bits_at}
 use Rattle.bitset.specs.BitSet.{bits_of}
 
 pub length_bits_of : (ws : List ℕ) → length (bits_of ws) ≡ 32 * length ws

@@ -14,7 +14,7 @@ use Rattle.atom.specs.Write.{serialized_length}
 use Rattle.allocator.specs.Handle.{Node, pair, listed_atom, small_atom, unknown, node_of, index_of, is_atom}
 use Rattle.spec_session.specs.File.{File, named}
 use Rattle.spec_session.specs.Unfold.{Unfolded, hole, leaf, node, is_sentinel, unfolded}
-use Rattle.spec_session.specs.UnfoldLaws.{unfolded_sentinel, unfolded_listed, unfolded_small, unfolded_pair}
+use Rattle.spec_session.proofs.UnfoldLaws.{unfolded_sentinel, unfolded_listed, unfolded_small, unfolded_pair}
 use Rattle.spec_session.specs.Cache.{Cache, lookup, atom_key, find_or_add, meet_sentinel, join_pair, known_or, enter}
 use Rattle.work_layout.specs.Layout.{PAIRS, ATOM_COUNT, PAIR_COUNT, SENTINEL, MAPS, USED, ENTRIES}
 use Rattle.spec_session.specs.Sentinel.{sentinel_word}

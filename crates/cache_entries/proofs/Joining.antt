@@ -13,7 +13,7 @@ use lib.ListN.{length, set, length-set}
 use lib.Seq.{get_or-set_same, get_or-set_other}
 use borrow.Author.Tests.{ne_eqb}
 use Rattle.words.specs.Words.{at}
-use Rattle.spec_session.specs.Cached.{lookup_new}
+use Rattle.spec_session.proofs.Cached.{lookup_new}
 use Rattle.spec_session.specs.File.{File}
 use Rattle.spec_session.specs.Cache.{Cache, lookup, adjust, add_parent, with_entries, link_pair}
 use Rattle.work_layout.specs.Layout.{PAIR_COUNT, MAPS, SENTINEL_ENTRY, USED, LEFT, RIGHT, SEEN, ENTRIES}

@@ -11,7 +11,7 @@ use Rattle.words.specs.Lists.{All, same}
 use Rattle.spec_session.specs.File.{got, and_then, field, count, version_1, atom, atoms, Pair, one_pair, pairs, sentinel, Step, add, restore, forget, quote, take_quote, one_step, steps, File}
 use Rattle.spec_session.specs.Places.{AtomsAt, PairsAt, StepsAt, StepIs, step_size, PairsNamed, StepNamed, ListedAtom}
 use Rattle.file_parts.specs.Checked.{Contents}
-use Rattle.spec_session.specs.FileLaws.{then_of, asked_of, got_value, got_rest, field_at, atom_at, pair_at, step_at, sentinel_named, count_most, pairs_long, steps_most}
+use Rattle.spec_session.proofs.FileLaws.{then_of, asked_of, got_value, got_rest, field_at, atom_at, pair_at, step_at, sentinel_named, count_most, pairs_long, steps_most}
 
 -- One of a list at its front, or at the end of what stands before.
 onward : {A : Type 0} (done : List A) (x : A) (more xs : List A) → xs ≡ (done ++ x ∷ []) ++ more → xs ≡ done ++ x ∷ more

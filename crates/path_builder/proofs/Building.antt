@@ -14,7 +14,7 @@ use lib.Seq.{take-suc, take-suc-set, drop-set-lt}
 use lib.Pow.{shl-shr, shl_lt, shr_lt, split}
 use Rattle.words.specs.Lists.{Bytes, all_at}
 use Rattle.path.specs.Bytes.{bit, value, low_bits, all_bits}
-use Rattle.path.specs.BytesLaws.{odd_value, half_value, shifted_split, value_last}
+use Rattle.path.proofs.BytesLaws.{odd_value, half_value, shifted_split, value_last}
 use Rattle.path_builder.specs.declared.push_bit.BitPlace.{BitPlace}
 use Rattle.path_builder.specs.Put.{put, Put}
 use Rattle.path_builder.specs.declared.PathBuilder.{PathBuilder}

@@ -12,9 +12,9 @@ use lib.ListN.{length, get_or, take, drop}
 use lib.Seq.{get_or-take}
 use Rattle.words.specs.Lists.{Bytes, all_take}
 use Rattle.path.specs.Bytes.{octets, path_bytes, all_bits}
-use Rattle.path.specs.BytesLaws.{length_path_bytes, octets_all_bits}
+use Rattle.path.proofs.BytesLaws.{length_path_bytes, octets_all_bits}
 use Rattle.path.specs.Measure.{counted_bytes, counted}
-use Rattle.path.specs.MeasureLaws.{only_one}
+use Rattle.path.proofs.MeasureLaws.{only_one}
 use Rattle.path_builder.specs.Aligned.{Aligned}
 use Rattle.path_builder.specs.declared.PathBuilder.{PathBuilder}
 use Rattle.path_builder.specs.Builder.{free, built, Sound, Finished}

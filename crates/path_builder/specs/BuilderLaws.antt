@@ -5,7 +5,7 @@ use Rattle.std.proofs.Common.{sym, ◌∙◌, arith, length-take-le}
 use Rattle.std.proofs.Math.Path.{ap}
 use Rattle.std.proofs.Math.ListN.{length-drop}
 use Rattle.path.specs.Bytes.{octets, path_bytes, all_bits}
-use Rattle.path.specs.BytesLaws.{length_all_bits}
+use Rattle.path.proofs.BytesLaws.{length_all_bits}
 use Rattle.path_builder.specs.declared.PathBuilder.{PathBuilder}
 use Rattle.path_builder.specs.Builder.{free, built, Sound}
 

@@ -15,9 +15,10 @@ use Rattle.words.specs.Words.{at, WORK}
 use Rattle.words.specs.Lists.{Bytes}
 use Rattle.spec_reading.specs.Format.{Read}
 use Rattle.spec_reading.specs.Store.{Stored, read_stored}
-use Rattle.spec_reading.specs.Bounds.{Bounds, sound_bounds}
+use Rattle.spec_reading.proofs.Bounds.{Bounds, sound_bounds}
 use Rattle.spec_reading.specs.Call.{Slices, Result, refusal, zeroed, filled, root_of, answer_of, after, long_enough, reading}
-use Rattle.spec_reading.specs.Promise.{ReadsPlainly, reads_plainly}
+use Rattle.spec_reading.specs.Promise.{ReadsPlainly}
+use Rattle.spec_reading.proofs.Promise.{reads_plainly}
 use Rattle.read_store.specs.Layout.{VALUES, values_of}
 use Rattle.read_item.specs.Whole.{stored_of, Lent, Ends}
 use Rattle.read_item.specs.declared.settle.Reader.{Reader}

@@ -13,7 +13,8 @@ use Rattle.words.specs.Choice.{cond_true, cond_false}
 use Rattle.atom.specs.Parse.{parse}
 use Rattle.spec_reading.specs.Format.{ParseOp, SExp, Cons, go, settle, atom_item, path_item, next_item, step}
 use Rattle.spec_reading.specs.Store.{Value, Stored, store_values}
-use Rattle.spec_reading.specs.Sound.{Sound, unlisted, sound_pair}
+use Rattle.spec_reading.specs.Sound.{Sound, unlisted}
+use Rattle.spec_reading.proofs.Sound.{sound_pair}
 use Rattle.read_store.specs.Layout.{ops_of, PushedPair}
 use Rattle.read_item.specs.declared.settle.Reader.{Reader}
 use Rattle.read_item.specs.declared.settle.Item.{Item}

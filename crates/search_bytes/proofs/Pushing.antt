@@ -8,7 +8,7 @@ use native.Mathlib.Omega.{arith}
 use lib.ListN.{length}
 use lib.Seq.{take_all}
 use Rattle.path.specs.Bytes.{odd, path_bytes}
-use Rattle.path.specs.BytesLaws.{length_path_bytes}
+use Rattle.path.proofs.BytesLaws.{length_path_bytes}
 use Rattle.path_builder.specs.declared.PathBuilder.{PathBuilder}
 use Rattle.path_builder.specs.Builder.{built, Sound, Fresh, Room, Pushed, Finished}
 use Rattle.spec_search.specs.Search.{trail_bits}

@@ -11,8 +11,8 @@ use Rattle.path.specs.declared.Measure.{Measure}
 use Rattle.path.specs.Measure.{measure_of}
 use Rattle.allocator.specs.Handle.{nil, handle_of}
 use Rattle.spec_search.specs.Search.{Parents, search, used}
-use Rattle.spec_search.specs.PathBits.{search_ends}
-use Rattle.spec_search.specs.Used.{used_some}
+use Rattle.spec_search.proofs.PathBits.{search_ends}
+use Rattle.spec_search.proofs.Used.{used_some}
 use Rattle.spec_session.specs.FindPath.{without_terminator, find_in}
 use Rattle.work_layout.specs.Layout.{ENTRIES}
 use Rattle.work_layout.specs.Rows.{stack_of, Sound}

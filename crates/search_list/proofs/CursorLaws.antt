@@ -10,10 +10,13 @@ use lib.ListN.{length, get_or, set, take, drop, length-append, length-set, drop_
 use lib.Seq.{drop-cons, split_at, set_split, take_at, drop_at, take_all, take-suc, length-take-le, append_snoc}
 use Rattle.spec_search.specs.Search.{Trail, Parents, result, stays, dropped, capped, found, gone, left, step, last_first, goes_on, in_front}
 use Rattle.words.specs.Lists.{All, all_append, all_map}
-use Rattle.spec_search.specs.Lists.{all_last_first, size, AtLeast, Longer, shorts, shorts_short, shorts_long, shorts_append, shorts_last_first, shorts_all_long}
-use Rattle.spec_search.specs.Induction.{Grown, step_grown}
-use Rattle.spec_search.specs.Enough.{pass, pass_end, pass_long, pass_step}
-use Rattle.spec_search.specs.Flat.{swap_remove, drop_list}
+use Rattle.spec_search.specs.Lists.{size, AtLeast, Longer, shorts}
+use Rattle.spec_search.proofs.Lists.{all_last_first, shorts_short, shorts_long, shorts_append, shorts_last_first, shorts_all_long}
+use Rattle.spec_search.proofs.Induction.{Grown, step_grown}
+use Rattle.spec_search.specs.Enough.{pass}
+use Rattle.spec_search.proofs.Enough.{pass_end, pass_long, pass_step}
+use Rattle.spec_search.specs.Flat.{swap_remove}
+use Rattle.spec_search.proofs.Flat.{drop_list}
 use Rattle.search_list.specs.Cursor.{goes, Mid, ahead}
 
 length_last_first : (ps : List Trail) → length (last_first ps) ≡ length ps

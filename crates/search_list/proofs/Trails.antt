@@ -9,7 +9,8 @@ use native.Mathlib.Decide.{ℕ_discrete, dec_lt}
 use lib.ListN.{length, get_or, set}
 use Rattle.spec_search.specs.Search.{Trail}
 use Rattle.spec_search.specs.Lists.{size}
-use Rattle.spec_search.specs.Flat.{swap_remove, last, init, last_seam, init_seam}
+use Rattle.spec_search.specs.Flat.{swap_remove, last, init}
+use Rattle.spec_search.proofs.Flat.{last_seam, init_seam}
 use Rattle.words.specs.Words.{at, tabulate, WORK}
 use Rattle.work_layout.specs.Layout.{USED, PATHS, DEPTH, LENS}
 use Rattle.search_list.specs.State.{node_bits, trail, trues, trail_of, trails_of, path_at, Readable, node_at, place_at, extra_at, MOST_PATHS}

@@ -14,7 +14,7 @@ use lib.Seq.{get_or-set_same, get_or-set_other}
 use Rattle.spec_search.specs.Search.{Trail, at_entry, Parents, Passed, then, passes, search}
 use Rattle.words.specs.Lists.{All}
 use Rattle.spec_search.specs.Lists.{AtLeast}
-use Rattle.spec_search.specs.Enough.{passes_step, search_enough}
+use Rattle.spec_search.proofs.Enough.{passes_step, search_enough}
 use Rattle.words.specs.Words.{at, tabulate, WORK}
 use Rattle.search_list.specs.Cursor.{goes, Mid}
 use Rattle.search_list.proofs.CursorLaws.{at_end, all_longer}

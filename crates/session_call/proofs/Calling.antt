@@ -14,9 +14,9 @@ use Rattle.path.specs.Measure.{measure_of}
 use Rattle.spec_reading.specs.Call.{zeroed, filled}
 use Rattle.spec_session.specs.File.{Got, got, refused, File, version_1, file}
 use Rattle.spec_session.specs.Items.{Item, output}
-use Rattle.spec_session.specs.Output.{output_size}
+use Rattle.spec_session.proofs.Output.{output_size}
 use Rattle.spec_session.specs.Steps.{Run}
-use Rattle.spec_session.specs.Demand3.{demand_3_of, demand_3_adds_of}
+use Rattle.spec_session.proofs.Demand3.{demand_3_of, demand_3_adds_of}
 use Rattle.spec_session.specs.Call.{Slices, Result, untouched, after_run, after_file, session}
 use Rattle.session_state.specs.declared.checkpoints.Checkpoint.{Checkpoint}
 use Rattle.session_state.specs.Records.{blank}

@@ -18,7 +18,7 @@ use Rattle.spec_session.specs.Cache.{update}
 use Rattle.spec_session.specs.Writer.{Todo, parse, Outcome, Session, Added, added, settle, add_at, resume}
 use Rattle.spec_session.specs.Steps.{room_in, State, Stepped, went, Run, finished_bit, words_of, stop_at, with_words, after_add, after_quote, unless_full}
 use Rattle.spec_session.specs.Steps.{add_handle, after_step, run_step, run_steps}
-use Rattle.spec_session.specs.StepLaws.{add_went}
+use Rattle.spec_session.proofs.StepLaws.{add_went}
 use Rattle.spec_session.specs.FindPath.{find_in}
 use Rattle.spec_session.specs.Trees.{nth}
 use Rattle.path.specs.Bytes.{bit}

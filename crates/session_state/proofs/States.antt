@@ -9,7 +9,7 @@ use mathlib.Core.Option.{some}
 use native.Mathlib.Omega.{arith}
 use lib.ListN.{length, get_or, set, take, length-append}
 use lib.Seq.{length-paste, take-take, get_or-set_same, get_or-set_other, length-take-le}
-use Rattle.spec_session.specs.Coherence.{nth_snoc}
+use Rattle.spec_session.proofs.Coherence.{nth_snoc}
 use Rattle.words.specs.Words.{at}
 use Rattle.words.specs.Lists.{All}
 use Rattle.words.specs.Choice.{by_lt}
@@ -24,7 +24,8 @@ use Rattle.spec_session.specs.Writer.{Session}
 use Rattle.spec_session.specs.Trees.{nth}
 use Rattle.spec_session.specs.Steps.{words_of, State, with_words, run_steps}
 use Rattle.spec_session.specs.Cache.{Cache}
-use Rattle.spec_session.specs.Extends.{Extends, extends_refl, extends_trans}
+use Rattle.spec_session.specs.Extends.{Extends}
+use Rattle.spec_session.proofs.Extends.{extends_refl, extends_trans}
 use Rattle.file_parts.specs.Loaded.{forgets}
 use Rattle.work_layout.specs.Layout.{OPEN, COPIES, COPY, ENTRIES}
 use Rattle.work_layout.specs.Rows.{all_counts, all_further}

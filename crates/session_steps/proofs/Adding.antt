@@ -23,7 +23,7 @@ use Rattle.spec_session.specs.Unfold.{unfolded}
 use Rattle.spec_session.specs.Cache.{Cache, update}
 use Rattle.spec_session.specs.Writer.{Todo, Written, Session, settle}
 use Rattle.spec_session.specs.Writer as writer
-use Rattle.spec_session.specs.Extends.{update_extends}
+use Rattle.spec_session.proofs.Extends.{update_extends}
 use Rattle.spec_session.specs.Steps.{room_in, add_handle, Run, after_step, run_steps}
 use Rattle.file_parts.specs.Loaded.{forgets}
 use Rattle.spec_session.specs.FindPath.{find_in}

@@ -5,13 +5,5 @@ pub mod Grammar
 pub mod Store
 pub mod Sound
 pub mod Names
-pub mod Blobs
-pub mod Fuel
-pub mod GrammarLaws
-pub mod Refusals
-pub mod Same
 pub mod Call
-pub mod Agree
 pub mod Promise
-pub mod Bounds
-pub mod Cases

@@ -1,9 +1,5 @@
 pub mod Search
 pub mod Lists
-pub mod Induction
-pub mod Sound
-pub mod Reference
 pub mod Enough
 pub mod Flat
 pub mod PathBits
-pub mod Used

@@ -3,7 +3,7 @@
 use Rattle.std.specs.Prelude.{◌≡◌, List, [], ◌∷◌, ◌++◌}
 use Rattle.std.proofs.Common.{arith}
 use Rattle.spec_session.specs.Items.{Item, item_size, reference_count, item_prefix}
-use Rattle.spec_session.specs.Counts.{total_more, reference_few, prefix_few}
+use Rattle.spec_session.proofs.Counts.{total_more, reference_few, prefix_few}
 use Rattle.write_counts.specs.declared.Counts.{Counts}
 use Rattle.write_counts.specs.Counts.{counts_of, with_item, Bounded}
 

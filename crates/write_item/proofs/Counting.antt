@@ -11,7 +11,7 @@ use Rattle.words.specs.Choice.{by_lt, clash}
 use Rattle.atom.specs.Write.{next, full, Written, put}
 use Rattle.atom.specs.WriteLaws.{put_full, put_room}
 use Rattle.spec_session.specs.Items.{Item, item_size, reference_count, item_prefix, item_bytes}
-use Rattle.spec_session.specs.Output.{item_size_is}
+use Rattle.spec_session.proofs.Output.{item_size_is}
 use Rattle.write_counts.specs.declared.Counts.{Counts}
 use Rattle.write_counts.specs.Counts.{grown, Bounded}
 use Rattle.write_counts.specs.CountLaws.{bounded_more}

@@ -11,7 +11,7 @@ use lib.Dec.{leb}
 use borrow.Author.Tests.{le-leb, lt-leb, leb-true, leb-false, not-true, not-false}
 use lib.ListN.{length, take, drop, set}
 use lib.Seq.{paste, set_split, append_snoc}
-use Rattle.spec_session.specs.Formed.{encoded}
+use Rattle.spec_session.proofs.Formed.{encoded}
 use Rattle.words.specs.Choice.{by_lt, clash}
 use Rattle.atom.specs.Prefix.{encode}
 use Rattle.atom.specs.Write.{next, full, too_long, Written, put}

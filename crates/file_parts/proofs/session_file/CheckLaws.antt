@@ -18,7 +18,7 @@ use Rattle.file_parts.specs.Answers.{Answers, itself, counted}
 use Rattle.spec_session.specs.Sentinel.{sentinel_word}
 use Rattle.spec_session.specs.Places.{PairsAt, StepsAt}
 use Rattle.file_parts.specs.Checked.{Passed, turned_down, Checks}
-use Rattle.spec_session.specs.FileLaws.{after_atom_count, after_atoms, after_pair_count, after_pairs, after_sentinel, after_steps}
+use Rattle.spec_session.proofs.FileLaws.{after_atom_count, after_atoms, after_pair_count, after_pairs, after_sentinel, after_steps}
 use Rattle.file_parts.specs.PlaceLaws.{pairs_read, steps_read, contents_of}
 use Rattle.file_parts.proofs.session_file.FieldLaws.{taken, turned, yes_asked, no_asked}
 

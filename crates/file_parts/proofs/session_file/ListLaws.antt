@@ -10,7 +10,7 @@ use Rattle.file_parts.specs.PlaceLaws.{size_low}
 use Rattle.file_parts.specs.declared.session_file.Part.{Part}
 use Rattle.spec_session.specs.File.{Got, got, and_then, version_1, atom, atoms, Pair, one_pair, pairs, Step, one_step, steps}
 use Rattle.file_parts.specs.Answers.{Answers, sized, pair_word, operand_word, counted}
-use Rattle.spec_session.specs.FileLaws.{atom_at, step_at}
+use Rattle.spec_session.proofs.FileLaws.{atom_at, step_at}
 use Rattle.file_parts.proofs.session_file.FieldLaws.{Taken, taken, gives, then_refused}
 
 -- One more than is left after the next one.

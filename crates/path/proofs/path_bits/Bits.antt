@@ -13,9 +13,9 @@ use lib.Seq.{get_or-append-add}
 use Rattle.words.specs.Choice.{by_lt}
 use Rattle.words.specs.Lists.{Bytes, all_at}
 use Rattle.path.specs.Bytes.{odd, low_bits, below_top, all_bits, read_path}
-use Rattle.path.specs.BytesLaws.{length_all_bits, length_low_bits, low_bits_at}
+use Rattle.path.proofs.BytesLaws.{length_all_bits, length_low_bits, low_bits_at}
 use Rattle.path.specs.Traverse.{top_bit, zeros_in_front}
-use Rattle.path.specs.TraverseLaws.{Top, top_byte, zeros_within, after_zeros, none_all_zeros, read_from}
+use Rattle.path.proofs.TraverseLaws.{Top, top_byte, zeros_within, after_zeros, none_all_zeros, read_from}
 use Rattle.path.specs.declared.path_bits.PathBits.{PathBits}
 use Rattle.path.specs.declared.path_bits.PathBits.TheVariants as path_bits
 use Rattle.path.specs.Answers.{counted}

@@ -10,7 +10,8 @@ use lib.Dec.{eqb}
 use borrow.Author.Tests.{eq-eqb, ne_eqb}
 use Rattle.words.specs.Choice.{cond_false}
 use Rattle.atom.specs.Prefix.{width}
-use Rattle.path.specs.MeasureLaws.{documented_prefix, width_is}
+use Rattle.path.specs.MeasureLaws.{documented_prefix}
+use Rattle.path.proofs.MeasureLaws.{width_is}
 use Rattle.path_builder.specs.Measured.{documented_bytes}
 
 module _ (full : Bool) (n : ℕ) where

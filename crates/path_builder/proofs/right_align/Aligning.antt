@@ -11,7 +11,7 @@ use lib.ListN.{length, get_or, take, drop, set, length-set, drop_of_length-le}
 use lib.Seq.{take-suc, take-nil, take-set-le, take-set-lt, drop-set-lt, drop-cons, length-take-le, take-take, get_or-set_same}
 use lib.Pow.{mod-pow-add, shl-shr}
 use Rattle.path.specs.Bytes.{value, octets, all_bits}
-use Rattle.path.specs.BytesLaws.{octets_suc, value_bound, value_shifted, drop_shifted, value_last}
+use Rattle.path.proofs.BytesLaws.{octets_suc, value_bound, value_shifted, drop_shifted, value_last}
 use Rattle.path_builder.specs.Aligned.{Aligned}
 
 -- ---- one byte

@@ -7,7 +7,7 @@ use native.Mathlib.Omega.{arith}
 use lib.ListN.{length}
 use Rattle.spec_reading.specs.Format.{At, Step, step, then, run, read}
 use Rattle.spec_reading.specs.Store.{Stored, store_values, read_stored}
-use Rattle.spec_reading.specs.Sound.{sound_start}
+use Rattle.spec_reading.proofs.Sound.{sound_start}
 use Rattle.read_store.specs.Layout.{ops_of, values_of}
 use Rattle.read_item.specs.Whole.{reader_at, Lent, Stands, item_of}
 use Rattle.read_item.specs.Step.{Stepped}

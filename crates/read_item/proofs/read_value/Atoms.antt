@@ -13,8 +13,9 @@ use Rattle.atom.specs.ParseLaws.{blob_there}
 use Rattle.allocator.specs.SmallAtom.{fits_in_small_atom}
 use Rattle.spec_reading.specs.Format.{ParseOp, SExp, settle, atom_item}
 use Rattle.spec_reading.specs.Store.{Store, Stored, small_or_listed, new_atom, push_made, store_values}
-use Rattle.spec_reading.specs.Sound.{Sound, unlisted, sound_atom}
-use Rattle.spec_reading.specs.Blobs.{Within, blob_within, length_blob}
+use Rattle.spec_reading.specs.Sound.{Sound, unlisted}
+use Rattle.spec_reading.proofs.Sound.{sound_atom}
+use Rattle.spec_reading.proofs.Blobs.{Within, blob_within, length_blob}
 use Rattle.read_store.specs.Layout.{ops_of, values_of}
 use Rattle.read_item.specs.declared.settle.Reader.{Reader}
 use Rattle.read_item.specs.declared.settle.Item.{Item}

@@ -16,9 +16,10 @@ use Rattle.path.specs.Bytes.{read_path}
 use Rattle.allocator.specs.Handle.{Node, pair, listed_atom, small_atom, unknown, node_of}
 use Rattle.spec_reading.specs.Format.{ParseOp, SExp, stop, settle, pushed, path_item}
 use Rattle.spec_reading.specs.Store.{Store, Value, Stored, Listed, Led, add_to_list, list_of, lead, push_led, store_values}
-use Rattle.spec_reading.specs.Sound.{Sound, Known, KnownHandle, KnownValue, sound_path_some}
+use Rattle.spec_reading.specs.Sound.{Sound, Known, KnownHandle, KnownValue}
+use Rattle.spec_reading.proofs.Sound.{sound_path_some}
 use Rattle.spec_reading.specs.Sound as sound_law
-use Rattle.spec_reading.specs.Blobs.{length_blob}
+use Rattle.spec_reading.proofs.Blobs.{length_blob}
 use Rattle.read_store.specs.Layout.{VALUES, ops_of, values_of, PushedValue}
 use Rattle.read_store.proofs.reader_stacks.Stacks.{ops_same}
 use Rattle.read_store.proofs.Stored.{half}

@@ -9,7 +9,8 @@ use lib.Seq.{drop-drop}
 use Rattle.words.specs.Words.{at}
 use Rattle.spec_reading.specs.Format.{ParseOp, SExp, Cons, settle}
 use Rattle.spec_reading.specs.Store.{Store, Value, Stored, join_values, store_values}
-use Rattle.spec_reading.specs.Sound.{Sound, unlisted, conses, sound_join, sound_two}
+use Rattle.spec_reading.specs.Sound.{Sound, unlisted, conses}
+use Rattle.spec_reading.proofs.Sound.{sound_join, sound_two}
 use Rattle.read_store.specs.Layout.{OPS, op_of, ops_of, value_at, values_of}
 use Rattle.read_store.proofs.reader_stacks.Stacks.{ops_more, values_two, length_values, drop_values}
 use Rattle.read_store.specs.Joined.{Joined}

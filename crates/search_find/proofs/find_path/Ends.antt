@@ -10,13 +10,15 @@ use lib.Dec.{ltb, eqb}
 use borrow.Author.Tests.{lt-ltb, le-ltb, eq-eqb, ne_eqb}
 use Rattle.words.specs.Choice.{by_lt, cond_true, cond_false}
 use Rattle.spec_search.specs.Search.{used}
-use Rattle.spec_search.specs.PathBits.{Ends, search_ends}
+use Rattle.spec_search.specs.PathBits.{Ends}
+use Rattle.spec_search.proofs.PathBits.{search_ends}
 use Rattle.path.specs.Bytes.{path_bytes}
-use Rattle.path.specs.BytesLaws.{length_path_bytes}
+use Rattle.path.proofs.BytesLaws.{length_path_bytes}
 use Rattle.path.specs.declared.Measure.{Measure}
 use Rattle.path.specs.declared.Measure.TheVariants.{Counted, Documented}
 use Rattle.path.specs.Measure.{counted, counted_bytes, documented, measure_of}
-use Rattle.path.specs.MeasureLaws.{counted_is, documented_prefix, documented_is}
+use Rattle.path.specs.MeasureLaws.{documented_prefix}
+use Rattle.path.proofs.MeasureLaws.{counted_is, documented_is}
 use Rattle.path_builder.specs.Measured.{documented_bytes, measured_bytes}
 use Rattle.search_passes.specs.declared.Way.TheVariants.{By, Nothing}
 use Rattle.search_find.specs.declared.find_path.Path.TheVariants.{At, NoPath}

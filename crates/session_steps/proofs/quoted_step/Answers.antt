@@ -20,9 +20,10 @@ use Rattle.path.specs.Measure.{measure_of}
 use Rattle.path.specs.Bytes.{bit}
 use Rattle.spec_session.specs.File.{File, Step, take_quote}
 use Rattle.spec_session.specs.Places.{StepsAt, StepNamed}
-use Rattle.spec_session.specs.Trees.{nth, nth_end}
+use Rattle.spec_session.specs.Trees.{nth}
+use Rattle.spec_session.proofs.Trees.{nth_end}
 use Rattle.spec_session.specs.Premises.{IfAny}
-use Rattle.spec_session.specs.StepLaws.{run_unseen}
+use Rattle.spec_session.proofs.StepLaws.{run_unseen}
 use Rattle.spec_session.specs.Steps.{words_of, Run, with_words, run_steps}
 use Rattle.file_parts.specs.Loaded.{forgets}
 use Rattle.file_parts.specs.declared.session_file.NextStep.TheVariants as next_step

@@ -14,7 +14,7 @@ use Rattle.atom.specs.Prefix.{mark, prefix, prefix_width, encode}
 use Rattle.atom.specs.Write.{next, full, put}
 use Rattle.atom.specs.WriteLaws.{encode_some, length_encoded, put_full, put_room, paste_paste}
 use Rattle.path.specs.Bytes.{path_bytes}
-use Rattle.path.specs.BytesLaws.{length_path_bytes}
+use Rattle.path.proofs.BytesLaws.{length_path_bytes}
 use Rattle.search_list.specs.State.{path_at}
 use Rattle.spec_session.specs.Items.{bytes_or_none, reference_item, item_bytes}
 use Rattle.write_item.proofs.Puts.{set_paste}

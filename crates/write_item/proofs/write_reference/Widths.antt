@@ -13,7 +13,7 @@ use Rattle.atom.specs.Prefix.{single, width, prefix_width}
 use Rattle.atom.specs.PrefixLaws.{single_other}
 use Rattle.atom.specs.WriteLaws.{width_of_single, width_of_sized}
 use Rattle.path.specs.Bytes.{value, path_bytes}
-use Rattle.path.specs.BytesLaws.{length_path_bytes, value_append, value_below, one_octet}
+use Rattle.path.proofs.BytesLaws.{length_path_bytes, value_append, value_below, one_octet}
 
 one_byte : (bs : List Bool) → length bs < 8 → path_bytes (bs ++ true ∷ []) ≡ value (bs ++ true ∷ []) ∷ []
 one_byte bs h = one_octet (bs ++ true ∷ []) (omega (arith, length-append bs (true ∷ []))) (omega (arith, length-append bs (true ∷ [])))

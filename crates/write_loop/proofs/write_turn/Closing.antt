@@ -15,7 +15,7 @@ use Rattle.spec_session.specs.Cache.{Cache}
 use Rattle.spec_session.specs.Writer.{Todo, parse, close, Written, push, pop2}
 use Rattle.spec_session.specs.FindPath.{find_in}
 use Rattle.spec_session.specs.Steps.{room_in}
-use Rattle.spec_session.specs.Loop.{turn_done, turn_close}
+use Rattle.spec_session.proofs.Loop.{turn_done, turn_close}
 use Rattle.work_layout.specs.Layout.{PAIRS, PAIR_COUNT, OPEN, WRITTEN}
 use Rattle.work_layout.specs.Rows.{stack_of}
 use Rattle.cache_stack.specs.Effects.{PoppedTwo}

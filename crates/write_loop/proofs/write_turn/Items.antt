@@ -9,7 +9,7 @@ use lib.ListN.{length, take}
 use lib.Seq.{take-take, take_at, take-length, take-paste, length-take-le, length-paste}
 use borrow.Author.Tests.{lt-ltb, le-ltb}
 use Rattle.spec_session.specs.Items.{Item, cons_item, atom_item, reference_item, item_size, size_of, item_bytes, output}
-use Rattle.spec_session.specs.Output.{item_size_is, output_more}
+use Rattle.spec_session.proofs.Output.{item_size_is, output_more}
 use Rattle.spec_session.specs.Writer.{Todo}
 use Rattle.spec_session.specs.Steps.{too_deep, room_in}
 use Rattle.write_counts.specs.declared.Counts.{Counts}

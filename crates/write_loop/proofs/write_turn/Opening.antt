@@ -23,7 +23,7 @@ use Rattle.spec_session.specs.Items.{cons_item, item_bytes}
 use Rattle.spec_session.specs.Writer.{Todo, parse, close, Written, and_then, pair_entry, put_if}
 use Rattle.spec_session.specs.FindPath.{find_in}
 use Rattle.spec_session.specs.Steps.{open_pairs, too_deep, room_in}
-use Rattle.spec_session.specs.Loop.{turn_pair}
+use Rattle.spec_session.proofs.Loop.{turn_pair}
 use Rattle.work_layout.specs.Layout.{PAIRS, PAIR_COUNT, OPEN}
 use Rattle.search_find.specs.declared.find_path.Path.TheVariants.{NoPath}
 use Rattle.write_counts.specs.declared.Counts.{Counts}

@@ -12,12 +12,12 @@ use Rattle.path.specs.Measure.{measure_of}
 use Rattle.allocator.specs.declared.NodePtr.{NodePtr}
 use Rattle.spec_session.specs.File.{File}
 use Rattle.spec_session.specs.Unfold.{unfolded}
-use Rattle.spec_session.specs.UnfoldLaws.{unfolded_sentinel}
+use Rattle.spec_session.proofs.UnfoldLaws.{unfolded_sentinel}
 use Rattle.spec_session.specs.Cache.{Cache}
 use Rattle.spec_session.specs.Writer.{Todo, parse, Written}
 use Rattle.spec_session.specs.FindPath.{find_in}
 use Rattle.spec_session.specs.Steps.{room_in}
-use Rattle.spec_session.specs.Loop.{turn_hole}
+use Rattle.spec_session.proofs.Loop.{turn_hole}
 use Rattle.work_layout.specs.Layout.{PAIR_COUNT, SENTINEL, STACK, WRITTEN}
 use Rattle.work_layout.specs.Rows.{stack_of}
 use Rattle.search_find.specs.declared.find_path.Path.{Path}

@@ -8,8 +8,8 @@ use mathlib.Core.Option.{Option, some}
 use native.Mathlib.Omega.{arith}
 use lib.Dec.{eqb, ltb}
 use lib.ListN.{length}
-use Rattle.spec_session.specs.Formed.{atom_byte}
-use Rattle.spec_session.specs.FindPathLaws.{without_end}
+use Rattle.spec_session.proofs.Formed.{atom_byte}
+use Rattle.spec_session.proofs.FindPathLaws.{without_end}
 use Rattle.allocator.specs.HandleLaws.{is_pair_handle}
 use Rattle.words.specs.Words.{at}
 use Rattle.path.specs.declared.Measure.{Measure}
@@ -25,7 +25,7 @@ use Rattle.spec_session.specs.Writer as session
 use Rattle.spec_session.specs.Writer.{Todo, parse, Written, done, and_then, atom_entry, pair_entry, push, put_if, put_whole}
 use Rattle.spec_session.specs.FindPath.{without_terminator, find_in}
 use Rattle.spec_session.specs.Steps.{room_in}
-use Rattle.spec_session.specs.Loop.{turn_atom, turn_atom_ref, turn_pair_ref}
+use Rattle.spec_session.proofs.Loop.{turn_atom, turn_atom_ref, turn_pair_ref}
 use Rattle.work_layout.specs.Layout.{PAIR_COUNT, ENTRIES}
 use Rattle.search_find.specs.declared.find_path.Path.{Path}
 use Rattle.search_find.specs.declared.find_path.Path.TheVariants.{At, NoPath}

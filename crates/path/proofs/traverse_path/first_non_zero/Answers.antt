@@ -4,7 +4,7 @@ use Prim.Native.Nat.{◌<◌}
 use native.Mathlib.Omega.{arith}
 use borrow.Author.Rules.{rules}
 use lib.ListN.{length}
-use Rattle.path.specs.TraverseLaws.{zeros_more, zeros_stop, zeros_end}
+use Rattle.path.proofs.TraverseLaws.{zeros_more, zeros_stop, zeros_end}
 use Rattle.path.proofs.traverse_path.first_non_zero.Goals as goal
 
 pub loop-c-preserved : goal.loop-c-preserved
