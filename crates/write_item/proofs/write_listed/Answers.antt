@@ -15,11 +15,11 @@ with_atom-requires c =
     let s = c.args in
     let w = c.write_atom in
     let there : record { answer = next c.in-Next.next; output = w.new.output }
-        ≡ put s.output.now s.counts.size (some (item_bytes (atom_item s.blob.now))) =
-        put_atom s.output.now s.counts.size s.blob.now c.requires.1 _
-        (sym (ap (λ r. answers.written r w.new.output) c.in-Next.is) ∙ w.ensures.0) in
+    ≡ put s.output.now s.counts.size (some (item_bytes (atom_item s.blob.now))) =
+    put_atom s.output.now s.counts.size s.blob.now c.requires.1 _
+    (sym (ap (λ r. answers.written r w.new.output) c.in-Next.is) ∙ w.ensures.0) in
     let told : item_prefix (atom_item s.blob.now) ≡ c.in-Next.width =
-        ap width_or_0 (subst (answers.WidthTold s.blob.now) c.in-Next.is w.ensures.1) in
+    ap width_or_0 (subst (answers.WidthTold s.blob.now) c.in-Next.is w.ensures.1) in
     few_prefixes s.output.now _ s.counts (atom_item s.blob.now) _ _ there told c.requires.0
 
 pub returns-in-Next : goal.returns-in-Next
@@ -27,11 +27,11 @@ returns-in-Next c =
     let s = c.args in
     let w = c.write_atom in
     let there : record { answer = next c.in-Next.next; output = w.new.output }
-        ≡ put s.output.now s.counts.size (some (item_bytes (atom_item s.blob.now))) =
-        put_atom s.output.now s.counts.size s.blob.now c.requires.1 _
-        (sym (ap (λ r. answers.written r w.new.output) c.in-Next.is) ∙ w.ensures.0) in
+    ≡ put s.output.now s.counts.size (some (item_bytes (atom_item s.blob.now))) =
+    put_atom s.output.now s.counts.size s.blob.now c.requires.1 _
+    (sym (ap (λ r. answers.written r w.new.output) c.in-Next.is) ∙ w.ensures.0) in
     let told : item_prefix (atom_item s.blob.now) ≡ c.in-Next.width =
-        ap width_or_0 (subst (answers.WidthTold s.blob.now) c.in-Next.is w.ensures.1) in
+    ap width_or_0 (subst (answers.WidthTold s.blob.now) c.in-Next.is w.ensures.1) in
     put_counted s.output.now _ s.counts (atom_item s.blob.now) _ _ there told _ c.with_atom.ensures
 
 pub returns-in-Full : goal.returns-in-Full

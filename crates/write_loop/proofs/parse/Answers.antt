@@ -33,17 +33,18 @@ pub write_full-requires : goal.write_full-requires
 write_full-requires c =
     let s = c.args in
     let f = rw c.in-NoPath.is at c.find.ensures in
-    let k = c.find.auto.work in
-    (search_places k f.kept s.place c.requires.1 c.requires.0, found_there k f.kept s.place c.requires.1 s.node c.requires.2
-    (eqb-false _ s.node.0 (sym c.is_sentinel.ensures ∙ c.if-is_sentinel.false)) c.entry_of-e.ensures f.ready)
+    let k = c.find.auto.work in (
+      search_places k f.kept s.place c.requires.1 c.requires.0,
+      found_there k f.kept s.place c.requires.1 s.node c.requires.2
+          (eqb-false _ s.node.0 (sym c.is_sentinel.ensures ∙ c.if-is_sentinel.false)) c.entry_of-e.ensures f.ready,
+    )
 
 pub returns-in-At : goal.returns-in-At
 returns-in-At c =
     let s = c.args in
     let f = rw c.in-At.is at c.find.ensures in
     let k = c.find.auto.work in
-    let y = c.refer.ensures s.file.now in
-    (
+    let y = c.refer.ensures s.file.now in (
       after_search k f.kept s.place c.requires.1 s.node c.requires.2
           (y.0 s.measure (finds_there k f.kept s.place c.requires.1 s.node c.requires.2 f)),
       y.1,
@@ -54,8 +55,7 @@ returns-in-NoPath c =
     let s = c.args in
     let f = rw c.in-NoPath.is at c.find.ensures in
     let k = c.find.auto.work in
-    let y = c.write_full.ensures in
-    (
+    let y = c.write_full.ensures in (
       after_search k f.kept s.place c.requires.1 s.node c.requires.2
           (y.0 s.measure (finds_there k f.kept s.place c.requires.1 s.node c.requires.2 f)),
       y.1,

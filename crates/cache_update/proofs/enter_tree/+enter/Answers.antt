@@ -27,7 +27,7 @@ returns-in-At t c =
     let i = c.wide-i.result in
     let other : at w SENTINEL ≡ c.args.h.0 → ⊥ = test_other c.is_sentinel.ensures c.if-is_sentinel.false in
     let is_pair : node_of c.args.h.0 ≡ pair i =
-        test_pair w c.args.h.0 c.requires.1 c.is_atom.ensures c.if-is_atom.false (c.wide-i.ensures ∙ c.index.ensures) in
+    test_pair w c.args.h.0 c.requires.1 c.is_atom.ensures c.if-is_atom.false (c.wide-i.ensures ∙ c.index.ensures) in
     known_entered w c.args.h.0 i c.requires.0 c.requires.1 other is_pair (sym (ap option_of c.in-At.is) ∙ c.map_of.ensures)
 
 pub enter-l-requires : goal.enter-l-requires
@@ -36,18 +36,18 @@ enter-l-requires t c =
     let i = c.wide-i.result in
     let other : at w SENTINEL ≡ c.args.h.0 → ⊥ = test_other c.is_sentinel.ensures c.if-is_sentinel.false in
     let is_pair : node_of c.args.h.0 ≡ pair i =
-        test_pair w c.args.h.0 c.requires.1 c.is_atom.ensures c.if-is_atom.false (c.wide-i.ensures ∙ c.index.ensures) in
+    test_pair w c.args.h.0 c.requires.1 c.is_atom.ensures c.if-is_atom.false (c.wide-i.ensures ∙ c.index.ensures) in
     let new_pair : NewPair w c.args.h.0 i c.left_of-a.result.0 c.right_of-b.result.0 =
-        record {
-          whole = c.requires.0;
-          names = c.requires.1;
-          other = other;
-          is_pair = is_pair;
-          empty = word_none _ (sym (ap option_of c.in_default.is) ∙ c.map_of.ensures);
-          room = c.requires.2;
-          left = c.left_of-a.ensures;
-          right = c.right_of-b.ensures;
-        } in
+    record {
+      whole = c.requires.0;
+      names = c.requires.1;
+      other = other;
+      is_pair = is_pair;
+      empty = word_none _ (sym (ap option_of c.in_default.is) ∙ c.map_of.ensures);
+      room = c.requires.2;
+      left = c.left_of-a.ensures;
+      right = c.right_of-b.ensures;
+    } in
     (omega (arith, c.decreases, span_a new_pair, span_h new_pair), (c.requires.0, (left_asks new_pair).0, (left_asks new_pair).1))
 
 pub enter-r-requires : goal.enter-r-requires
@@ -56,18 +56,18 @@ enter-r-requires t c =
     let i = c.wide-i.result in
     let other : at w SENTINEL ≡ c.args.h.0 → ⊥ = test_other c.is_sentinel.ensures c.if-is_sentinel.false in
     let is_pair : node_of c.args.h.0 ≡ pair i =
-        test_pair w c.args.h.0 c.requires.1 c.is_atom.ensures c.if-is_atom.false (c.wide-i.ensures ∙ c.index.ensures) in
+    test_pair w c.args.h.0 c.requires.1 c.is_atom.ensures c.if-is_atom.false (c.wide-i.ensures ∙ c.index.ensures) in
     let new_pair : NewPair w c.args.h.0 i c.left_of-a.result.0 c.right_of-b.result.0 =
-        record {
-          whole = c.requires.0;
-          names = c.requires.1;
-          other = other;
-          is_pair = is_pair;
-          empty = word_none _ (sym (ap option_of c.in_default.is) ∙ c.map_of.ensures);
-          room = c.requires.2;
-          left = c.left_of-a.ensures;
-          right = c.right_of-b.ensures;
-        } in
+    record {
+      whole = c.requires.0;
+      names = c.requires.1;
+      other = other;
+      is_pair = is_pair;
+      empty = word_none _ (sym (ap option_of c.in_default.is) ∙ c.map_of.ensures);
+      room = c.requires.2;
+      left = c.left_of-a.ensures;
+      right = c.right_of-b.ensures;
+    } in
     let l = c.enter-l.ensures in
     let k = right_asks new_pair l in
     (omega (arith, c.decreases, span_b new_pair, span_h new_pair), (l.whole, k.0, k.1))
@@ -78,18 +78,18 @@ join-requires t c =
     let i = c.wide-i.result in
     let other : at w SENTINEL ≡ c.args.h.0 → ⊥ = test_other c.is_sentinel.ensures c.if-is_sentinel.false in
     let is_pair : node_of c.args.h.0 ≡ pair i =
-        test_pair w c.args.h.0 c.requires.1 c.is_atom.ensures c.if-is_atom.false (c.wide-i.ensures ∙ c.index.ensures) in
+    test_pair w c.args.h.0 c.requires.1 c.is_atom.ensures c.if-is_atom.false (c.wide-i.ensures ∙ c.index.ensures) in
     let new_pair : NewPair w c.args.h.0 i c.left_of-a.result.0 c.right_of-b.result.0 =
-        record {
-          whole = c.requires.0;
-          names = c.requires.1;
-          other = other;
-          is_pair = is_pair;
-          empty = word_none _ (sym (ap option_of c.in_default.is) ∙ c.map_of.ensures);
-          room = c.requires.2;
-          left = c.left_of-a.ensures;
-          right = c.right_of-b.ensures;
-        } in
+    record {
+      whole = c.requires.0;
+      names = c.requires.1;
+      other = other;
+      is_pair = is_pair;
+      empty = word_none _ (sym (ap option_of c.in_default.is) ∙ c.map_of.ensures);
+      room = c.requires.2;
+      left = c.left_of-a.ensures;
+      right = c.right_of-b.ensures;
+    } in
     let r = c.enter-r.ensures in
     let k = join_asks new_pair c.enter-l.ensures r in
     record { whole = (r.whole, k.0, k.1); l_bound = (k.2, k.3, k.4) }
@@ -100,16 +100,16 @@ returns t c =
     let i = c.wide-i.result in
     let other : at w SENTINEL ≡ c.args.h.0 → ⊥ = test_other c.is_sentinel.ensures c.if-is_sentinel.false in
     let is_pair : node_of c.args.h.0 ≡ pair i =
-        test_pair w c.args.h.0 c.requires.1 c.is_atom.ensures c.if-is_atom.false (c.wide-i.ensures ∙ c.index.ensures) in
+    test_pair w c.args.h.0 c.requires.1 c.is_atom.ensures c.if-is_atom.false (c.wide-i.ensures ∙ c.index.ensures) in
     let new_pair : NewPair w c.args.h.0 i c.left_of-a.result.0 c.right_of-b.result.0 =
-        record {
-          whole = c.requires.0;
-          names = c.requires.1;
-          other = other;
-          is_pair = is_pair;
-          empty = word_none _ (sym (ap option_of c.in_default.is) ∙ c.map_of.ensures);
-          room = c.requires.2;
-          left = c.left_of-a.ensures;
-          right = c.right_of-b.ensures;
-        } in
+    record {
+      whole = c.requires.0;
+      names = c.requires.1;
+      other = other;
+      is_pair = is_pair;
+      empty = word_none _ (sym (ap option_of c.in_default.is) ∙ c.map_of.ensures);
+      room = c.requires.2;
+      left = c.left_of-a.ensures;
+      right = c.right_of-b.ensures;
+    } in
     pair_entered new_pair c.enter-l.ensures c.enter-r.ensures c.join.ensures
