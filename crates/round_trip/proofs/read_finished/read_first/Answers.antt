@@ -21,4 +21,4 @@ returns c =
     let r = read.nikvoldra_read in
     let a = cut.args in
     first_read l.result a.session.size a.output.now l.ensures (slices a.work.now a.pairs.now a.atoms.now a.bytes.now)
-    (read_result_of r.result r.new.work r.new.pairs r.new.atoms r.new.bytes) r.ensures.0
+    (read_result_of r.result r.new.work r.new.pairs r.new.atoms r.new.bytes) r.ensures.bytes_after
