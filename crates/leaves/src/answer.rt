@@ -3,7 +3,6 @@ use crate::{bits, print};
 use allocator::{FitsInSmallAtom, NodePtr, ObjectType, fits_in_small_atom, small_atom};
 use atom_decode::ParseAtom;
 use atom_encode::write_atom::WriteAtom;
-use std::alloc::Global;
 use std::io;
 use std::io::Write;
 
@@ -23,8 +22,8 @@ fn written_in<W: Write>(out: &mut W, output: &mut [u8], payload: &[u8]) -> io::R
 }
 
 // `w`: the atom with its prefix.
-fn written<W: Write>(out: &mut W, alloc: Global, payload: &[u8]) -> io::Result<bool> {
-    let mut output = vec![in alloc; 0u8; MAX_WRITTEN]?;
+fn written<W: Write>(out: &mut W, payload: &[u8]) -> io::Result<bool> {
+    let mut output = [0u8; MAX_WRITTEN];
     written_in(out, &mut output, payload)
 }
 
@@ -142,9 +141,9 @@ fn number<W: Write>(out: &mut W, op: u8, payload: &[u8]) -> io::Result<bool> {
 }
 
 // The answer to an op; false where there is no such op.
-pub fn answer<W: Write>(out: &mut W, alloc: Global, op: u8, payload: &[u8]) -> io::Result<bool> {
+pub fn answer<W: Write>(out: &mut W, op: u8, payload: &[u8]) -> io::Result<bool> {
     match op {
-        b'w' => written(out, alloc, payload),
+        b'w' => written(out, payload),
         b'l' => serialized_length(out, payload),
         b'p' => parsed(out, payload),
         b'm' => msb_mask(out, payload),

@@ -8,12 +8,11 @@ mod print;
 
 ghost use Rattle.std.specs.Prelude.{◌≤◌, length, IfOk};
 
-use std::alloc::Global;
 use std::io;
-use std::io::{BufWriter, Write};
+use std::io::Write;
 
 // The answer to the record at the start of the input, and how many bytes the record takes; 0 where it is bad.
-fn record<W: Write>(out: &mut W, alloc: Global, input: &[u8]) -> io::Result<usize>
+fn record<W: Write>(out: &mut W, input: &[u8]) -> io::Result<usize>
     ensures { IfOk result (λ n. n ≤ length input.now) }
 {
     if input.len() < 3 {
@@ -23,7 +22,7 @@ fn record<W: Write>(out: &mut W, alloc: Global, input: &[u8]) -> io::Result<usiz
     if input.len() < end {
         return Ok(0);
     }
-    if !answer::answer(out, alloc, input[0], &input[3..end])? {
+    if !answer::answer(out, input[0], &input[3..end])? {
         return Ok(0);
     }
     text::line_end(out)?;
@@ -31,10 +30,10 @@ fn record<W: Write>(out: &mut W, alloc: Global, input: &[u8]) -> io::Result<usiz
 }
 
 // The answers to all records, up to the first bad one.
-fn records<W: Write>(out: &mut W, alloc: Global, input: &[u8]) -> io::Result<()> {
+fn records<W: Write>(out: &mut W, input: &[u8]) -> io::Result<()> {
     let mut rest = input;
     while !rest.is_empty() {
-        let n = record(out, alloc, rest)?;
+        let n = record(out, rest)?;
         if n == 0 {
             return print::bad_record(out);
         }
@@ -44,8 +43,9 @@ fn records<W: Write>(out: &mut W, alloc: Global, input: &[u8]) -> io::Result<()>
 }
 
 fn main(rt: HostRuntime) -> io::Result<()> {
-    let input = text::input::read_full(rt.alloc(), rt.stdin())?;
-    let mut out = BufWriter::new(rt.alloc(), rt.stdout())?;
-    records(&mut out, rt.alloc(), &input)?;
+    let mut input = [0u8; text::input::LONGEST];
+    let n = text::input::read_full(&mut rt.stdin(), &mut input)?;
+    let mut out = rt.stdout();
+    records(&mut out, &input[..n])?;
     out.flush()
 }

@@ -7,19 +7,20 @@ use print::Row;
 use std::alloc::Global;
 use std::env::FillError;
 use std::io;
-use std::io::{BufWriter, Read, Write};
+use std::io::{Read, Write};
 use std::rt::{Env, Files};
 use text::{input, questions};
 
-// The answer, the pairs, the listed atoms and the atom bytes; and the question that got no.
+// The answer, the pairs, the listed atoms and the atom bytes; and the question that got no. The parameters' types have the arrays'
+// lengths, so that no zeros are counted.
 fn report_with<W: Write, E: Write>(
     out: &mut W,
     err: &mut E,
     input: &[u8],
-    work: &mut [u32],
-    pairs: &mut [u32],
-    atoms: &mut [u32],
-    bytes: &mut [u8],
+    work: &mut [u32; words::WORK],
+    pairs: &mut [u32; read_answer::PAIRS],
+    atoms: &mut [u32; read_answer::ATOMS],
+    bytes: &mut [u8; read_answer::BYTES],
 ) -> io::Result<()> {
     let a = read_call::nikvoldra_read(input, work, pairs, atoms, bytes);
     print::answer(out, a)?;
@@ -30,17 +31,12 @@ fn report_with<W: Write, E: Write>(
     questions::question(err, a.number)
 }
 
-// The same, with memory of its own.
-fn report<W: Write, E: Write>(
-    out: &mut W,
-    err: &mut E,
-    alloc: Global,
-    input: &[u8],
-) -> io::Result<()> {
-    let mut work = vec![in alloc; 0u32; words::WORK]?;
-    let mut pairs = vec![in alloc; 0u32; read_answer::PAIRS]?;
-    let mut atoms = vec![in alloc; 0u32; read_answer::ATOMS]?;
-    let mut bytes = vec![in alloc; 0u8; read_answer::BYTES]?;
+// The same, with arrays of its own.
+fn report<W: Write, E: Write>(out: &mut W, err: &mut E, input: &[u8]) -> io::Result<()> {
+    let mut work = [0u32; words::WORK];
+    let mut pairs = [0u32; read_answer::PAIRS];
+    let mut atoms = [0u32; read_answer::ATOMS];
+    let mut bytes = [0u8; read_answer::BYTES];
     report_with(
         out, err, input, &mut work, &mut pairs, &mut atoms, &mut bytes,
     )
@@ -57,8 +53,9 @@ fn read_from<W: Write, E: Write, R: Read + Drop>(
     let mut from = from;
     match from.read(&mut []) {
         Ok(_) => {
-            let input = input::read_full(alloc, from)?;
-            report(out, err, alloc, &input)
+            let mut input = [0u8; input::LONGEST];
+            let n = input::read_full(&mut from, &mut input)?;
+            report(out, err, &input[..n])
         }
         Err(error) => input::fail(err, alloc, name, error),
     }
@@ -82,7 +79,7 @@ fn read_named<W: Write, E: Write, R: Files>(
 
 fn main(rt: HostRuntime) -> io::Result<()> {
     let alloc = rt.alloc();
-    let mut out = BufWriter::new(alloc, rt.stdout())?;
+    let mut out = rt.stdout();
     let mut err = rt.stderr();
     let mut name = [0u8; input::LONGEST_NAME];
     for i in 1..usize::MAX {

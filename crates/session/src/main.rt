@@ -7,7 +7,7 @@ use session_state::Checkpoint;
 use std::alloc::Global;
 use std::env::FillError;
 use std::io;
-use std::io::{BufWriter, Read, Write};
+use std::io::{Read, Write};
 use std::rt::{Env, Files};
 use text::input;
 use text::session_text::{items, print};
@@ -67,15 +67,16 @@ fn run_by(
     run(file, work, words, output)
 }
 
-// A line for each finished step, the output in hexadecimal or item by item, and the number of the question that got no.
+// A line for each finished step, the output in hexadecimal or item by item, and the number of the question that got no. The parameters'
+// types have the arrays' lengths, so that no zeros are counted.
 fn report_with<W: Write, E: Write>(
     out: &mut W,
     err: &mut E,
     file: &[u8],
     options: Options,
-    work: &mut [u32],
-    words: &mut [u32],
-    output: &mut [u8],
+    work: &mut [u32; words::WORK],
+    words: &mut [u32; WORDS],
+    output: &mut [u8; OUTPUT],
 ) -> io::Result<()> {
     let a = run_by(options.documented, file, work, words, output);
     print::steps(out, words, a.steps, options.counts)?;
@@ -84,17 +85,16 @@ fn report_with<W: Write, E: Write>(
     out.flush()
 }
 
-// The same, with memory of its own.
+// The same, with arrays of its own.
 fn report<W: Write, E: Write>(
     out: &mut W,
     err: &mut E,
-    alloc: Global,
     file: &[u8],
     options: Options,
 ) -> io::Result<()> {
-    let mut work = vec![in alloc; 0u32; words::WORK]?;
-    let mut words = vec![in alloc; 0u32; WORDS]?;
-    let mut output = vec![in alloc; 0u8; OUTPUT]?;
+    let mut work = [0u32; words::WORK];
+    let mut words = [0u32; WORDS];
+    let mut output = [0u8; OUTPUT];
     report_with(out, err, file, options, &mut work, &mut words, &mut output)
 }
 
@@ -110,8 +110,9 @@ fn read_from<W: Write, E: Write, R: Read + Drop>(
     let mut from = from;
     match from.read(&mut []) {
         Ok(_) => {
-            let file = input::read_full(alloc, from)?;
-            report(out, err, alloc, &file, options)
+            let mut file = [0u8; input::LONGEST];
+            let n = input::read_full(&mut from, &mut file)?;
+            report(out, err, &file[..n], options)
         }
         Err(error) => input::fail(err, alloc, name, error),
     }
@@ -160,7 +161,7 @@ fn read_named<W: Write, E: Write, R: Files>(
 
 fn main(rt: HostRuntime) -> io::Result<()> {
     let alloc = rt.alloc();
-    let mut out = BufWriter::new(alloc, rt.stdout())?;
+    let mut out = rt.stdout();
     let mut err = rt.stderr();
     let mut options = Options {
         items: false,

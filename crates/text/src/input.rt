@@ -1,4 +1,6 @@
 // What the programs read: standard input, or the files that arguments name.
+ghost use Rattle.std.specs.Prelude.{◌≤◌, IfOk, length};
+
 use std::alloc::Global;
 use std::fs::File;
 use std::io::{Read, Write};
@@ -6,7 +8,7 @@ use std::rt::Files;
 use std::{io, str};
 
 // The most bytes that are read of an input: one more than a call takes, so that it sees where there are more.
-const LONGEST: u64 = 65536;
+pub const LONGEST: usize = 65536;
 
 // The most bytes of an argument.
 pub const LONGEST_NAME: usize = 4096;
@@ -14,11 +16,19 @@ pub const LONGEST_NAME: usize = 4096;
 // What the system calls a name that is too long.
 const ENAMETOOLONG: i32 = 36;
 
-// The input, or its first 65,536 bytes.
-pub fn read_full<R: Read + Drop>(alloc: Global, from: R) -> io::Result<Vec<u8>> {
-    let mut input = Vec::new(alloc);
-    from.take(LONGEST).read_to_end(&mut input)?;
-    Ok(input)
+// The bytes from a reader, from the start of the slice on: how many there are, up to the slice's length.
+pub fn read_full<R: Read>(from: &mut R, input: &mut [u8]) -> io::Result<usize>
+    ensures { IfOk result (λ n. n ≤ length input.new) }
+{
+    let mut filled = 0;
+    while filled < input.len() {
+        let n = from.read(&mut input[filled..])?;
+        if n == 0 {
+            return Ok(filled);
+        }
+        filled += n;
+    }
+    Ok(filled)
 }
 
 // The file with this name. A name that is not UTF-8 is refused.
