@@ -7,7 +7,7 @@ ghost use Rattle.read_cursor.specs.Heads.{byte_at, mark_width, parsed, head_at, 
 use atom::{BACK_REFERENCE, CONS_BOX_MARKER};
 use atom_decode::ParseAtom;
 
-// A place of the input. A struct that holds a reference is proved by hand, so what is over it is thin and goes straight on.
+// A place of the input. What is over it is thin and goes straight on.
 #[derive(Clone, Copy)]
 pub struct Cursor<'a> {
     pub input: &'a [u8],
