@@ -4,7 +4,6 @@
 mod print;
 
 use print::Row;
-use std::alloc::Global;
 use std::env::FillError;
 use std::io;
 use std::io::{Read, Write};
@@ -46,7 +45,6 @@ fn report<W: Write, E: Write>(out: &mut W, err: &mut E, input: &[u8]) -> io::Res
 fn read_from<W: Write, E: Write, R: Read + Drop>(
     out: &mut W,
     err: &mut E,
-    alloc: Global,
     from: R,
     name: &[u8],
 ) -> io::Result<()> {
@@ -57,37 +55,35 @@ fn read_from<W: Write, E: Write, R: Read + Drop>(
             let n = input::read_full(&mut from, &mut input)?;
             report(out, err, &input[..n])
         }
-        Err(error) => input::fail(err, alloc, name, error),
+        Err(error) => input::fail(err, name, error),
     }
 }
 
 fn read_named<W: Write, E: Write, R: Files>(
     out: &mut W,
     err: &mut E,
-    alloc: Global,
     rt: &R,
     name: &[u8],
 ) -> io::Result<()> {
     match input::open(rt, name) {
-        Ok(file) => read_from(out, err, alloc, file, name),
+        Ok(file) => read_from(out, err, file, name),
         Err(error) => {
-            input::fail(err, alloc, name, error)?;
+            input::fail(err, name, error)?;
             print::usage(err)
         }
     }
 }
 
 fn main(rt: HostRuntime) -> io::Result<()> {
-    let alloc = rt.alloc();
     let mut out = rt.stdout();
     let mut err = rt.stderr();
     let mut name = [0u8; input::LONGEST_NAME];
     for i in 1..usize::MAX {
         match rt.arg(i, &mut name) {
-            Ok(n) => read_named(&mut out, &mut err, alloc, &rt, &name[..n])?,
-            Err(FillError::TooLong) => input::too_long(&mut err, alloc)?,
+            Ok(n) => read_named(&mut out, &mut err, &rt, &name[..n])?,
+            Err(FillError::TooLong) => input::too_long(&mut err)?,
             Err(FillError::NotPresent) if i == 1 => {
-                return read_from(&mut out, &mut err, alloc, rt.stdin(), b"standard input");
+                return read_from(&mut out, &mut err, rt.stdin(), b"standard input");
             }
             Err(FillError::NotPresent) => return Ok(()),
         }

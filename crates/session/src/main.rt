@@ -4,7 +4,6 @@
 
 use session_answer::SessionAnswer;
 use session_state::Checkpoint;
-use std::alloc::Global;
 use std::env::FillError;
 use std::io;
 use std::io::{Read, Write};
@@ -102,7 +101,6 @@ fn report<W: Write, E: Write>(
 fn read_from<W: Write, E: Write, R: Read + Drop>(
     out: &mut W,
     err: &mut E,
-    alloc: Global,
     from: R,
     name: &[u8],
     options: Options,
@@ -114,7 +112,7 @@ fn read_from<W: Write, E: Write, R: Read + Drop>(
             let n = input::read_full(&mut from, &mut file)?;
             report(out, err, &file[..n], options)
         }
-        Err(error) => input::fail(err, alloc, name, error),
+        Err(error) => input::fail(err, name, error),
     }
 }
 
@@ -141,7 +139,6 @@ fn asked(options: Options, argument: &[u8]) -> Option<Options> {
 fn read_named<W: Write, E: Write, R: Files>(
     out: &mut W,
     err: &mut E,
-    alloc: Global,
     rt: &R,
     name: &[u8],
     options: Options,
@@ -150,9 +147,9 @@ fn read_named<W: Write, E: Write, R: Files>(
         return Ok(asked);
     }
     match input::open(rt, name) {
-        Ok(file) => read_from(out, err, alloc, file, name, options)?,
+        Ok(file) => read_from(out, err, file, name, options)?,
         Err(error) => {
-            input::fail(err, alloc, name, error)?;
+            input::fail(err, name, error)?;
             print::usage(err)?;
         }
     }
@@ -160,7 +157,6 @@ fn read_named<W: Write, E: Write, R: Files>(
 }
 
 fn main(rt: HostRuntime) -> io::Result<()> {
-    let alloc = rt.alloc();
     let mut out = rt.stdout();
     let mut err = rt.stderr();
     let mut options = Options {
@@ -171,17 +167,10 @@ fn main(rt: HostRuntime) -> io::Result<()> {
     let mut name = [0u8; input::LONGEST_NAME];
     for i in 1..usize::MAX {
         match rt.arg(i, &mut name) {
-            Ok(n) => options = read_named(&mut out, &mut err, alloc, &rt, &name[..n], options)?,
-            Err(FillError::TooLong) => input::too_long(&mut err, alloc)?,
+            Ok(n) => options = read_named(&mut out, &mut err, &rt, &name[..n], options)?,
+            Err(FillError::TooLong) => input::too_long(&mut err)?,
             Err(FillError::NotPresent) if i == 1 => {
-                return read_from(
-                    &mut out,
-                    &mut err,
-                    alloc,
-                    rt.stdin(),
-                    b"standard input",
-                    options,
-                );
+                return read_from(&mut out, &mut err, rt.stdin(), b"standard input", options);
             }
             Err(FillError::NotPresent) => return Ok(()),
         }

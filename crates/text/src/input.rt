@@ -1,7 +1,6 @@
 // What the programs read: standard input, or the files that arguments name.
 ghost use Rattle.std.specs.Prelude.{◌≤◌, IfOk, length};
 
-use std::alloc::Global;
 use std::fs::File;
 use std::io::{Read, Write};
 use std::rt::Files;
@@ -39,27 +38,44 @@ pub fn open<R: Files>(rt: &R, name: &[u8]) -> io::Result<R::File> {
     }
 }
 
-// An error's words, without the number that the system has for it.
-fn words(text: &str) -> &str {
-    match text.split_once(" (os error ") {
-        Some((words, _)) => words,
+// What stands in front of the number that the system has for an error.
+const NUMBERED: &[u8] = b" (os error ";
+
+// The most bytes of an error's words.
+const MOST_WORDS: usize = 256;
+
+// An error's words, at the start of the slice: how many bytes they have.
+fn spelled(text: &mut [u8], error: io::Error) -> io::Result<usize>
+    ensures { IfOk result (λ n. n ≤ length text.old) }
+{
+    let most = text.len();
+    let mut rest = text;
+    write!(rest, "{error}")?;
+    Ok(most.saturating_sub(rest.len()))
+}
+
+// The words without the number that the system has for the error.
+fn words(text: &[u8]) -> &[u8] {
+    match text
+        .windows(NUMBERED.len())
+        .position(|part| part == NUMBERED)
+    {
+        Some(end) => &text[..end],
         None => text,
     }
 }
 
 // A line on standard error: what failed, and why.
-pub fn fail<W: Write>(err: &mut W, alloc: Global, name: &[u8], error: io::Error) -> io::Result<()> {
-    let text = format!(in alloc; "{error}")?;
+pub fn fail<W: Write>(err: &mut W, name: &[u8], error: io::Error) -> io::Result<()> {
+    let mut text = [0u8; MOST_WORDS];
+    let n = spelled(&mut text, error)?;
     err.write_all(name)?;
-    writeln!(err, ": {}", words(&text))
+    err.write_all(b": ")?;
+    err.write_all(words(&text[..n]))?;
+    err.write_all(b"\n")
 }
 
 // The same of an argument with more bytes than a name may have.
-pub fn too_long<W: Write>(err: &mut W, alloc: Global) -> io::Result<()> {
-    fail(
-        err,
-        alloc,
-        b"argument",
-        io::Error::from_raw_os_error(ENAMETOOLONG),
-    )
+pub fn too_long<W: Write>(err: &mut W) -> io::Result<()> {
+    fail(err, b"argument", io::Error::from_raw_os_error(ENAMETOOLONG))
 }
