@@ -1,4 +1,5 @@
 pub mod Choice
 pub mod Lists
+pub mod Options
 pub mod Words
 pub mod BigEndian
