@@ -1,24 +1,13 @@
--- Laws of the loops that clear, copy and compare: what one turn adds, and what stands at the end.
+-- What a copy leaves: the words copied, and the others as they were.
 -- Assumes nothing.
-use mathlib.Core.Path.{◌≡◌, refl, sym, ap, ◌∙◌}
-use mathlib.Core.Bool.{Bool, true, false, ◌&&◌}
-use mathlib.Core.List.{List, [], ◌∷◌, ◌++◌}
-use Prim.Native.Nat.{ℕ, suc, ◌+◌, ◌-◌, ◌≤◌, ◌<◌}
+use mathlib.Core.Path.{◌≡◌, sym, ap, ◌∙◌}
+use mathlib.Core.List.{List, ◌++◌}
+use Prim.Native.Nat.{ℕ, ◌+◌, ◌-◌, ◌≤◌, ◌<◌}
 use native.Mathlib.Omega.{arith}
-use native.Mathlib.Nat.{le_antisymm}
-use native.Mathlib.Numerals.{add-one}
 use native.Mathlib.Decide.{dec_lt}
-use lib.Dec.{eqb}
-use borrow.Author.Tests.{eq-eqb, ne_eqb}
-use lib.ListN.{length, get_or, take, drop, set, length-take, length-drop, get_or-append}
-use lib.Seq.{paste, paste-suc, length-paste, length_paste_head, length-take-le, get_or-take, get_or-drop, drop-cons, drop-length, get_or-append-add}
-use Rattle.words.specs.Lists.{same}
+use lib.ListN.{length, get_or, take, drop, length-take, length-drop, get_or-append}
+use lib.Seq.{paste, length-paste, length_paste_head, length-take-le, get_or-take, get_or-drop, get_or-append-add}
 use Rattle.words.specs.Words.{at}
-
--- a turn of a copy
-pub paste_more : (d : List ℕ) (p : ℕ) (s : List ℕ) (i : ℕ) → p + i < length d → i < length s
-    → set (paste d p s i) (p + i) (get_or s i 0) ≡ paste d p s (i + 1)
-paste_more d p s i h k = paste-suc d p s i 0 h k ∙ ap (λ (j : ℕ). paste d p s j) (sym (add-one i))
 
 -- an element that the copy has not reached, or that lies below it, is as it was
 pub paste_other : (d : List ℕ) (p : ℕ) (s : List ℕ) (n k : ℕ) → p ≤ length d → n ≤ length s → (p ≤ k → p + n ≤ k) → get_or (paste d p s n) k 0 ≡ get_or d k 0
@@ -37,19 +26,6 @@ paste_other d p s n k h l o = go (dec_lt k p)
         let f : p + n + (k - (p + n)) ≡ k = omega arith in
         ap (λ (j : ℕ). get_or (paste d p s n) j 0) (sym e) ∙ get_or-append-add (take p d ++ take n s) (drop (p + n) d) (k - (p + n)) 0 ∙ get_or-drop (p + n) d (k - (p + n)) 0
         ∙ ap (λ (j : ℕ). get_or d j 0) f
-
--- a turn of a copy within one list
-pub within_more : (d : List ℕ) (from to count i : ℕ) → from + count ≤ length d → to + count ≤ length d → (from < to → from + count ≤ to) → i < count
-    → set (paste d to (drop from d) i) (to + i) (get_or (paste d to (drop from d) i) (from + i) 0) ≡ paste d to (drop from d) (i + 1)
-within_more d from to count i h k apart l =
-    let long : length (drop from d) ≡ length d - from = length-drop from d in
-    ap (λ (v : ℕ). set (paste d to (drop from d) i) (to + i) v)
-    (paste_other d to (drop from d) i (from + i) (omega arith) (omega (arith, long)) (λ q. low q (dec_lt from to)) ∙ sym (get_or-drop from d i 0))
-    ∙ paste_more d to (drop from d) i (omega arith) (omega (arith, long))
-  where
-    low : to ≤ from + i → Dec (from < to) → to + i ≤ from + i
-    low q (yes m) = absurd (omega (arith, apart m))
-    low q (no m) = omega arith
 
 -- The n words from `from` on stand from `to` on, and nothing else is touched.
 pub record Copied (w w' : List ℕ) (from to n : ℕ) : Type 0 where
@@ -76,29 +52,3 @@ module _ (w : List ℕ) (from to n : ℕ) (f : from + n ≤ length w) (t : to + 
         here = copied_here;
         other = λ k o. paste_other w to (drop from w) n k (omega arith) enough o;
       })
-
--- ---- comparison
-
-pub same_length : (a b : List ℕ) → (length a ≡ length b → ⊥) → same a b ≡ false
-same_length [] [] h = absurd (h refl)
-same_length [] (y ∷ b) h = refl
-same_length (x ∷ a) [] h = refl
-same_length (x ∷ a) (y ∷ b) h = rw (same_length a b (λ e. h (ap suc e))) (go (eqb x y))
-  where
-    go : (c : Bool) → (c && false) ≡ false
-    go true = refl
-    go false = refl
-
--- what is left decides, where what is passed is the same
-pub same_next : (a b : List ℕ) (i : ℕ) → i < length a → i < length b → same (drop i a) (drop i b) ≡ (eqb (get_or a i 0) (get_or b i 0) && same (drop (suc i) a) (drop (suc i) b))
-same_next a b i h k = rw (drop-cons a i 0 h, drop-cons b i 0 k)
-
-pub same_differ : (a b : List ℕ) (i : ℕ) → i < length a → i < length b → (get_or a i 0 ≡ get_or b i 0 → ⊥) → same (drop i a) (drop i b) ≡ false
-same_differ a b i h k d = same_next a b i h k ∙ rw (ne_eqb (get_or a i 0) (get_or b i 0) d)
-
-pub same_more : (a b : List ℕ) (i : ℕ) → i < length a → i < length b → get_or a i 0 ≡ get_or b i 0 → same (drop i a) (drop i b) ≡ same (drop (i + 1) a) (drop (i + 1) b)
-same_more a b i h k e = same_next a b i h k ∙ rw (eq-eqb (get_or a i 0) (get_or b i 0) e, add-one i)
-
-pub same_end : (a b : List ℕ) (i : ℕ) → length a ≡ length b → i ≤ length a → length a ≤ i → same (drop i a) (drop i b) ≡ true
-same_end a b i e h k =
-    rw (le_antisymm h k, drop-length a) (ap (λ (n : ℕ). same [] (drop n b)) e ∙ ap (same []) (drop-length b))

@@ -1,21 +1,25 @@
 -- Laws of words: parts, tables, and what a store leaves.
 use mathlib.Core.Path.{◌≡◌, refl, sym, ap, ◌∙◌}
-use mathlib.Core.List.{List, [], ◌∷◌, ◌++◌, map, append-nil}
+use mathlib.Core.List.{List, [], ◌∷◌, ◌++◌, map}
 use Prim.Native.Nat.{ℕ, zero, suc, min, ◌+◌, ◌-◌, ◌≤◌, ◌<◌}
 use native.Mathlib.Omega.{arith}
-use native.Mathlib.Nat.{le_antisymm, not-suc-le-zero, le_of_suc-le-suc}
+use native.Mathlib.Nat.{not-suc-le-zero, le_of_suc-le-suc}
 use native.Mathlib.Numerals.{add-one}
 use native.Mathlib.Decide.{ℕ_discrete, dec_lt, dec_le}
 use borrow.Rule.Slice.PartMut.{put_mid, same_len_mid}
-use lib.ListN.{length, get_or, take, drop, set, replicate, length-set, length-take, length-drop, drop_of_length-le, get_or-append}
+use lib.ListN.{length, get_or, take, drop, set, replicate, length-set, length-take, length-drop, get_or-append}
 use lib.Seq.{ext_get_or, get_or-take, get_or-drop, get_or-set_same, get_or-set_other, take-suc, take_at, drop_at, drop-drop, take_all, length-take-le}
 use Rattle.words.specs.Choice.{by_lt}
 use Rattle.words.specs.Words.{part, tabulate, at}
 
--- a list that is filled to its end
-pub filled : (w l : List ℕ) (i : ℕ) → i ≤ length w → length w ≤ i → l ≡ replicate i 0 ++ drop i w → l ≡ replicate (length w) 0
-filled w l i p q e =
-    e ∙ ap (λ (x : List ℕ). replicate i 0 ++ x) (drop_of_length-le w q) ∙ append-nil _ ∙ ap (λ (k : ℕ). replicate k 0) (le_antisymm p q)
+-- A list whose first n members are v: one more of them, and all.
+pub filled_more : {A : Type 0} (n : ℕ) (v : A) (d : List A) → n < length d → set (replicate n v ++ drop n d) n v ≡ replicate (n + 1) v ++ drop (n + 1) d
+filled_more {A} n v d h = rw (add-one n) (go n d h)
+  where
+    go : (n : ℕ) (d : List A) → n < length d → set (replicate n v ++ drop n d) n v ≡ replicate (suc n) v ++ drop (suc n) d
+    go n [] h = absurd (not-suc-le-zero h)
+    go zero (x ∷ d) h = refl
+    go (suc n) (x ∷ d) h = ap (λ (t : List A). v ∷ t) (go n d (le_of_suc-le-suc h))
 
 module _ {A : Type 0} where
   pub length_tabulate : (n : ℕ) (f : ℕ → A) → length (tabulate n f) ≡ n

@@ -22,17 +22,7 @@ pub fn wide(x: u32) -> usize
 pub fn same_bytes(a: &[u8], b: &[u8]) -> bool
     ensures { result ≡ same a.now b.now }
 {
-    if a.len() != b.len() {
-        return false;
-    }
-    let mut passed = 0;
-    while passed < a.len() {
-        if a[passed] != b[passed] {
-            return false;
-        }
-        passed += 1;
-    }
-    true
+    a == b
 }
 
 // The number that the `count` bytes from `position` on make after the number `first`.
@@ -40,11 +30,9 @@ pub fn number_at(input: &[u8], position: usize, count: usize, first: u8) -> u64
     requires { (position + count ≤ length input.now) × (count ≤ 5) }
     ensures { result ≡ number_after first (part input.now position count) }
 {
-    let mut value = first as u64;
-    let mut read = 0;
-    while read < count {
-        value = value * 256 + (input[position + read] as u64);
-        read += 1;
+    let mut value = u64::from(first);
+    for byte in &input[position..position + count] {
+        value = value * 256 + u64::from(*byte);
     }
     value
 }

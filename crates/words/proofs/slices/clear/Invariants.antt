@@ -1,13 +1,7 @@
--- `words::slices::clear` meets its contract. The invariant: the first `i` elements are zero and the rest as they came.
+-- `words::slices::clear` meets its contract. The invariant: the elements passed are zero and the rest as they came.
 -- Assumes nothing.
-use mathlib.Core.Path.{◌≡◌}
-use mathlib.Core.List.{◌++◌}
-use Prim.Native.Nat.{◌≤◌, ◌-◌}
-use lib.ListN.{length, replicate, drop}
+use Rattle.std.proofs.Common.{◌≡◌, ◌++◌, replicate, drop}
 use Rattle.words.proofs.slices.clear.Given as goal
 
-abbrev pub invariant-loop-i : goal.invariant-loop-i
-invariant-loop-i l = (l.i ≤ length l.initial.words) × (length l.words ≡ length l.initial.words) × (l.words ≡ replicate l.i 0 ++ drop l.i l.initial.words)
-
-abbrev pub decreases-loop-i : goal.decreases-loop-i
-decreases-loop-i l = length l.initial.words - l.i
+abbrev pub invariant-loop-element : goal.invariant-loop-element
+invariant-loop-element g l = l.elements ≡ replicate l.element-index l.zero ++ drop l.element-index l.initial.elements
