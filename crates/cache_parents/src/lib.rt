@@ -21,9 +21,9 @@ pub fn add_parent(work: &mut [u32], e: EntryIndex, parent: EntryIndex, right: bo
     let link = Parent::new(parent, right);
     if n < MAX_PARENTS {
         parents::set_parent(work, e, n, link);
-        work[work_layout::COUNTS + words::wide(e.0)] = (n + 1) as u32;
+        work[work_layout::COUNTS + e.0 as usize] = (n + 1) as u32;
     } else {
-        let slot = words::wide(parent.0 + parents::position_of(right)) % MAX_PARENTS;
+        let slot = (parent.0 + u32::from(right)) as usize % MAX_PARENTS;
         parents::set_parent(work, e, slot, link);
     }
 }

@@ -112,7 +112,7 @@ pub const COPIES: usize = 214155;
 pub const FREE: usize = 477867;
 
 // An entry of the tree cache, by its number. A handle (NodePtr) and an entry number never stand for each other.
-#[derive(Clone, Copy)]
+#[derive(Clone, Copy, Debug, PartialEq, Eq)]
 pub struct EntryIndex(pub u32);
 
 // The most entries.
@@ -128,5 +128,5 @@ pub const COPY: usize = 16482;
 pub fn slot_of(left: u32, right: u32) -> usize
     ensures { result ≡ slot_of left right }
 {
-    words::wide(std::num::wrapping_add_u32(left, right) % 4096)
+    (left.wrapping_add(right) % 4096) as usize
 }

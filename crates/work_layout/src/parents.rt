@@ -10,15 +10,8 @@ use crate::{COUNTS, ENTRIES, EntryIndex, MOVED, PARENTS, halves};
 use words::slices;
 
 // A parent: its entry, doubled, and 1 more for the right position below it.
-#[derive(Clone, Copy)]
+#[derive(Clone, Copy, Debug, PartialEq, Eq)]
 pub struct Parent(pub u32);
-
-// The position below a parent, as a number.
-pub fn position_of(right: bool) -> u32
-    ensures { (result ≡ (if right then 1 else 0)) × (result < 2) }
-{
-    if right { 1 } else { 0 }
-}
 
 impl Parent {
     // The parent e, with the left or the right position below it.
@@ -26,7 +19,7 @@ impl Parent {
         requires { e.0 < ENTRIES }
         ensures { result.0 ≡ e.0 * 2 + (if right then 1 else 0) }
     {
-        Parent(e.0 * 2 + position_of(right))
+        Parent(e.0 * 2 + u32::from(right))
     }
 
     // Its entry.

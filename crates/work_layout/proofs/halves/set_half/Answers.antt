@@ -4,6 +4,4 @@ use Rattle.work_layout.specs.Halves.{half_set}
 use Rattle.work_layout.proofs.halves.set_half.Goals as goal
 
 pub returns : goal.returns
-returns c =
-    let s = c in
-    rw c.with_half.ensures (half_set s.args.work.now s.args.k s.args.h s.args.v s.requires.0 s.requires.1 s.requires.2)
+returns c = rw c.with_half.ensures (half_set c.args.work.now c.args.k c.args.h c.args.v c.requires.0 c.requires.1 c.requires.2)

@@ -8,7 +8,4 @@ use Rattle.work_layout.proofs.parents.parent_at.Goals as goal
 
 pub returns : goal.returns
 unfolding link_at
-returns c =
-    let k = c in
-    let a = k.args in
-    c.half_at.ensures ∙ ap (λ (x : ℕ). half (a.i % 2) (at a.work.now x)) k.word_of.ensures
+returns c = c.half_at.ensures ∙ ap (λ (x : ℕ). half (c.args.i % 2) (at c.args.work.now x)) c.word_of.ensures

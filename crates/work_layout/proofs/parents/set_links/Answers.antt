@@ -4,4 +4,4 @@ use Rattle.work_layout.specs.Parents.{links_set}
 use Rattle.work_layout.proofs.parents.set_links.Goals as goal
 
 pub returns : goal.returns
-returns c = let s = c in links_set s.args.work.now s.args.e.0 s.args.c s.args.v s.requires.0 s.requires.1 s.requires.2
+returns c = links_set c.args.work.now c.args.e.0 c.args.c c.args.v c.requires.0 c.requires.1 c.requires.2

@@ -4,7 +4,4 @@ use Rattle.work_layout.specs.Parents.{moved_set}
 use Rattle.work_layout.proofs.parents.set_moved.Goals as goal
 
 pub returns : goal.returns
-returns c =
-    let r = c in
-    let s = r in
-    moved_set s.args.work.now _ s.args.i s.args.p.0 s.requires.1 r.set_half.ensures
+returns c = moved_set c.args.work.now _ c.args.i c.args.p.0 c.requires.1 c.set_half.ensures

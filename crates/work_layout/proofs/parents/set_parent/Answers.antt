@@ -7,10 +7,5 @@ use Rattle.work_layout.proofs.parents.set_parent.Goals as goal
 
 pub returns : goal.returns
 returns c =
-    let r = c in
-    let k = r in
-    let s = k in
-    let w = s.args.work.now in
-    let v = s.args.p.0 in
-    parent_set w r.set_half.new.work s.args.e.0 s.args.i v s.requires.1 s.requires.2
-    (subst (λ (x : ℕ). HalfSet w r.set_half.new.work x (s.args.i % 2) v) k.word_of.ensures r.set_half.ensures)
+    parent_set c.args.work.now _ c.args.e.0 c.args.i c.args.p.0 c.requires.1 c.requires.2
+    (subst (λ (x : ℕ). HalfSet c.args.work.now c.set_half.new.work x (c.args.i % 2) c.args.p.0) c.word_of.ensures c.set_half.ensures)
