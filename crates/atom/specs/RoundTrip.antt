@@ -27,7 +27,7 @@ power_next : (k : ℕ) → 2 ^ suc k ≡ 2 ^ k + 2 ^ k
 power_next k = omega (arith, pow-suc 2 k)
 
 -- w ones, a zero, and q in the bits below.
-ones_of : (k w q x : ℕ) → w < k → q < 2 ^ (k - 1 - w) → x + 2 ^ (k - w) ≡ 2 ^ k + q → ones k x ≡ w
+pub ones_of : (k w q x : ℕ) → w < k → q < 2 ^ (k - 1 - w) → x + 2 ^ (k - w) ≡ 2 ^ k + q → ones k x ≡ w
 ones_of zero w q x h l e = absurd (omega arith)
 ones_of (suc k) zero q x h l e = no_one k x (omega (arith, ap (λ (n : ℕ). 2 ^ n) a, ap (λ (n : ℕ). 2 ^ n) b))
   where
@@ -50,7 +50,7 @@ ones_of (suc k) (suc w) q x h l e =
     low = pow_mono {i = k - w} {j = k} (omega arith)
 
 -- What a number of k bits with w leading ones, fewer than k, has beyond them.
-ones_split : (k b w : ℕ) → b < 2 ^ k → ones k b ≡ w → w < k → (2 ^ k ≤ b + 2 ^ (k - w)) × (b + 2 ^ (k - w) < 2 ^ k + 2 ^ (k - 1 - w))
+pub ones_split : (k b w : ℕ) → b < 2 ^ k → ones k b ≡ w → w < k → (2 ^ k ≤ b + 2 ^ (k - w)) × (b + 2 ^ (k - w) < 2 ^ k + 2 ^ (k - 1 - w))
 ones_split zero b w h e l = absurd (omega arith)
 ones_split (suc k) b zero h e l =
     by_lt b (2 ^ k)

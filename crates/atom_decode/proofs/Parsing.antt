@@ -3,15 +3,26 @@
 use Prim.Native.Nat.{ℕ, ◌+◌, ◌-◌, ◌≤◌, ◌<◌}
 use mathlib.Core.Path.{◌≡◌, sym, ap, ◌∙◌}
 use mathlib.Core.Bool.{cond}
-use mathlib.Core.List.{List}
+use mathlib.Core.List.{List, []}
+use mathlib.Core.Logic.{inl, inr}
+use denote.Ref.{Bor}
+use Rattle.std.specs.Prelude.{Option, None, Some, unwrap_or}
+use Rattle.std.specs.Slice.{IsGetRangeResult}
 use native.Mathlib.Omega.{arith}
 use native.Mathlib.Nat.{add_assoc}
 use lib.Dec.{ltb}
 use lib.ListN.{length, get_or, drop, length-drop}
 use borrow.Author.Tests.{lt-ltb, le-ltb}
 use Rattle.words.specs.Choice.{cond_true, cond_false, by_lt}
-use Rattle.atom.specs.Parse.{ones, Size, sized, bad_size, decode_size, whole, moved_by, parse_at, blob, refused}
-use Rattle.atom.specs.ParseLaws.{at_prefixed, accepted}
+use Rattle.atom.specs.Parse.{ones, Size, sized, bad_size, decode_size, whole, moved_by, parse_at, blob, refused, blob_of}
+use Rattle.atom.specs.ParseLaws.{at_prefixed, accepted, blob_backward, blob_beyond, blob_there}
+
+-- The part of the input from `start` up to `end`, by the slice's `get`.
+pub part_got : (input : List ℕ) (start end : ℕ) (r : Option (Bor (List ℕ))) (none : Bor (List ℕ)) → IsGetRangeResult input start end r → none.now ≡ []
+    → (unwrap_or r none).now ≡ blob_of input (blob start end)
+part_got input start end None none (inl h, k) e = e ∙ sym (blob_backward input start end h)
+part_got input start end None none (inr h, k) e = e ∙ by_lt end start (λ b. sym (blob_backward input start end b)) (λ b. sym (blob_beyond input start end b h))
+part_got input start end (Some x) none (h, k) e = h.2 ∙ sym (blob_there input start end h.0 h.1)
 
 -- the ways out of `parse_atom` after a prefix
 module _ (input : List ℕ) (p : ℕ) (h : p < length input) (big : 0x80 ≤ get_or input p 0) where

@@ -1,9 +1,14 @@
 -- What the code's answers mean: 01's number and the values of each case. `SerializationError` is 14, `NonCanonicalSerialization` 15.
+use Rattle.std.specs.Prelude.{ℕ, Result, Ok, Err}
 use Rattle.atom.specs.Parse.{Parse, blob, refused}
-use Rattle.atom_decode.specs.declared.ParseAtom.{ParseAtom}
-use Rattle.atom_decode.specs.declared.ParseAtom.TheVariants as parse_atom
+use Rattle.atom_decode.specs.declared.Blob.{Blob}
+use Rattle.atom_decode.specs.declared.ParseError.{ParseError}
+use Rattle.atom_decode.specs.declared.ParseError.TheVariants as parse_error
 
-abbrev pub parse_of : ParseAtom → Parse
-parse_of (parse_atom.Blob start end) = blob start end
-parse_of parse_atom.SerializationError = refused 14
-parse_of parse_atom.NonCanonicalSerialization = refused 15
+abbrev pub number : ParseError → ℕ
+number parse_error.SerializationError = 14
+number parse_error.NonCanonicalSerialization = 15
+
+abbrev pub parse_of : Result Blob ParseError → Parse
+parse_of (Ok b) = blob b.start b.end
+parse_of (Err e) = refused (number e)

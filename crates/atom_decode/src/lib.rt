@@ -7,73 +7,62 @@ ghost use Rattle.std.specs.Prelude.{◌≡◌, ◌+◌, ◌≤◌, cond, ltb, le
 ghost use Rattle.atom.specs.Parse.{parse_at, blob_of, blob, refused};
 ghost use Rattle.atom_decode.specs.Answers.{parse_of};
 
-use decode_size::DecodeSize;
+use decode_size::{DecodedSize, decode_size_with_offset};
 
 const MAX_SINGLE_BYTE: u8 = 0x7f;
 
-// An atom: its bytes are those from `start` up to `end`, or why it is refused.
-#[derive(Clone, Copy)]
-pub enum ParseAtom {
-    Blob { start: usize, end: usize },
+// Why an atom is refused.
+#[derive(Clone, Copy, Debug, PartialEq, Eq)]
+pub enum ParseError {
     SerializationError,
     NonCanonicalSerialization,
 }
 
+// An atom: its bytes are those from `start` up to `end`.
+#[derive(Clone, Copy, Debug, PartialEq, Eq)]
+pub struct Blob {
+    pub start: usize,
+    pub end: usize,
+}
+
 // The atom or path at a place of the input.
-pub fn parse_atom(input: &[u8], position: usize) -> ParseAtom
+pub fn parse_atom(input: &[u8], position: usize) -> Result<Blob, ParseError>
     ensures { parse_of result ≡ parse_at input.now position }
 {
     if input.len() <= position {
-        return ParseAtom::SerializationError;
+        return Err(ParseError::SerializationError);
     }
     if input[position] <= MAX_SINGLE_BYTE {
-        return ParseAtom::Blob {
+        return Ok(Blob {
             start: position,
             end: position + 1,
-        };
+        });
     }
-    match decode_size::decode_size_with_offset(input, position) {
-        DecodeSize::Size { offset, size } => whole_atom(input, position + offset, size),
-        DecodeSize::SerializationError => ParseAtom::SerializationError,
-        DecodeSize::NonCanonicalSerialization => ParseAtom::NonCanonicalSerialization,
-    }
+    let DecodedSize { offset, size } = decode_size_with_offset(input, position)?;
+    whole_atom(input, position + offset, size)
 }
 
 // The bytes of an atom of this size that begin at `start`.
-fn whole_atom(input: &[u8], start: usize, size: u64) -> ParseAtom
+fn whole_atom(input: &[u8], start: usize, size: u64) -> Result<Blob, ParseError>
     requires { start ≤ length input.now }
     ensures { parse_of result ≡ cond (ltb (length input.now) (start + size)) (refused 14) (blob start (start + size)) }
 {
     let left = (input.len() - start) as u64;
     if left < size {
-        return ParseAtom::SerializationError;
+        return Err(ParseError::SerializationError);
     }
-    ParseAtom::Blob {
+    Ok(Blob {
         start,
         end: start + (size as usize),
-    }
+    })
 }
 
-// The bytes from `start` up to `end`; none where the input lacks them.
-fn part_of(input: &[u8], start: usize, end: usize) -> &[u8]
-    ensures { result.now ≡ blob_of input.now (blob start end) }
-{
-    if end < start {
-        return &input[0..0];
-    }
-    if input.len() < end {
-        return &input[0..0];
-    }
-    &input[start..end]
-}
-
-// The found atom or path, as a part of the input; no bytes where it was refused.
-pub fn parse_atom_ptr(input: &[u8], found: ParseAtom) -> &[u8]
+// The found atom or path, as a part of the input; no bytes where it was refused or the input lacks them.
+pub fn parse_atom_ptr(input: &[u8], found: Result<Blob, ParseError>) -> &[u8]
     ensures { result.now ≡ blob_of input.now (parse_of found) }
 {
     match found {
-        ParseAtom::Blob { start, end } => part_of(input, start, end),
-        ParseAtom::SerializationError => &input[0..0],
-        ParseAtom::NonCanonicalSerialization => &input[0..0],
+        Ok(Blob { start, end }) => input.get(start..end).unwrap_or(&[]),
+        Err(_) => &[],
     }
 }

@@ -1,14 +1,15 @@
 -- `atom_decode::parse_atom_ptr` meets its contract.
 -- Assumes nothing.
-use mathlib.Core.Path.{sym}
+use mathlib.Core.Path.{refl, sym}
 use Rattle.atom.specs.ParseLaws.{blob_refused}
+use Rattle.atom_decode.specs.Answers.{number}
+use Rattle.atom_decode.proofs.Parsing.{part_got}
 use Rattle.atom_decode.proofs.parse_atom_ptr.Goals as goal
 
-pub returns-in-Blob : goal.returns-in-Blob
-returns-in-Blob c = rw c.in-Blob.is c.part_of.ensures
+pub returns-in-Ok : goal.returns-in-Ok
+returns-in-Ok c =
+    let b = c.in-Ok.field-0 in
+    rw (c.unwrap_or.ensures, c.in-Ok.is) (part_got c.args.input.now b.start b.end c.get.result _ c.get.ensures.lookup refl)
 
-pub returns-in-SerializationError : goal.returns-in-SerializationError
-returns-in-SerializationError c = rw c.in-SerializationError.is (sym (blob_refused c.args.input.now 14))
-
-pub returns-in-NonCanonicalSerialization : goal.returns-in-NonCanonicalSerialization
-returns-in-NonCanonicalSerialization c = rw c.in-NonCanonicalSerialization.is (sym (blob_refused c.args.input.now 15))
+pub returns-in-Err : goal.returns-in-Err
+returns-in-Err c = rw c.in-Err.is (sym (blob_refused c.args.input.now (number c.in-Err.field-0)))
