@@ -2,55 +2,46 @@
 #![tactic(auto)]
 
 ghost use Rattle.std.specs.Prelude.{◌≡◌, ◌+◌, ◌≤◌};
-ghost use Rattle.write_counts.specs.Counts.{no_items, grown};
+ghost use Rattle.write_counts.specs.Counts.{grown};
 
-// Their bytes, the references among them, and the bytes of prefixes, those of paths included.
-#[derive(Clone, Copy)]
+// Their bytes, the references among them, and the bytes of prefixes, those of paths included. The default: nothing is written.
+#[derive(Clone, Copy, Debug, Default, PartialEq, Eq)]
 pub struct Counts {
     pub size: usize,
     pub references: usize,
     pub prefix_bytes: usize,
 }
 
-// Nothing is written.
-pub fn none() -> Counts
-    ensures { result ≡ no_items }
-{
-    Counts {
-        size: 0,
-        references: 0,
-        prefix_bytes: 0,
+impl Counts {
+    // One `ff` more, up to `size`.
+    pub fn with_cons(self, size: usize) -> Counts
+        ensures { result ≡ grown self size 0 0 }
+    {
+        Counts { size, ..self }
     }
-}
 
-// One `ff` more, up to `size`.
-pub fn with_cons(c: Counts, size: usize) -> Counts
-    ensures { result ≡ grown c size 0 0 }
-{
-    let mut next = c;
-    next.size = size;
-    next
-}
+    // One atom more, up to `size`, with a prefix of `width` bytes.
+    pub fn with_atom(self, size: usize, width: usize) -> Counts
+        requires { self.prefix_bytes + width ≤ size }
+        ensures { result ≡ grown self size 0 width }
+    {
+        let prefix_bytes = self.prefix_bytes + width;
+        Counts {
+            size,
+            prefix_bytes,
+            ..self
+        }
+    }
 
-// One atom more, up to `size`, with a prefix of `width` bytes.
-pub fn with_atom(c: Counts, size: usize, width: usize) -> Counts
-    requires { c.prefix_bytes + width ≤ size }
-    ensures { result ≡ grown c size 0 width }
-{
-    let mut next = c;
-    next.size = size;
-    next.prefix_bytes = c.prefix_bytes + width;
-    next
-}
-
-// One reference more, up to `size`, whose path has a prefix of `width` bytes.
-pub fn with_reference(c: Counts, size: usize, width: usize) -> Counts
-    requires { (c.references + 1 ≤ size) × (c.prefix_bytes + width ≤ size) }
-    ensures { result ≡ grown c size 1 width }
-{
-    Counts {
-        size,
-        references: c.references + 1,
-        prefix_bytes: c.prefix_bytes + width,
+    // One reference more, up to `size`, whose path has a prefix of `width` bytes.
+    pub fn with_reference(self, size: usize, width: usize) -> Counts
+        requires { (self.references + 1 ≤ size) × (self.prefix_bytes + width ≤ size) }
+        ensures { result ≡ grown self size 1 width }
+    {
+        Counts {
+            size,
+            references: self.references + 1,
+            prefix_bytes: self.prefix_bytes + width,
+        }
     }
 }
