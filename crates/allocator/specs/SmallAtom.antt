@@ -5,8 +5,6 @@ use Rattle.std.specs.Prelude.{ℕ, zero, suc, ◌-◌, ◌/◌, ◌^◌, ◌≤�
 use Rattle.std.proofs.Math.Option.{Option, some, none}
 use Rattle.words.specs.Lists.{same}
 use Rattle.words.specs.BigEndian.{big_endian, number}
-use Rattle.allocator.specs.declared.FitsInSmallAtom.{FitsInSmallAtom}
-use Rattle.allocator.specs.declared.FitsInSmallAtom.TheVariants.{Small, Listed}
 
 -- How many bytes v takes beyond the first, in two's complement: none below 128, else one more than v / 256.
 -- The first argument bounds the recursion: v itself is enough.
@@ -36,8 +34,3 @@ is_small_atom bs = ltb (number bs) (2 ^ 26) && same (small_bytes (number bs)) bs
 -- The value of the small atom with these bytes, if there is one.
 unfoldable pub fits_in_small_atom : List ℕ → Option ℕ
 fits_in_small_atom bs = cond (is_small_atom bs) (some (number bs)) none
-
--- The code's answer for it.
-abbrev pub fits_answer : Option ℕ → FitsInSmallAtom
-fits_answer (some v) = Small v
-fits_answer none = Listed

@@ -1,9 +1,8 @@
 // Whether bytes are those of a small atom, and of which.
 ghost use Rattle.std.specs.Prelude.{◌≡◌, ◌<◌, ◌≤◌, length, get_or};
 ghost use Rattle.words.specs.BigEndian.{number};
-ghost use Rattle.allocator.specs.SmallAtom.{is_small_atom, fits_in_small_atom, fits_answer};
-
-use crate::FitsInSmallAtom;
+ghost use Rattle.words.specs.Options.{option_of};
+ghost use Rattle.allocator.specs.SmallAtom.{is_small_atom, fits_in_small_atom};
 
 // The number that bytes make, the highest first.
 fn number_of(v: &[u8]) -> u32
@@ -11,10 +10,8 @@ fn number_of(v: &[u8]) -> u32
     ensures { result ≡ number v.now }
 {
     let mut ret: u32 = 0;
-    let mut i = 0;
-    while i < v.len() {
-        ret = (ret << 8) | (v[i] as u32);
-        i += 1;
+    for byte in v {
+        ret = (ret << 8) | u32::from(*byte);
     }
     ret
 }
@@ -34,7 +31,7 @@ fn zero_is_needed(v: &[u8]) -> bool
 fn is_small_atom(v: &[u8]) -> bool
     ensures { result ≡ is_small_atom v.now }
 {
-    if v.len() == 0 {
+    if v.is_empty() {
         return true;
     }
     if v.len() > 4 {
@@ -54,13 +51,13 @@ fn is_small_atom(v: &[u8]) -> bool
     true
 }
 
-// The small atom with these bytes, if there is one.
-pub fn fits_in_small_atom(v: &[u8]) -> FitsInSmallAtom
-    ensures { result ≡ fits_answer (fits_in_small_atom v.now) }
+// The value of the small atom with these bytes, if there is one.
+pub fn fits_in_small_atom(v: &[u8]) -> Option<u32>
+    ensures { option_of result ≡ fits_in_small_atom v.now }
 {
     if is_small_atom(v) {
-        FitsInSmallAtom::Small(number_of(v))
+        Some(number_of(v))
     } else {
-        FitsInSmallAtom::Listed
+        None
     }
 }

@@ -4,14 +4,14 @@
 pub mod fits_in_small_atom;
 pub mod small_atom;
 
-ghost use Rattle.std.specs.Prelude.{◌≡◌, ◌+◌, ◌*◌, ◌^◌, ◌<◌, eqb};
+ghost use Rattle.std.specs.Prelude.{◌≡◌, ◌+◌, ◌*◌, ◌^◌, ◌<◌};
 ghost use Rattle.allocator.specs.Handle.{node_of, handle_of, pair, listed_atom, small_atom, index_of, object_type_of, is_pair, is_atom};
 
 // A node's handle: a kind in bits 26 up, and 26 bits of index or small value.
-#[derive(Clone, Copy)]
+#[derive(Clone, Copy, Debug, PartialEq, Eq, Hash)]
 pub struct NodePtr(pub u32);
 
-#[derive(Clone, Copy)]
+#[derive(Clone, Copy, Debug, PartialEq, Eq)]
 pub enum ObjectType {
     // The low bits form an index into the pairs.
     Pair,
@@ -85,38 +85,15 @@ impl NodePtr {
     pub fn is_pair(self) -> bool
         ensures { result ≡ is_pair (node_of self.0) }
     {
-        match self.object_type() {
-            ObjectType::Pair => true,
-            ObjectType::Bytes => false,
-            ObjectType::SmallAtom => false,
-            ObjectType::Unknown => false,
-        }
+        matches!(self.object_type(), ObjectType::Pair)
     }
 
     pub fn is_atom(self) -> bool
         ensures { result ≡ is_atom (node_of self.0) }
     {
-        match self.object_type() {
-            ObjectType::Pair => false,
-            ObjectType::Bytes => true,
-            ObjectType::SmallAtom => true,
-            ObjectType::Unknown => false,
-        }
+        matches!(
+            self.object_type(),
+            ObjectType::Bytes | ObjectType::SmallAtom
+        )
     }
-
-    // Whether two handles are the same.
-    pub fn same(self, other: NodePtr) -> bool
-        ensures { result ≡ eqb self.0 other.0 }
-    {
-        self.0 == other.0
-    }
-}
-
-// Whether an atom's bytes are those of a small atom.
-#[derive(Clone, Copy)]
-pub enum FitsInSmallAtom {
-    // They are, and this is its value.
-    Small(u32),
-    // They are not: the atom is listed.
-    Listed,
 }

@@ -1,6 +1,5 @@
 // Small atoms: the bytes of a value.
-ghost use Rattle.std.specs.Prelude.{◌≡◌, ◌-◌, ◌%◌, ◌^◌, ◌<◌, ◌≤◌, drop};
-ghost use Rattle.words.specs.BigEndian.{big_endian};
+ghost use Rattle.std.specs.Prelude.{◌≡◌, ◌-◌, ◌^◌, ◌<◌, ◌≤◌, drop};
 ghost use Rattle.allocator.specs.SmallAtom.{len_for_value, LastBytes};
 
 // How many bytes a value takes.
@@ -23,28 +22,21 @@ pub fn len_for_value(val: u32) -> usize
 }
 
 // A small atom's bytes: the last `len` of four.
-#[derive(Clone, Copy)]
+#[derive(Clone, Copy, Debug, PartialEq, Eq)]
 pub struct SmallAtom {
     pub bytes: [u8; 4],
     pub len: usize,
 }
 
-// The lowest byte.
-fn low_byte(x: u32) -> u8
-    ensures { result ≡ x % 256 }
-{
-    (x % 256) as u8
-}
-
-// The four bytes, the highest first.
-pub fn to_be_bytes(x: u32) -> [u8; 4]
-    ensures { result ≡ big_endian 4 x }
-{
-    let a = low_byte(x >> 24);
-    let b = low_byte(x >> 16);
-    let c = low_byte(x >> 8);
-    let d = low_byte(x);
-    [a, b, c, d]
+impl SmallAtom {
+    // The last `len` of the four bytes.
+    pub fn as_ref(&self) -> &[u8]
+        requires { self.now.len ≤ 4 }
+        ensures { result.now ≡ drop (4 - self.now.len) self.now.bytes }
+    {
+        let start = 4 - self.len;
+        &self.bytes[start..]
+    }
 }
 
 // The bytes of the small atom `value`.
@@ -52,17 +44,7 @@ pub fn small_atom_bytes(value: u32) -> SmallAtom
     requires { value < 2 ^ 31 }
     ensures { LastBytes value result.bytes result.len }
 {
-    let bytes = to_be_bytes(value);
+    let bytes = value.to_be_bytes();
     let len = len_for_value(value);
     SmallAtom { bytes, len }
-}
-
-// The last `len` of a small atom's four bytes.
-pub fn as_ref(bytes: &[u8; 4], len: usize) -> &[u8]
-    requires { len ≤ 4 }
-    ensures { result.now ≡ drop (4 - len) bytes.now }
-{
-    let all = &bytes[..];
-    let start = 4 - len;
-    &all[start..]
 }

@@ -9,7 +9,9 @@ use native.Mathlib.Decide.{ℕ_discrete, dec_lt, dec_le}
 use borrow.Rule.Slice.PartMut.{put_mid, same_len_mid}
 use lib.ListN.{length, get_or, take, drop, set, replicate, length-set, length-take, length-drop, get_or-append}
 use lib.Seq.{ext_get_or, get_or-take, get_or-drop, get_or-set_same, get_or-set_other, take-suc, take_at, drop_at, drop-drop, take_all, length-take-le}
+use Rattle.std.proofs.Common.{Fits, w8}
 use Rattle.words.specs.Choice.{by_lt}
+use Rattle.words.specs.Lists.{Bytes, all_of}
 use Rattle.words.specs.Words.{part, tabulate, at}
 
 -- A list whose first n members are v: one more of them, and all.
@@ -20,6 +22,10 @@ filled_more {A} n v d h = rw (add-one n) (go n d h)
     go n [] h = absurd (not-suc-le-zero h)
     go zero (x ∷ d) h = refl
     go (suc n) (x ∷ d) h = ap (λ (t : List A). v ∷ t) (go n d (le_of_suc-le-suc h))
+
+-- What a slice of bytes holds are bytes.
+pub each_byte : (bs : List ℕ) → ((i : ℕ) → Fits w8 (get_or bs i 0)) → Bytes bs
+each_byte bs f = all_of (λ (x : ℕ). x < 256) bs 0 (λ i l. omega (arith, f i))
 
 module _ {A : Type 0} where
   pub length_tabulate : (n : ℕ) (f : ℕ → A) → length (tabulate n f) ≡ n

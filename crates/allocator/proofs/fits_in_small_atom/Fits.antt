@@ -7,13 +7,14 @@ use mathlib.Core.List.{List, [], ◌∷◌}
 use native.Mathlib.Omega.{arith}
 use native.Mathlib.Nat.{pow-suc}
 use lib.ListN.{length, get_or}
-use lib.Dec.{leb}
+use lib.Dec.{leb, eqb}
+use Rattle.std.proofs.lemmas.Bool.{false≢true}
 use borrow.Author.Tests.{lt-ltb, le-leb, lt-leb}
+use Rattle.std.proofs.Math.Option.{some, none}
 use Rattle.words.specs.Choice.{by_lt}
 use Rattle.words.specs.Lists.{Bytes, same_refl}
 use Rattle.words.specs.BigEndian.{number_after, number, number_bound, big_endian_number}
-use Rattle.allocator.specs.SmallAtom.{len_for_value, small_bytes, is_small_atom, fits_in_small_atom, fits_answer}
-use Rattle.allocator.specs.declared.FitsInSmallAtom.TheVariants.{Small, Listed}
+use Rattle.allocator.specs.SmallAtom.{len_for_value, small_bytes, is_small_atom, fits_in_small_atom}
 use Rattle.allocator.specs.SmallAtomLaws.{len_at_most, len_at_least, len_some, len_zero, length_small_bytes, is_small_true}
 use Rattle.allocator.proofs.fits_in_small_atom.Numbers.{three_bytes, first_at_least, first_below}
 
@@ -28,6 +29,11 @@ listed bs not = go (is_small_atom bs) refl
     go : (b : Bool) → is_small_atom bs ≡ b → false ≡ b
     go true q = absurd (not (is_small_true bs q).0 (sym (length_small_bytes (number bs)) ∙ ap length (is_small_true bs q).1))
     go false q = refl
+
+-- What `is_empty` says of bytes that it turns down.
+pub some_byte : (bs : List ℕ) (b : Bool) → b ≡ eqb (length bs) 0 → b ≡ false → 0 < length bs
+some_byte [] b e f = absurd (false≢true (sym f ∙ e))
+some_byte (x ∷ bs) b e f = omega arith
 
 pub empty_small : (bs : List ℕ) → length bs ≡ 0 → true ≡ is_small_atom bs
 unfolding number_after
@@ -113,10 +119,10 @@ small_length bs e =
     let p : (number bs < 2 ^ 26) × (small_bytes (number bs) ≡ bs) = is_small_true bs (sym e) in
     omega (arith, p.0, ap length p.1, length_small_bytes (number bs), len_at_most 3 (number bs) (omega (arith, p.0)))
 
-pub answer_small : (bs : List ℕ) (n : ℕ) → true ≡ is_small_atom bs → n ≡ number bs → Small n ≡ fits_answer (fits_in_small_atom bs)
+pub answer_small : (bs : List ℕ) (n : ℕ) → true ≡ is_small_atom bs → n ≡ number bs → some n ≡ fits_in_small_atom bs
 unfolding fits_in_small_atom
 answer_small bs n e q = rw (sym e, q)
 
-pub answer_listed : (bs : List ℕ) → false ≡ is_small_atom bs → Listed ≡ fits_answer (fits_in_small_atom bs)
+pub answer_listed : (bs : List ℕ) → false ≡ is_small_atom bs → none ≡ fits_in_small_atom bs
 unfolding fits_in_small_atom
 answer_listed bs e = rw (sym e)

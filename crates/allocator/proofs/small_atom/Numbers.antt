@@ -2,20 +2,21 @@
 -- Assumes nothing.
 use Prim.Native.Nat.{ℕ, zero, suc, ◌-◌, ◌/◌, ◌%◌, ◌^◌, ◌≤◌, ◌<◌}
 use mathlib.Core.Path.{◌≡◌, refl}
-use mathlib.Core.List.{List, [], ◌∷◌}
+use mathlib.Core.List.{List}
 use native.Mathlib.Omega.{arith}
 use lib.ListN.{drop}
+use Rattle.std.specs.Int.{w32, to_be_bytes}
 use Rattle.words.specs.BigEndian.{big_endian}
 use Rattle.allocator.specs.SmallAtom.{len_for_value, small_bytes, LastBytes}
 use Rattle.allocator.specs.SmallAtomLaws.{len_at_most}
 
-pub four_bytes : (x a b c d : ℕ) → x < 2 ^ 32 → a ≡ x / 2 ^ 24 % 256 → b ≡ x / 2 ^ 16 % 256 → c ≡ x / 2 ^ 8 % 256 → d ≡ x % 256 → a ∷ b ∷ c ∷ d ∷ [] ≡ big_endian 4 x
+-- The library's bytes of a word are the definition's.
+pub four_bytes : (x : ℕ) → to_be_bytes w32 x ≡ big_endian 4 x
 unfolding big_endian
-four_bytes x a b c d h ea eb ec ed =
-    let pa : a ≡ x / 256 / 256 / 256 % 256 = omega arith in
-    let pb : b ≡ x / 256 / 256 % 256 = omega arith in
-    let pc : c ≡ x / 256 % 256 = omega arith in
-    rw (pa, pb, pc, ed)
+four_bytes x =
+    let a : x / 16777216 % 256 ≡ x / 256 / 256 / 256 % 256 = omega arith in
+    let b : x / 65536 % 256 ≡ x / 256 / 256 % 256 = omega arith in
+    rw (a, b) refl
 
 -- The last n of four bytes.
 pub last_bytes : (n x : ℕ) → n ≤ 4 → drop (4 - n) (big_endian 4 x) ≡ big_endian n x

@@ -14,6 +14,4 @@ pub returns-in-2 : goal.returns-in-2
 returns-in-2 c = object_type_of_handle c.args.self.0 2 c.in-2.is
 
 pub returns-in_default : goal.returns-in_default
-returns-in_default c =
-    let h = c.in_default.in_default-own in
-    object_type_unknown c.args.self.0 (omega (arith, h.rest.1, h.rest.0.1, h.rest.0.0.1))
+returns-in_default c = object_type_unknown c.args.self.0 (grind arith)

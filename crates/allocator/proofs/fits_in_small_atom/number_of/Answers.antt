@@ -1,28 +1,20 @@
--- `number_of` meets its contract. The invariant: `ret` is the number of the bytes passed. The measure is what is left of the length.
+-- `number_of` meets its contract.
 -- Assumes nothing.
-use Prim.Native.Nat.{ℕ, ◌<◌}
-use mathlib.Core.Path.{refl, ap, ◌∙◌}
-use native.Mathlib.Omega.{arith}
-use lib.Seq.{take_all}
-use Rattle.words.specs.Lists.{all_of}
+use Rattle.std.proofs.Common.{◌∙◌, ap, arith, refl}
+use Rattle.std.proofs.Math.Seq.{take_all}
 use Rattle.words.specs.BigEndian.{number_after, number}
+use Rattle.words.proofs.Words.{each_byte}
 use Rattle.allocator.proofs.fits_in_small_atom.Numbers.{next_number}
 use Rattle.allocator.proofs.fits_in_small_atom.number_of.Goals as goal
 
-pub loop-i-init : goal.loop-i-init
+pub loop-byte-init : goal.loop-byte-init
 unfolding number_after
-loop-i-init c = (omega arith, refl)
+loop-byte-init c = refl
 
-pub overflow_cast-ret : goal.overflow_cast-ret
-overflow_cast-ret c = omega (arith, c.type_inv.v c.loop-i.i)
-
-pub loop-i-preserved : goal.loop-i-preserved
-loop-i-preserved c = (
-  omega arith,
-  next_number c.args.v.now c.loop-i.i c.loop-i.ret
-      (all_of (λ (x : ℕ). x < 256) c.args.v.now 0 (λ i l. omega (arith, c.type_inv.v i)))
-      (omega arith) (omega arith) c.loop-i.invariant.1,
-)
+pub loop-byte-preserved : goal.loop-byte-preserved
+loop-byte-preserved c =
+    rw c.from.ensures
+    (next_number c.args.v.now c.loop-byte.byte-index c.loop-byte.ret (each_byte c.args.v.now c.type_inv.v) (omega arith) (omega arith) c.loop-byte.invariant)
 
 pub returns : goal.returns
-returns c = c.loop-i.invariant.1 ∙ ap number (take_all c.loop-i.i c.args.v.now (omega arith))
+returns c = c.loop-byte.invariant ∙ ap number (take_all c.loop-byte.byte-index c.args.v.now (omega arith))
