@@ -5,4 +5,3 @@ pub mod PrefixLaws
 pub mod WriteLaws
 pub mod ParseLaws
 pub mod RoundTrip
-pub mod Answers

@@ -5,7 +5,7 @@
 ghost use Rattle.std.specs.Prelude.{◌≡◌, ◌^◌, ◌≤◌, ◌<◌};
 ghost use Rattle.std.proofs.Math.Option.{some};
 ghost use Rattle.atom.specs.Prefix.{least, width, single, prefix_width};
-ghost use Rattle.atom.specs.Answers.{width_of};
+ghost use Rattle.words.specs.Options.{option_of};
 
 // The least size that each prefix width may carry, for the widths 1 to 5.
 const LEAST: [u64; 5] = [0, 64, 8192, 1048576, 134217728];
@@ -17,13 +17,6 @@ pub const BACK_REFERENCE: u8 = 0xfe;
 
 // The first size that no prefix holds.
 pub const SIZE_LIMIT: u64 = 0x400000000;
-
-// The width of an atom's prefix, 0 where it has none; or that no prefix holds its size.
-#[derive(Clone, Copy)]
-pub enum PrefixWidth {
-    Width(usize),
-    TooLong,
-}
 
 // The least size that a prefix of this width may carry; one of six bytes would carry what one of five cannot.
 pub fn least_size(width: usize) -> u64
@@ -41,35 +34,31 @@ pub fn shortest_width(size: u64) -> usize
     requires { size < 2 ^ 34 }
     ensures { width size ≡ some result }
 {
-    let mut w = 1;
-    while w < 5 {
+    for w in 1..5 {
         if size < least_size(w + 1) {
             return w;
         }
-        w += 1;
     }
-    w
+    5
 }
 
 // Whether an atom stands for itself: a single byte below 0x80.
 fn is_single(atom: &[u8]) -> bool
     ensures { result ≡ single atom.now }
 {
-    if atom.len() == 1 {
-        return atom[0] < 0x80;
-    }
-    false
+    matches!(atom, [byte] if *byte < 0x80)
 }
 
-pub fn prefix_width(atom: &[u8]) -> PrefixWidth
-    ensures { width_of result ≡ prefix_width atom.now }
+// The width of an atom's prefix, 0 where it has none; `None` where no prefix holds its size.
+pub fn prefix_width(atom: &[u8]) -> Option<usize>
+    ensures { option_of result ≡ prefix_width atom.now }
 {
     if is_single(atom) {
-        return PrefixWidth::Width(0);
+        return Some(0);
     }
     let size = atom.len() as u64;
     if SIZE_LIMIT <= size {
-        return PrefixWidth::TooLong;
+        return None;
     }
-    PrefixWidth::Width(shortest_width(size))
+    Some(shortest_width(size))
 }

@@ -1,39 +1,23 @@
 // The bits of a path: how many there are, and each of them.
-ghost use Rattle.std.specs.Prelude.{◌≡◌, Bool, false, List, ℕ, ◌*◌, ◌^◌, ◌≤◌, ◌<◌, length, get_or};
+ghost use Rattle.std.specs.Prelude.{◌≡◌, Bool, false, List, ◌*◌, ◌≤◌, ◌<◌, length, get_or};
 ghost use Rattle.std.proofs.Math.Option.{some};
 ghost use Rattle.path.specs.Bytes.{read_path};
 ghost use Rattle.path.specs.Answers.{counted};
+ghost use Rattle.words.specs.Options.{option_of};
+
+use crate::traverse_path::first_non_zero;
 
 // How many bits a path has below its most significant set bit; none are set in the path of nil.
-#[derive(Clone, Copy)]
-pub enum PathBits {
-    Nil,
-    Bits(usize),
-}
-
-pub fn path_bits(path: &[u8]) -> PathBits
+pub fn path_bits(path: &[u8]) -> Option<usize>
     requires { length path.now ≤ 65535 }
-    ensures { result ≡ counted (read_path path.now) }
+    ensures { option_of result ≡ counted (read_path path.now) }
 {
-    let first = crate::traverse_path::first_non_zero(path);
+    let first = first_non_zero(path);
     if path.len() <= first {
-        return PathBits::Nil;
+        return None;
     }
-    let mask = crate::traverse_path::msb_mask(path[first]);
-    PathBits::Bits(8 * (path.len() - 1 - first) + place_of(mask))
-}
-
-// The place of a mask's one bit.
-fn place_of(mask: u8) -> usize
-    ensures { (k : ℕ) → mask ≡ 2 ^ k → result ≡ k }
-{
-    let mut rest = mask;
-    let mut place = 0;
-    while 1 < rest {
-        rest = rest / 2;
-        place += 1;
-    }
-    place
+    let place = path[first].ilog2() as usize;
+    Some(8 * (path.len() - 1 - first) + place)
 }
 
 // Bit i of a path, from the lowest up.

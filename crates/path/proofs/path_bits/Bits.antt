@@ -1,102 +1,47 @@
--- The bits of a path by its bytes: bit i is bit i % 8 of the byte i / 8 from the end. The place of a mask's one bit.
+-- The bits of a path by its bytes: bit i is bit i % 8 of the byte i / 8 from the end.
 -- Assumes nothing.
 use Prim.Native.Nat.{ℕ, zero, suc, ◌+◌, ◌-◌, ◌*◌, ◌/◌, ◌%◌, ◌^◌, ◌≤◌, ◌<◌}
-use mathlib.Core.Path.{◌≡◌, refl, sym, ap, subst, ◌∙◌}
+use mathlib.Core.Path.{◌≡◌, sym, ap, ◌∙◌}
 use mathlib.Core.Bool.{Bool, false}
 use mathlib.Core.List.{List, [], ◌∷◌, ◌++◌}
-use mathlib.Core.Option.{some, none-ne-some, some-injective}
+use mathlib.Core.Option.{Option, none, some, none-ne-some, some-injective}
 use native.Mathlib.Omega.{arith}
-use native.Mathlib.Nat.{pow-suc}
-use lib.Pow.{pow_pos}
 use lib.ListN.{length, get_or, drop, length-append, length-drop, get_or-append}
 use lib.Seq.{get_or-append-add}
 use Rattle.words.specs.Choice.{by_lt}
 use Rattle.words.specs.Lists.{Bytes, all_at}
 use Rattle.path.specs.Bytes.{odd, low_bits, below_top, all_bits, read_path}
 use Rattle.path.proofs.BytesLaws.{length_all_bits, length_low_bits, low_bits_at}
-use Rattle.path.specs.Traverse.{top_bit, zeros_in_front}
-use Rattle.path.proofs.TraverseLaws.{Top, top_byte, zeros_within, after_zeros, none_all_zeros, read_from}
-use Rattle.path.specs.declared.path_bits.PathBits.{PathBits}
-use Rattle.path.specs.declared.path_bits.PathBits.TheVariants as path_bits
+use Rattle.path.specs.Traverse.{zeros_in_front}
+use Rattle.path.proofs.TraverseLaws.{Top, top_byte, place_is, zeros_within, after_zeros, none_all_zeros, read_from}
 use Rattle.path.specs.Answers.{counted}
-
--- ---- the place of a mask's one bit, halved until 1 is left
-
--- What is left is the mask without its lowest `place` places.
-pub record Halved (mask rest place : ℕ) : Type 0 where
-  pub small : rest + place ≤ mask
-  pub left : (k : ℕ) → mask ≡ 2 ^ k → (place ≤ k) × (rest ≡ 2 ^ (k - place))
-
-pub halved_start : (mask : ℕ) → Halved mask mask 0
-halved_start mask = record { small = omega arith; left = λ k e. (omega arith, e ∙ ap (λ (j : ℕ). 2 ^ j) (less k)) }
-  where
-    less : (k : ℕ) → k ≡ k - 0
-    less k = omega arith
-
-halve : (j rest : ℕ) → 1 < rest → rest ≡ 2 ^ j → (1 ≤ j) × (rest / 2 ≡ 2 ^ (j - 1))
-halve zero rest h e = absurd (omega arith)
-halve (suc j) rest h e = (omega arith, half ∙ ap (λ (i : ℕ). 2 ^ i) less)
-  where
-    half : rest / 2 ≡ 2 ^ j
-    half = omega (arith, pow-suc 2 j)
-
-    less : j ≡ suc j - 1
-    less = omega arith
-
-pub halved_more : (mask rest place : ℕ) → Halved mask rest place → 1 < rest → Halved mask (rest / 2) (place + 1)
-halved_more mask rest place h l =
-    record {
-      small = omega (arith, h.small);
-      left = λ k e. (omega (arith, (halve (k - place) rest l (h.left k e).1).0), (halve (k - place) rest l (h.left k e).1).1 ∙ ap (λ (j : ℕ). 2 ^ j) (less k));
-    }
-  where
-    less : (k : ℕ) → k - place - 1 ≡ k - (place + 1)
-    less k = omega arith
-
-one_left : (j rest : ℕ) → rest ≤ 1 → rest ≡ 2 ^ j → j ≡ 0
-one_left zero rest h e = refl
-one_left (suc j) rest h e = absurd (omega (arith, pow-suc 2 j, pow_pos j))
-
-pub halved_end : (mask rest place : ℕ) → Halved mask rest place → rest ≤ 1 → (k : ℕ) → mask ≡ 2 ^ k → place ≡ k
-halved_end mask rest place h l k e = omega (arith, (h.left k e).0, one_left (k - place) rest l (h.left k e).1)
 
 -- ---- how many bits
 
-pub counted_none : (bs : List ℕ) → length bs ≤ zeros_in_front bs → path_bits.Nil ≡ counted (read_path bs)
+pub counted_none : (bs : List ℕ) → length bs ≤ zeros_in_front bs → ◌≡◌ {A = Option ℕ} none (counted (read_path bs))
 counted_none bs h = rw (none_all_zeros bs (omega (arith, zeros_within bs)))
 
 -- The byte after the zeros in front, with the place of its most significant set bit.
 pub first_top : (bs : List ℕ) → Bytes bs → zeros_in_front bs < length bs → Top 7 (get_or bs (zeros_in_front bs) 0)
 first_top bs b h = top_byte (get_or bs (zeros_in_front bs) 0) (after_zeros bs h) (all_at (λ (n : ℕ). n < 256) bs 0 (zeros_in_front bs) b h)
 
-module _ (bs : List ℕ) (b : Bytes bs) (h : zeros_in_front bs < length bs) where
-  length_rest : length (all_bits (drop (zeros_in_front bs + 1) bs) ++ below_top 7 (get_or bs (zeros_in_front bs) 0)) ≡ 8 * (length bs - 1 - zeros_in_front bs) + (first_top bs b h).place
-  length_rest =
-      omega (
-        arith,
-        length-append (all_bits (drop (zeros_in_front bs + 1) bs)) (below_top 7 (get_or bs (zeros_in_front bs) 0)),
-        length_all_bits (drop (zeros_in_front bs + 1) bs),
-        length-drop (zeros_in_front bs + 1) bs,
-        ap length (first_top bs b h).bits,
-        length_low_bits (first_top bs b h).place (get_or bs (zeros_in_front bs) 0),
-      )
-
-  counted_some : (r : ℕ) → r ≡ (first_top bs b h).place → path_bits.Bits (8 * (length bs - 1 - zeros_in_front bs) + r) ≡ counted (read_path bs)
-  counted_some r e = rw (read_from bs h, e) (ap {B = PathBits} path_bits.Bits (sym length_rest))
-
-  place_at : (mask r : ℕ) → mask ≡ top_bit 8 (get_or bs (zeros_in_front bs) 0) → ((k : ℕ) → mask ≡ 2 ^ k → r ≡ k)
-      → (r ≤ 7) × (path_bits.Bits (8 * (length bs - 1 - zeros_in_front bs) + r) ≡ counted (read_path bs))
-  place_at mask r m f =
-      let e : r ≡ (first_top bs b h).place = f (first_top bs b h).place (m ∙ (first_top bs b h).mask) in
-      (omega (arith, (first_top bs b h).small), counted_some r e)
-
--- The place of the mask of the first byte that is not 0.
-pub counted_bits : (bs : List ℕ) → Bytes bs → (z mask r : ℕ) → z ≡ zeros_in_front bs → z < length bs → mask ≡ top_bit 8 (get_or bs z 0)
-    → ((k : ℕ) → mask ≡ 2 ^ k → r ≡ k) → (r ≤ 7) × (path_bits.Bits (8 * (length bs - 1 - z) + r) ≡ counted (read_path bs))
-counted_bits bs b z mask r e h m f =
-    subst
-    (λ (n : ℕ). n < length bs → mask ≡ top_bit 8 (get_or bs n 0) → (r ≤ 7) × (path_bits.Bits (8 * (length bs - 1 - n) + r) ≡ counted (read_path bs)))
-    (sym e) (λ l q. place_at bs b l mask r q f) h m
+-- Eight bits for each byte after the first that is not 0, and those of that byte below its most significant set bit.
+pub counted_bits : (bs : List ℕ) → Bytes bs → (z r : ℕ) → z ≡ zeros_in_front bs → z < length bs → 2 ^ r ≤ get_or bs z 0 → get_or bs z 0 < 2 * 2 ^ r
+    → some (8 * (length bs - 1 - z) + r) ≡ counted (read_path bs)
+counted_bits bs b z r e h from below =
+    let here : zeros_in_front bs < length bs = omega arith in
+    let t = first_top bs b here in
+    let place : r ≡ t.place = place_is t r (rw e at from) (rw e at below) in
+    let long : length (all_bits (drop (zeros_in_front bs + 1) bs) ++ below_top 7 (get_or bs (zeros_in_front bs) 0)) ≡ 8 * (length bs - 1 - z) + r =
+    omega (
+      arith,
+      length-append (all_bits (drop (zeros_in_front bs + 1) bs)) (below_top 7 (get_or bs (zeros_in_front bs) 0)),
+      length_all_bits (drop (zeros_in_front bs + 1) bs),
+      length-drop (zeros_in_front bs + 1) bs,
+      ap length t.bits,
+      length_low_bits t.place (get_or bs (zeros_in_front bs) 0),
+    ) in
+    rw (read_from bs here) (ap {B = Option ℕ} some (sym long))
 
 -- ---- bit i
 

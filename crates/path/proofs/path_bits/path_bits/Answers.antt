@@ -3,40 +3,18 @@
 use Prim.Native.Nat.{ℕ, ◌<◌}
 use native.Mathlib.Omega.{arith}
 use Rattle.words.specs.Lists.{all_of}
+use Rattle.path.proofs.TraverseLaws.{after_zeros}
 use Rattle.path.proofs.path_bits.Bits.{counted_none, counted_bits}
 use Rattle.path.proofs.path_bits.path_bits.Goals as goal
 
 pub returns-then-path-first : goal.returns-then-path-first
 returns-then-path-first c = counted_none c.args.path.now (omega (arith, c.first_non_zero-first.ensures))
 
-pub overflow_add-result : goal.overflow_add-result
-overflow_add-result c =
-    let o = c in
-    let path = o.args.path.now in
-    omega (
-      arith,
-      o.requires,
-      (counted_bits path (all_of (λ (n : ℕ). n < 256) path 0 (λ i l. omega (arith, c.type_inv.path i)))
-          c.first_non_zero-first.result
-          c.msb_mask-mask.result
-          c.place_of.result
-          c.first_non_zero-first.ensures
-          (omega (arith, c.if-path-first.false))
-          c.msb_mask-mask.ensures
-          c.place_of.ensures
-          ).0,
-    )
+pub ilog2-place-requires : goal.ilog2-place-requires
+ilog2-place-requires c = rw c.first_non_zero-first.ensures (after_zeros c.args.path.now (omega (arith, c.first_non_zero-first.ensures)))
 
 pub returns : goal.returns
 returns c =
-    let o = c in
-    let path = o.args.path.now in
-    (counted_bits path (all_of (λ (n : ℕ). n < 256) path 0 (λ i l. omega (arith, c.type_inv.path i)))
-    c.first_non_zero-first.result
-    c.msb_mask-mask.result
-    c.place_of.result
-    c.first_non_zero-first.ensures
-    (omega (arith, c.if-path-first.false))
-    c.msb_mask-mask.ensures
-    c.place_of.ensures
-    ).1
+    let path = c.args.path.now in
+    counted_bits path (all_of (λ (n : ℕ). n < 256) path 0 (λ i l. omega (arith, c.type_inv.path i))) c.first_non_zero-first.result c.ilog2-place.result
+    c.first_non_zero-first.ensures c.if-path-first.false c.ilog2-place.ensures.power_le c.ilog2-place.ensures.next_power_gt
