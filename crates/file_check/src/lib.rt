@@ -7,9 +7,10 @@ mod file_handles;
 ghost use Rattle.std.specs.Prelude.{◌≡◌, ◌≤◌, length, take, drop};
 ghost use Rattle.words.specs.Lists.{same};
 ghost use Rattle.spec_session.specs.File.{version_1, mark, after_mark as what_follows, file as whole_file};
-ghost use Rattle.file_parts.specs.Checked.{Checks, turned_down};
+ghost use Rattle.file_parts.specs.Checked.{Checks};
 
-use file_parts::Checked;
+use file_handles::Listed;
+use file_parts::{Checked, FileError};
 
 // The most bytes, atoms and pairs of a file.
 const FILE_BYTES: usize = 65535;
@@ -18,77 +19,46 @@ const ATOMS: u32 = 1024;
 
 const PAIRS: u32 = 1024;
 
-fn turned_down(number: u32) -> Checked
-    ensures { result ≡ turned_down number }
-{
-    Checked {
-        number,
-        atoms: 0,
-        pairs: 0,
-        sentinel: 0,
-        pairs_at: 0,
-        steps_at: 0,
-    }
-}
-
 // Whether the file begins with the mark and version 1.
 fn has_mark(file: &[u8]) -> bool
     ensures { result ≡ same (take 5 file.now) (mark version_1) }
 {
-    if file.len() < 5 {
-        return false;
-    }
-    words::same_bytes(&file[..5], b"BRS\x00\x01")
+    file.starts_with(b"BRS\x00\x01")
 }
 
 // The file after its mark.
-fn after_mark(file: &[u8]) -> Checked
+fn after_mark(file: &[u8]) -> Result<Checked, FileError>
     requires { (5 ≤ length file.now) × (length file.now ≤ 65535) }
     ensures { Checks file.now result (what_follows version_1 (drop 5 file.now)) }
 {
-    let atoms = file_atoms::count(file, 5, ATOMS);
-    if atoms.number != 0 {
-        return turned_down(atoms.number);
-    }
-    let listed = file_atoms::atoms(file, atoms.next, atoms.value);
-    if listed.number != 0 {
-        return turned_down(listed.number);
-    }
-    let pairs = file_atoms::count(file, listed.next, PAIRS);
-    if pairs.number != 0 {
-        return turned_down(pairs.number);
-    }
-    let named = file_handles::pairs(file, pairs.next, listed.value, pairs.value);
-    if named.number != 0 {
-        return turned_down(named.number);
-    }
-    let sentinel = file_handles::sentinel(file, named.next, listed.value, named.value);
-    if sentinel.number != 0 {
-        return turned_down(sentinel.number);
-    }
-    let steps = file_handles::steps(file, sentinel.next, listed.value, named.value);
-    if steps.number != 0 {
-        return turned_down(steps.number);
-    }
-    Checked {
-        number: 0,
-        atoms: listed.value,
-        pairs: named.value,
+    let atom_count = file_atoms::count(file, 5, ATOMS)?;
+    let atoms = file_atoms::atoms(file, atom_count.next, atom_count.value)?;
+    let pair_count = file_atoms::count(file, atoms.next, PAIRS)?;
+    let listed = Listed {
+        atoms: atoms.value,
+        pairs: pair_count.value,
+    };
+    let pairs = file_handles::pairs(file, pair_count.next, listed)?;
+    let sentinel = file_handles::sentinel(file, pairs.next, listed)?;
+    file_handles::steps(file, sentinel.next, listed)?;
+    Ok(Checked {
+        atoms: listed.atoms,
+        pairs: listed.pairs,
         sentinel: sentinel.value,
-        pairs_at: pairs.next,
+        pairs_at: pair_count.next,
         steps_at: sentinel.next,
-    }
+    })
 }
 
 // Questions 2 to 8, of the whole file.
-pub fn check(file: &[u8]) -> Checked
+pub fn check(file: &[u8]) -> Result<Checked, FileError>
     ensures { Checks file.now result (whole_file version_1 file.now) }
 {
     if FILE_BYTES < file.len() {
-        return turned_down(2);
+        return Err(FileError::InputTooLong);
     }
     if !has_mark(file) {
-        return turned_down(3);
+        return Err(FileError::BadMark);
     }
     after_mark(file)
 }

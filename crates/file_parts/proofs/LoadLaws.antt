@@ -12,14 +12,16 @@ use lib.Dec.{eqb}
 use lib.ListN.{length, get_or, take, drop, set, length-set}
 use lib.Seq.{drop-cons, get_or-set_same, get_or-set_other, drop_at}
 use borrow.Author.Tests.{ne_eqb}
+use Rattle.std.specs.Prelude.{Some, None}
 use Rattle.words.specs.Choice.{by_cond, cond_false, by_lt}
 use Rattle.words.specs.Words.{at, part}
 use Rattle.words.specs.BigEndian.{number}
 use Rattle.spec_session.specs.File.{Pair, Step, add, restore, forget, quote, take_quote}
 use Rattle.spec_session.specs.Places.{AtomsAt, PairsAt, StepIs, StepsAt, step_size}
-use Rattle.file_parts.specs.Loaded.{AtomsThere, AtomPlace, AtomsLoaded, PairsThere, pair_of, PairsLoaded, FirstStep, forgets}
+use Rattle.file_parts.specs.Loaded.{AtomsThere, AtomPlace, AtomsLoaded, PairsThere, pair_of, PairsLoaded, step_of, FirstStep, forgets}
 use Rattle.file_parts.specs.declared.session_file.NextStep.{NextStep}
-use Rattle.file_parts.specs.declared.session_file.NextStep.TheVariants as next_step
+use Rattle.file_parts.specs.declared.session_file.Step as code_step
+use Rattle.file_parts.specs.declared.session_file.Step.TheVariants as code
 
 -- ---- two words stored at 2·i and 2·i + 1
 
@@ -258,20 +260,26 @@ module _ (input : List ℕ) (place : ℕ) where
 abbrev pub ForgetsOn : List ℕ → (at place : ℕ) → Type 0
 ForgetsOn input at place = (ss : List Step) → StepsAt input at ss → (rest : List Step) × StepsAt input place rest × (forgets ss ≡ forgets rest)
 
--- What the step at a place says of it: the same holds from the next place on, or this is the answer.
-abbrev pub ForgetsAfter : List ℕ → (at : ℕ) → NextStep → Type 0
-ForgetsAfter input at (next_step.Add node next) = ForgetsOn input at next
-ForgetsAfter input at (next_step.Restore k next) = ForgetsOn input at next
-ForgetsAfter input at (next_step.Forget k next) = (ss : List Step) → StepsAt input at ss → true ≡ forgets ss
-ForgetsAfter input at (next_step.Quote node next) = (ss : List Step) → StepsAt input at ss → true ≡ forgets ss
-ForgetsAfter input at (next_step.Take next) = ForgetsOn input at next
-ForgetsAfter input at next_step.End = (ss : List Step) → StepsAt input at ss → false ≡ forgets ss
+-- The steps from a place on have a forget or a quote if the first is one, and otherwise where those after it have one.
+pub forgets_none : (input : List ℕ) (at place : ℕ) → ForgetsOn input at place → ((ss : List Step) → StepsAt input place ss → FirstStep input ss None)
+    → (ss : List Step) → StepsAt input at ss → false ≡ forgets ss
+forgets_none input at place on first ss h = let o = on ss h in sym (o.2 ∙ ap forgets (first o.0 o.1))
+
+-- What a step says of those from its place on: the same holds from the next place on, or this is the answer.
+abbrev pub ForgetsAfter : List ℕ → (at : ℕ) → code_step.Step → (next : ℕ) → Type 0
+ForgetsAfter input at (code.Add node) next = ForgetsOn input at next
+ForgetsAfter input at (code.Restore k) next = ForgetsOn input at next
+ForgetsAfter input at (code.Forget k) next = (ss : List Step) → StepsAt input at ss → true ≡ forgets ss
+ForgetsAfter input at (code.Quote node) next = (ss : List Step) → StepsAt input at ss → true ≡ forgets ss
+ForgetsAfter input at code.Take next = ForgetsOn input at next
 
 pub forgets_after : (input : List ℕ) (at place : ℕ) → ForgetsOn input at place
-    → (x : NextStep) → ((ss : List Step) → StepsAt input place ss → FirstStep input ss x) → ForgetsAfter input at x
-forgets_after input at place on (next_step.Add node next) first = λ ss h. let o = on ss h in let f = first o.0 o.1 in (f.0, f.2, o.2 ∙ ap forgets f.1)
-forgets_after input at place on (next_step.Restore k next) first = λ ss h. let o = on ss h in let f = first o.0 o.1 in (f.0, f.2, o.2 ∙ ap forgets f.1)
-forgets_after input at place on (next_step.Forget k next) first = λ ss h. let o = on ss h in sym (o.2 ∙ ap forgets (first o.0 o.1).1)
-forgets_after input at place on (next_step.Quote node next) first = λ ss h. let o = on ss h in sym (o.2 ∙ ap forgets (first o.0 o.1).1)
-forgets_after input at place on (next_step.Take next) first = λ ss h. let o = on ss h in let f = first o.0 o.1 in (f.0, f.2, o.2 ∙ ap forgets f.1)
-forgets_after input at place on next_step.End first = λ ss h. let o = on ss h in sym (o.2 ∙ ap forgets (first o.0 o.1))
+    → (n : NextStep) → ((ss : List Step) → StepsAt input place ss → FirstStep input ss (Some n)) → (s : code_step.Step) → n.step ≡ s → ForgetsAfter input at s n.next
+forgets_after input at place on n first s e = go s (ap step_of e)
+  where
+    go : (t : code_step.Step) → step_of n.step ≡ step_of t → ForgetsAfter input at t n.next
+    go (code.Add node) q = λ ss h. let o = on ss h in let f = first o.0 o.1 in (f.0, f.2, o.2 ∙ ap forgets f.1 ∙ ap (λ (x : Step). forgets (x ∷ f.0)) q)
+    go (code.Restore k) q = λ ss h. let o = on ss h in let f = first o.0 o.1 in (f.0, f.2, o.2 ∙ ap forgets f.1 ∙ ap (λ (x : Step). forgets (x ∷ f.0)) q)
+    go (code.Forget k) q = λ ss h. let o = on ss h in let f = first o.0 o.1 in sym (o.2 ∙ ap forgets f.1 ∙ ap (λ (x : Step). forgets (x ∷ f.0)) q)
+    go (code.Quote node) q = λ ss h. let o = on ss h in let f = first o.0 o.1 in sym (o.2 ∙ ap forgets f.1 ∙ ap (λ (x : Step). forgets (x ∷ f.0)) q)
+    go code.Take q = λ ss h. let o = on ss h in let f = first o.0 o.1 in (f.0, f.2, o.2 ∙ ap forgets f.1 ∙ ap (λ (x : Step). forgets (x ∷ f.0)) q)

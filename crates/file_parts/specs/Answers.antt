@@ -1,26 +1,33 @@
 -- What the code's answer to a part of the file means, in the terms of the definition.
-use Rattle.std.specs.Prelude.{ℕ, ◌+◌, ◌≤◌, ◌≡◌, List, leb, length, drop}
+use Rattle.std.specs.Prelude.{ℕ, ◌+◌, ◌≤◌, ◌≡◌, List, leb, length, drop, Result, Ok, Err}
 use Rattle.allocator.specs.SmallAtom.{fits_in_small_atom}
 use Rattle.file_parts.specs.declared.session_file.Part.{Part}
+use Rattle.file_parts.specs.declared.session_file.FileError.{FileError}
+use Rattle.file_parts.specs.declared.session_file.FileError.TheVariants.{InputTooLong, BadMark, FieldCut, TooMany, SmallAtomListed, BadHandle, UnknownStep}
 use Rattle.spec_session.specs.File.{Got, got, refused, and_then, asked, bytes_of, listed, Pair, Step, add, restore, forget, quote, take_quote}
+
+-- The number of the question that got no.
+abbrev pub number_of : FileError → ℕ
+number_of InputTooLong = 2
+number_of BadMark = 3
+number_of FieldCut = 4
+number_of TooMany = 5
+number_of SmallAtomListed = 6
+number_of BadHandle = 7
+number_of UnknownStep = 8
 
 -- A value that was read, as the word v, with the bytes after it.
 pub record Gives (input : List ℕ) (v : ℕ) (rest : List ℕ) (p : Part) : Type 0 where
-  pub number_is : p.number ≡ 0
   pub value_is : p.value ≡ v
   pub next_is : rest ≡ drop p.next input
   pub inside : p.next ≤ length input
 
--- The number of a question of 2 to 8.
-pub record Refuses (n : ℕ) (p : Part) : Type 0 where
-  pub number_is : p.number ≡ n
-  pub low : 2 ≤ n
-  pub high : n ≤ 8
-
--- The answer is what the definition gives, its value as a word.
-abbrev pub Answers : {A : Type 0} → List ℕ → (A → ℕ) → Part → Got A → Type 0
-Answers input word p (got a rest) = Gives input (word a) rest p
-Answers input word p (refused n) = Refuses n p
+-- The answer is what the definition gives: its value as a word, or the question's number.
+abbrev pub Answers : {A : Type 0} → List ℕ → (A → ℕ) → Result Part FileError → Got A → Type 0
+Answers input word (Ok p) (got a rest) = Gives input (word a) rest p
+Answers input word (Ok p) (refused n) = ⊥
+Answers input word (Err e) (got a rest) = ⊥
+Answers input word (Err e) (refused n) = number_of e ≡ n
 
 -- ---- the word of each value
 

@@ -1,8 +1,9 @@
 -- What loading the atoms and the pairs of a session file leaves in a table of words, what the next step of the file is, and whether one can take back all of an add.
-use Rattle.std.specs.Prelude.{ℕ, ◌+◌, ◌-◌, ◌*◌, ◌≤◌, ◌<◌, ◌≡◌, Bool, true, false, List, [], ◌∷◌, length, get_or, take, drop}
+use Rattle.std.specs.Prelude.{ℕ, ◌+◌, ◌-◌, ◌*◌, ◌≤◌, ◌<◌, ◌≡◌, Bool, true, false, List, [], ◌∷◌, length, get_or, take, drop, Option, Some, None}
 use Rattle.words.specs.Words.{at}
 use Rattle.file_parts.specs.declared.session_file.NextStep.{NextStep}
-use Rattle.file_parts.specs.declared.session_file.NextStep.TheVariants as next_step
+use Rattle.file_parts.specs.declared.session_file.Step as code_step
+use Rattle.file_parts.specs.declared.session_file.Step.TheVariants as code
 use Rattle.spec_session.specs.File.{Pair, Step, add, restore, forget, quote, take_quote}
 use Rattle.spec_session.specs.Places.{AtomsAt, PairsAt, StepsAt}
 
@@ -46,23 +47,23 @@ pub record PairsLoaded (ps : List Pair) (w w' : List ℕ) : Type 0 where
 
 -- ---- steps
 
+-- The code's step as the definition's.
+abbrev pub step_of : code_step.Step → Step
+step_of (code.Add node) = add node.0
+step_of (code.Restore number) = restore number
+step_of (code.Forget number) = forget number
+step_of (code.Quote node) = quote node.0
+step_of code.Take = take_quote
+
 -- The first of the steps, with those after it at the next place; or there is none.
-abbrev pub FirstStep : List ℕ → List Step → NextStep → Type 0
-FirstStep input ss (next_step.Add node next) = (rest : List Step) × (ss ≡ add node.0 ∷ rest) × StepsAt input next rest
-FirstStep input ss (next_step.Restore number next) = (rest : List Step) × (ss ≡ restore number ∷ rest) × StepsAt input next rest
-FirstStep input ss (next_step.Forget number next) = (rest : List Step) × (ss ≡ forget number ∷ rest) × StepsAt input next rest
-FirstStep input ss (next_step.Quote node next) = (rest : List Step) × (ss ≡ quote node.0 ∷ rest) × StepsAt input next rest
-FirstStep input ss (next_step.Take next) = (rest : List Step) × (ss ≡ take_quote ∷ rest) × StepsAt input next rest
-FirstStep input ss next_step.End = ss ≡ []
+abbrev pub FirstStep : List ℕ → List Step → Option NextStep → Type 0
+FirstStep input ss (Some n) = (rest : List Step) × (ss ≡ step_of n.step ∷ rest) × StepsAt input n.next rest
+FirstStep input ss None = ss ≡ []
 
 -- The step after this one begins beyond it and within the file, whatever the bytes are.
-abbrev pub Beyond : List ℕ → (at : ℕ) → NextStep → Type 0
-Beyond input at (next_step.Add node next) = (at < next) × (next ≤ length input)
-Beyond input at (next_step.Restore number next) = (at < next) × (next ≤ length input)
-Beyond input at (next_step.Forget number next) = (at < next) × (next ≤ length input)
-Beyond input at (next_step.Quote node next) = (at < next) × (next ≤ length input)
-Beyond input at (next_step.Take next) = (at < next) × (next ≤ length input)
-Beyond input at next_step.End = Unit {0}
+abbrev pub Beyond : List ℕ → (at : ℕ) → Option NextStep → Type 0
+Beyond input at (Some n) = (at < n.next) × (n.next ≤ length input)
+Beyond input at None = Unit {0}
 
 -- Whether one of the steps is a `03`, or a `04`, whose add is taken back as by a `03`.
 abbrev pub forgets : List Step → Bool

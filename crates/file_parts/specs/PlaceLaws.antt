@@ -7,7 +7,7 @@ use Rattle.std.proofs.Common.{◌∙◌, append-nil, append_assoc, arith, add-on
 use Rattle.std.proofs.Math.Option.{Option}
 use Rattle.std.proofs.Math.ListN.{length}
 use Rattle.words.specs.Choice.{by_lt}
-use Rattle.words.specs.Lists.{All, same}
+use Rattle.words.specs.Lists.{All}
 use Rattle.spec_session.specs.File.{got, and_then, field, count, version_1, atom, atoms, Pair, one_pair, pairs, sentinel, Step, add, restore, forget, quote, take_quote, one_step, steps, File}
 use Rattle.spec_session.specs.Places.{AtomsAt, PairsAt, StepsAt, StepIs, step_size, PairsNamed, StepNamed, ListedAtom}
 use Rattle.file_parts.specs.Checked.{Contents}

@@ -1,40 +1,27 @@
 -- `load_pairs` meets its contract. The invariant: the pairs passed are loaded, and the others stand from the present place on.
 -- Assumes nothing.
-use Prim.Native.Nat.{◌-◌, ◌≤◌}
-use mathlib.Core.Path.{◌≡◌, refl}
 use native.Mathlib.Omega.{arith}
-use lib.ListN.{length, length-set}
-use Rattle.file_parts.proofs.LoadLaws.{LoadingPairs, loading_pairs, pair_room, pairs_turn, pairs_loaded}
+use Rattle.file_parts.proofs.LoadLaws.{loading_pairs, pair_room, pairs_turn, pairs_loaded}
 use Rattle.file_parts.proofs.load_pairs.Goals as goal
 
 pub loop-i-init : goal.loop-i-init
-loop-i-init c = let s = c in (omega arith, refl, loading_pairs s.args.file.now s.args.from s.args.count s.args.table.now s.requires.0)
+loop-i-init c = let s = c in loading_pairs s.args.file.now s.args.from s.args.count s.args.table.now s.requires.0
 
 pub number_at-left-requires : goal.number_at-left-requires
-number_at-left-requires c = (omega (arith, pair_room c.loop-i.invariant.2 (omega arith)), omega arith)
+number_at-left-requires c = (omega (arith, pair_room c.loop-i.invariant (omega arith)), omega arith)
 
 pub overflow_add-place : goal.overflow_add-place
-overflow_add-place c = omega (arith, pair_room c.loop-i.invariant.2 (omega arith))
+overflow_add-place c = omega (arith, pair_room c.loop-i.invariant (omega arith))
 
 pub number_at-right-requires : goal.number_at-right-requires
-number_at-right-requires c = (omega (arith, pair_room c.loop-i.invariant.2 (omega arith)), omega arith)
-
-pub bounds-table-second : goal.bounds-table-second
-bounds-table-second c = simp length-set (omega arith)
+number_at-right-requires c = (omega (arith, pair_room c.loop-i.invariant (omega arith)), omega arith)
 
 pub overflow_add-place-in-loop-i : goal.overflow_add-place-in-loop-i
-overflow_add-place-in-loop-i c = omega (arith, pair_room c.loop-i.invariant.2 (omega arith))
+overflow_add-place-in-loop-i c = omega (arith, pair_room c.loop-i.invariant (omega arith))
 
 pub loop-i-preserved : goal.loop-i-preserved
 loop-i-preserved c =
-    let l = c.loop-i in (
-      omega arith,
-      simp length-set l.invariant.1,
-      pairs_turn l.invariant.2 (omega arith) c.number_at-left.result c.number_at-right.result c.number_at-left.ensures c.number_at-right.ensures (omega arith),
-    )
-
-pub shape_of-table : goal.shape_of-table
-shape_of-table c = c.loop-i.invariant.1
+    pairs_turn c.loop-i.invariant (omega arith) c.number_at-left.result c.number_at-right.result c.number_at-left.ensures c.number_at-right.ensures (omega arith)
 
 pub returns : goal.returns
-returns c = pairs_loaded c.loop-i.invariant.2 (omega arith) (omega arith)
+returns c = pairs_loaded c.loop-i.invariant (omega arith) (omega arith)

@@ -3,8 +3,6 @@
 use mathlib.Core.Path.{◌≡◌, refl, sym, ap, ◌∙◌}
 use mathlib.Core.Logic.{◌⊎◌, inl, inr, ⊎_elim}
 use native.Mathlib.Omega.{arith}
-use borrow.Author.Tests.{eqb-true, eqb-false}
-use borrow.Author.Rules.{rules}
 use Rattle.words.specs.Words.{part}
 use Rattle.words.specs.BigEndian.{number}
 use Rattle.spec_session.specs.File.{add, restore, forget, quote}

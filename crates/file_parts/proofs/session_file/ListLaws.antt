@@ -7,7 +7,9 @@ use native.Mathlib.Omega.{arith}
 use lib.ListN.{length, drop, length-drop, length-append, drop_of_length-le}
 use lib.Seq.{drop-cons}
 use Rattle.file_parts.specs.PlaceLaws.{size_low}
+use Rattle.std.specs.Prelude.{Ok, Err}
 use Rattle.file_parts.specs.declared.session_file.Part.{Part}
+use Rattle.file_parts.specs.declared.session_file.FileError.{FileError}
 use Rattle.spec_session.specs.File.{Got, got, and_then, version_1, atom, atoms, Pair, one_pair, pairs, Step, one_step, steps}
 use Rattle.file_parts.specs.Answers.{Answers, sized, pair_word, operand_word, counted}
 use Rattle.spec_session.proofs.FileLaws.{atom_at, step_at}
@@ -38,27 +40,27 @@ pub atoms_start : (input : List ℕ) (at count : ℕ) → AtomsSoFar input at co
 atoms_start input at count = record { read = []; long = refl; same = ap (λ (n : ℕ). atoms version_1 n 0 [] (drop at input)) (all_left count) }
 
 module _ {input : List ℕ} {at count next used done : ℕ} (s : AtomsSoFar input at count next used done) where
-  pub atoms_end : (p : Part) → count ≤ done → done ≤ count → next ≤ length input → p.number ≡ 0 → p.value ≡ count → p.next ≡ next
-      → Answers input counted p (atoms version_1 count 0 [] (drop at input))
+  pub atoms_end : (p : Part) → count ≤ done → done ≤ count → next ≤ length input → p.value ≡ count → p.next ≡ next
+      → Answers input counted (Ok p) (atoms version_1 count 0 [] (drop at input))
   unfolding atoms
-  atoms_end p l m i z v e =
+  atoms_end p l m i v e =
       gives input counted p (atoms version_1 count 0 [] (drop at input)) s.read
       (s.same ∙ ap (λ (n : ℕ). atoms version_1 n used s.read (drop next input)) (none_left count done l) ∙ ap (λ (k : ℕ). got s.read (drop k input)) (sym e))
-      z (omega (arith, s.long)) (omega arith)
+      (omega (arith, s.long)) (omega arith)
 
-  module _ (h : done < count) (p : Part) (a : Answers input sized p (atom version_1 used (drop next input))) where
+  module _ (h : done < count) where
     -- The next atom first.
     next_atom : atoms version_1 count 0 [] (drop at input)
         ≡ and_then (atom version_1 used (drop next input)) (λ b r. atoms version_1 (count - (done + 1)) (used + length b) (s.read ++ b ∷ []) r)
     unfolding atoms
     next_atom = s.same ∙ ap (λ (n : ℕ). atoms version_1 n used s.read (drop next input)) (one_left count done h)
 
-    pub atoms_refused : (p.number ≡ 0 → ⊥) → Answers input counted p (atoms version_1 count 0 [] (drop at input))
-    atoms_refused z = subst (Answers input counted p) (sym next_atom) (then_refused input sized counted p (atom version_1 used (drop next input)) _ a z)
+    pub atoms_refused : (e : FileError) → Answers input sized (Err e) (atom version_1 used (drop next input)) → Answers input counted (Err e) (atoms version_1 count 0 [] (drop at input))
+    atoms_refused e a = subst (Answers input counted (Err e)) (sym next_atom) (then_refused input sized counted e (atom version_1 used (drop next input)) _ a)
 
-    module _ (z : p.number ≡ 0) where
+    module _ (p : Part) (a : Answers input sized (Ok p) (atom version_1 used (drop next input))) where
       t : Taken input sized p (atom version_1 used (drop next input))
-      t = taken input sized p (atom version_1 used (drop next input)) a z
+      t = taken input sized p (atom version_1 used (drop next input)) a
 
       pub atoms_inside : p.next ≤ length input
       atoms_inside = t.inside
@@ -88,27 +90,27 @@ pub pairs_start : (input : List ℕ) (at na count : ℕ) → PairsSoFar input at
 pairs_start input at na count = record { read = []; long = refl; same = ap (λ (n : ℕ). pairs na n [] (drop at input)) (all_left count) }
 
 module _ {input : List ℕ} {at na count next done : ℕ} (s : PairsSoFar input at na count next done) where
-  pub pairs_end : (p : Part) → count ≤ done → done ≤ count → next ≤ length input → p.number ≡ 0 → p.value ≡ count → p.next ≡ next
-      → Answers input counted p (pairs na count [] (drop at input))
+  pub pairs_end : (p : Part) → count ≤ done → done ≤ count → next ≤ length input → p.value ≡ count → p.next ≡ next
+      → Answers input counted (Ok p) (pairs na count [] (drop at input))
   unfolding pairs
-  pairs_end p l m i z v e =
+  pairs_end p l m i v e =
       gives input counted p (pairs na count [] (drop at input)) s.read
       (s.same ∙ ap (λ (n : ℕ). pairs na n s.read (drop next input)) (none_left count done l) ∙ ap (λ (k : ℕ). got s.read (drop k input)) (sym e))
-      z (omega (arith, s.long)) (omega arith)
+      (omega (arith, s.long)) (omega arith)
 
-  module _ (h : done < count) (p : Part) (a : Answers input pair_word p (one_pair na done (drop next input))) where
+  module _ (h : done < count) where
     next_pair : pairs na count [] (drop at input) ≡ and_then (one_pair na done (drop next input)) (λ q r. pairs na (count - (done + 1)) (s.read ++ q ∷ []) r)
     unfolding pairs
     next_pair =
         s.same ∙ ap (λ (n : ℕ). pairs na n s.read (drop next input)) (one_left count done h)
         ∙ ap (λ (k : ℕ). and_then (one_pair na k (drop next input)) (λ q r. pairs na (count - (done + 1)) (s.read ++ q ∷ []) r)) s.long
 
-    pub pairs_refused : (p.number ≡ 0 → ⊥) → Answers input counted p (pairs na count [] (drop at input))
-    pairs_refused z = subst (Answers input counted p) (sym next_pair) (then_refused input pair_word counted p (one_pair na done (drop next input)) _ a z)
+    pub pairs_refused : (e : FileError) → Answers input pair_word (Err e) (one_pair na done (drop next input)) → Answers input counted (Err e) (pairs na count [] (drop at input))
+    pairs_refused e a = subst (Answers input counted (Err e)) (sym next_pair) (then_refused input pair_word counted e (one_pair na done (drop next input)) _ a)
 
-    module _ (z : p.number ≡ 0) where
+    module _ (p : Part) (a : Answers input pair_word (Ok p) (one_pair na done (drop next input))) where
       one : Taken input pair_word p (one_pair na done (drop next input))
-      one = taken input pair_word p (one_pair na done (drop next input)) a z
+      one = taken input pair_word p (one_pair na done (drop next input)) a
 
       pub pairs_inside : p.next ≤ length input
       pairs_inside = one.inside
@@ -148,26 +150,27 @@ steps_more (suc n) na np most done input at h l =
     rw (p, drop-cons input at 0 h) refl
 
 module _ {input : List ℕ} {at na np next done : ℕ} (s : StepsSoFar input at na np next done) where
-  pub steps_end : (p : Part) → length input ≤ next → next ≤ length input → p.number ≡ 0 → p.value ≡ done → p.next ≡ next
-      → Answers input counted p (steps (length (drop at input)) na np 1024 [] (drop at input))
-  steps_end p l i z v e =
+  pub steps_end : (p : Part) → length input ≤ next → next ≤ length input → p.value ≡ done → p.next ≡ next
+      → Answers input counted (Ok p) (steps (length (drop at input)) na np 1024 [] (drop at input))
+  steps_end p l i v e =
       gives input counted p (steps (length (drop at input)) na np 1024 [] (drop at input)) s.read
       (s.same ∙ steps_none s.fuel na np 1024 s.read (drop next input) (drop_of_length-le input l) ∙ ap (λ (k : ℕ). got s.read (drop k input)) (sym e))
-      z (v ∙ sym s.long) (omega arith)
+      (v ∙ sym s.long) (omega arith)
 
-  module _ (h : next < length input) (p : Part) (a : Answers input operand_word p (one_step na np done 1024 (drop next input))) where
+  module _ (h : next < length input) where
     next_step : steps (length (drop at input)) na np 1024 [] (drop at input)
         ≡ and_then (one_step na np done 1024 (drop next input)) (λ x r. steps (s.fuel - 1) na np 1024 (s.read ++ x ∷ []) r)
     next_step =
         s.same ∙ steps_more s.fuel na np 1024 s.read input next h s.enough
         ∙ ap (λ (k : ℕ). and_then (one_step na np k 1024 (drop next input)) (λ x r. steps (s.fuel - 1) na np 1024 (s.read ++ x ∷ []) r)) s.long
 
-    pub steps_refused : (p.number ≡ 0 → ⊥) → Answers input counted p (steps (length (drop at input)) na np 1024 [] (drop at input))
-    steps_refused z = subst (Answers input counted p) (sym next_step) (then_refused input operand_word counted p (one_step na np done 1024 (drop next input)) _ a z)
+    pub steps_refused : (e : FileError) → Answers input operand_word (Err e) (one_step na np done 1024 (drop next input))
+        → Answers input counted (Err e) (steps (length (drop at input)) na np 1024 [] (drop at input))
+    steps_refused e a = subst (Answers input counted (Err e)) (sym next_step) (then_refused input operand_word counted e (one_step na np done 1024 (drop next input)) _ a)
 
-    module _ (z : p.number ≡ 0) where
+    module _ (p : Part) (a : Answers input operand_word (Ok p) (one_step na np done 1024 (drop next input))) where
       step_taken : Taken input operand_word p (one_step na np done 1024 (drop next input))
-      step_taken = taken input operand_word p (one_step na np done 1024 (drop next input)) a z
+      step_taken = taken input operand_word p (one_step na np done 1024 (drop next input)) a
 
       pub steps_inside : p.next ≤ length input
       steps_inside = step_taken.inside

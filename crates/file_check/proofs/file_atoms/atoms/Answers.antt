@@ -1,35 +1,24 @@
 -- `atoms` meets its contract. The invariant: what is left gives what all would give.
 -- Assumes nothing.
-use Prim.Native.Nat.{◌-◌, ◌≤◌}
 use mathlib.Core.Path.{refl}
 use native.Mathlib.Omega.{arith}
-use lib.ListN.{length}
-use Rattle.file_parts.proofs.session_file.ListLaws.{AtomsSoFar, atoms_start, atoms_refused, atoms_inside, atoms_few, atoms_turn, atoms_end}
+use Rattle.std.proofs.lemmas.Result.{err_from_is_err_and}
+use Rattle.file_parts.proofs.session_file.ListLaws.{atoms_refused, atoms_inside, atoms_few, atoms_turn, atoms_end}
 use Rattle.file_check.proofs.file_atoms.atoms.Goals as goal
 
-pub loop-done-init : goal.loop-done-init
-loop-done-init c = let a = c.args in (omega arith, omega arith, omega arith, atoms_start a.file.now a.at a.count)
+pub returns-in_err-a : goal.returns-in_err-a
+returns-in_err-a c =
+    let p = err_from_is_err_and c.from_residual.result c.from_residual.ensures.1 in
+    rw (p.1, p.2) (atoms_refused c.loop.invariant.2 (omega arith) _ c.in_err-a.ensures)
 
-pub atom-a-requires : goal.atom-a-requires
-atom-a-requires c = (omega arith, omega arith)
-
-pub returns-then-a-ne0 : goal.returns-then-a-ne0
-returns-then-a-ne0 c = let l = c.loop-done in atoms_refused l.invariant.3 (omega arith) c.atom-a.result c.atom-a.ensures c.if-a-ne0.true
-
-pub overflow_add-used : goal.overflow_add-used
-overflow_add-used c =
-    let l = c.loop-done in
-    let atom = c.atom-a in
-    omega (arith, atoms_few l.invariant.3 (omega arith) atom.result atom.ensures c.if-a-ne0.false)
-
-pub loop-done-preserved : goal.loop-done-preserved
-loop-done-preserved c =
-    let l = c.loop-done in (
-      omega arith,
-      atoms_inside l.invariant.3 (omega arith) c.atom-a.result c.atom-a.ensures c.if-a-ne0.false,
-      atoms_few l.invariant.3 (omega arith) c.atom-a.result c.atom-a.ensures c.if-a-ne0.false,
-      atoms_turn l.invariant.3 (omega arith) c.atom-a.result c.atom-a.ensures c.if-a-ne0.false,
+pub loop-preserved : goal.loop-preserved
+loop-preserved c =
+    let l = c.loop in
+    let a = c.in_ok-a in (
+      atoms_inside l.invariant.2 (omega arith) a.a a.ensures,
+      atoms_few l.invariant.2 (omega arith) a.a a.ensures,
+      atoms_turn l.invariant.2 (omega arith) a.a a.ensures,
     )
 
 pub returns : goal.returns
-returns c = let l = c.loop-done in atoms_end l.invariant.3 _ (omega arith) (omega arith) (omega arith) refl refl refl
+returns c = let l = c.loop in atoms_end l.invariant.2 _ (omega arith) (omega arith) (omega arith) refl refl

@@ -5,7 +5,6 @@ use mathlib.Core.List.{List}
 use native.Mathlib.Omega.{arith}
 use native.Mathlib.Nat.{pow-le-pow_right}
 use lib.ListN.{length, drop}
-use borrow.Author.Rules.{rules}
 use Rattle.words.specs.BigEndian.{number, number_bound}
 use Rattle.words.specs.Lists.{Bytes, all_of, all_take, all_drop}
 use Rattle.words.specs.Words.{part}
