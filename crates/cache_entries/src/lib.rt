@@ -16,18 +16,10 @@ ghost use Rattle.cache_entries.specs.Effects.{is_listed, Stands, Measured};
 ghost use Rattle.cache_entries.specs.table.Effects.{option_of};
 
 use allocator::{NodePtr, ObjectType, small_atom};
-pub use table::Found;
-use words::wide;
-
-// A word as a length, or as a half of one.
-fn long(x: u32) -> u64
-    ensures { (result ≡ x) × (result < 2 ^ 32) }
-{
-    x as u64
-}
+use work_layout::EntryIndex;
 
 // The entry of pair i, if it has one.
-pub fn map_of(work: &[u32], i: usize) -> Found
+pub fn map_of(work: &[u32], i: usize) -> Option<EntryIndex>
     requires { (WORK ≤ length work.now) × (i < 1024) }
     ensures { option_of result ≡ entry_or_none (at work.now (MAPS + i)) }
 {
@@ -35,7 +27,7 @@ pub fn map_of(work: &[u32], i: usize) -> Found
 }
 
 // The sentinel's latest entry, if it has one.
-pub fn sentinel_entry(work: &[u32]) -> Found
+pub fn sentinel_entry(work: &[u32]) -> Option<EntryIndex>
     requires { WORK ≤ length work.now }
     ensures { option_of result ≡ entry_or_none (at work.now SENTINEL_ENTRY) }
 {
@@ -70,12 +62,7 @@ pub fn is_sentinel(work: &[u32], h: NodePtr) -> bool
 pub fn is_listed(h: NodePtr) -> bool
     ensures { result ≡ is_listed (node_of h.0) }
 {
-    match h.object_type() {
-        ObjectType::Pair => false,
-        ObjectType::Bytes => true,
-        ObjectType::SmallAtom => false,
-        ObjectType::Unknown => false,
-    }
+    matches!(h.object_type(), ObjectType::Bytes)
 }
 
 // The first listed atom with the bytes of listed atom i.
@@ -92,8 +79,7 @@ pub fn atom_key(work: &[u32], h: NodePtr) -> NodePtr
     ensures { Stands work.now h.0 result.0 }
 {
     if is_listed(h) {
-        let i = wide(h.index());
-        let first = first_of(work, i);
+        let first = first_of(work, h.index() as usize);
         return NodePtr::bytes(first);
     }
     h
@@ -115,7 +101,7 @@ fn listed_length(work: &[u32], i: usize) -> u64
     requires { (WORK ≤ length work.now) × (i < 1024) }
     ensures { result ≡ at work.now (ATOM_LENGTHS + i) }
 {
-    long(work[work_layout::ATOM_LENGTHS + i])
+    u64::from(work[work_layout::ATOM_LENGTHS + i])
 }
 
 // The serialized length of an atom.
@@ -124,8 +110,7 @@ pub fn atom_length(work: &[u32], h: NodePtr) -> u64
     ensures { Measured work.now h.0 result }
 {
     if is_listed(h) {
-        let i = wide(h.index());
-        return listed_length(work, i);
+        return listed_length(work, h.index() as usize);
     }
     small_length(h.index())
 }
@@ -134,15 +119,8 @@ pub fn atom_length(work: &[u32], h: NodePtr) -> u64
 pub fn pair_length(a: u64, b: u64) -> u64
     ensures { result ≡ pair_length a b }
 {
-    if a == 0 {
+    if a == 0 || b == 0 {
         return 0;
     }
-    if b == 0 {
-        return 0;
-    }
-    let room = 0xffffffffffffffff - a;
-    if b >= room {
-        return 0xffffffffffffffff;
-    }
-    a + b + 1
+    a.saturating_add(b).saturating_add(1)
 }

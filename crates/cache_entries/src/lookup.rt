@@ -7,9 +7,8 @@ ghost use Rattle.cache_entries.specs.Meaning.{Names, Whole};
 ghost use Rattle.cache_entries.specs.lookup.Effects.{PairEntry, AtomEntry, EntryOf};
 
 use crate::table;
-use crate::table::{Found, Key};
+use crate::table::Key;
 use allocator::NodePtr;
-use words::wide;
 use work_layout::EntryIndex;
 
 // The entry of pair i; entry 0 where it has none.
@@ -17,10 +16,7 @@ pub fn pair_entry(work: &[u32], i: usize) -> EntryIndex
     requires { (Whole work.now) × (i < at work.now PAIR_COUNT) }
     ensures { PairEntry work.now i result.0 }
 {
-    match crate::map_of(work, i) {
-        Found::At(e) => e,
-        Found::Nothing => EntryIndex(0),
-    }
+    crate::map_of(work, i).unwrap_or(EntryIndex(0))
 }
 
 // The entry of an atom; entry 0 where it has none.
@@ -29,10 +25,7 @@ fn atom_entry(work: &[u32], node: NodePtr) -> EntryIndex
     ensures { AtomEntry work.now node.0 result.0 }
 {
     let key = crate::atom_key(work, node);
-    match table::find_key(work, Key::Atom(key)) {
-        Found::At(e) => e,
-        Found::Nothing => EntryIndex(0),
-    }
+    table::find_key(work, Key::Atom(key)).unwrap_or(EntryIndex(0))
 }
 
 // The entry of a node.
@@ -43,5 +36,5 @@ pub fn entry_of(work: &[u32], node: NodePtr) -> EntryIndex
     if node.is_atom() {
         return atom_entry(work, node);
     }
-    pair_entry(work, wide(node.index()))
+    pair_entry(work, node.index() as usize)
 }

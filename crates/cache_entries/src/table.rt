@@ -9,7 +9,6 @@ ghost use Rattle.cache_entries.specs.Meaning.{entry_or_none};
 ghost use Rattle.cache_entries.specs.table.Effects.{first_word, second_word, find_row, option_of};
 
 use allocator::NodePtr;
-use words::wide;
 use work_layout::EntryIndex;
 
 // The length of entry e.
@@ -17,9 +16,9 @@ pub fn length_of(work: &[u32], e: EntryIndex) -> u64
     requires { (Sound work.now) × (e.0 < at work.now USED) }
     ensures { result ≡ length_of work.now e.0 }
 {
-    let i = wide(e.0);
-    let low = crate::long(work[work_layout::LOW + i]);
-    let high = crate::long(work[work_layout::HIGH + i]);
+    let i = e.0 as usize;
+    let low = u64::from(work[work_layout::LOW + i]);
+    let high = u64::from(work[work_layout::HIGH + i]);
     low + high * 4294967296
 }
 
@@ -64,39 +63,27 @@ fn words_of(key: Key) -> KeyWords
     }
 }
 
-// What a lookup gives.
-#[derive(Clone, Copy)]
-pub enum Found {
-    At(EntryIndex),
-    Nothing,
-}
-
 // The entry that a word stands for: the word is one more, or 0 for none.
-pub fn found_by(word: u32) -> Found
+pub fn found_by(word: u32) -> Option<EntryIndex>
     ensures { option_of result ≡ entry_or_none word }
 {
-    if word == 0 {
-        return Found::Nothing;
-    }
-    Found::At(EntryIndex(word - 1))
+    word.checked_sub(1).map(|e| EntryIndex(e))
 }
 
 // The entry with this key, if there is one.
-pub fn find_key(work: &[u32], key: Key) -> Found
+pub fn find_key(work: &[u32], key: Key) -> Option<EntryIndex>
     requires { Sound work.now }
     ensures { option_of result ≡ find_row (first_word key) (second_word key) (rows_of work.now) }
 {
     let k = words_of(key);
     let slot = work_layout::slot_of(k.left, k.right);
-    let mut head = work[work_layout::HEADS + slot];
-    while head != 0 {
-        let e = wide(head - 1);
-        if work[work_layout::LEFT + e] == k.left {
-            if work[work_layout::RIGHT + e] == k.right {
-                return Found::At(EntryIndex(head - 1));
-            }
+    let mut next = found_by(work[work_layout::HEADS + slot]);
+    while let Some(e) = next {
+        let i = e.0 as usize;
+        if work[work_layout::LEFT + i] == k.left && work[work_layout::RIGHT + i] == k.right {
+            return Some(e);
         }
-        head = work[work_layout::NEXT + e];
+        next = found_by(work[work_layout::NEXT + i]);
     }
-    Found::Nothing
+    None
 }

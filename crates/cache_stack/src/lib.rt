@@ -9,7 +9,6 @@ ghost use Rattle.words.specs.Words.{WORK};
 ghost use Rattle.work_layout.specs.Layout.{ENTRIES, DEPTH};
 ghost use Rattle.cache_stack.specs.Effects.{Stacked, Pushed, PushedMarked};
 
-use words::wide;
 use work_layout::{BELOW, EntryIndex, STACK, TOPS};
 
 // An entry is marked written, and referred to, only from this length on: a reference to anything shorter takes no fewer bytes.
@@ -20,7 +19,7 @@ pub fn push(work: &mut [u32], depth: usize, e: EntryIndex)
     requires { (WORK ≤ length work.old) × (Stacked work.old depth) × (depth < DEPTH) × (e.0 < ENTRIES) }
     ensures { Pushed work.old work.new depth e.0 }
 {
-    let x = wide(e.0);
+    let x = e.0 as usize;
     let below = work[TOPS + x];
     work[STACK + depth] = e.0;
     work[BELOW + depth] = below;

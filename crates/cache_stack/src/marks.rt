@@ -4,7 +4,6 @@ ghost use Rattle.words.specs.Words.{WORK};
 ghost use Rattle.work_layout.specs.Layout.{WRITTEN, ENTRIES};
 ghost use Rattle.cache_stack.specs.marks.Effects.{marked_at, Marked};
 
-use words::wide;
 use work_layout::{EntryIndex, MOVED, WRITTEN};
 
 // Whether entry e is marked written.
@@ -12,10 +11,7 @@ pub fn is_marked(work: &[u32], e: EntryIndex) -> bool
     requires { (WORK ≤ length work.now) × (e.0 < ENTRIES) }
     ensures { result ≡ marked_at work.now e.0 }
 {
-    let x = wide(e.0);
-    // A local: with a literal there the proof takes longer.
-    let from = WRITTEN;
-    bitset::is_visited(&work[from..MOVED], x)
+    bitset::is_visited(&work[WRITTEN..MOVED], e.0 as usize)
 }
 
 // Marks entry e written.
@@ -23,6 +19,5 @@ pub fn mark(work: &mut [u32], e: EntryIndex)
     requires { (WORK ≤ length work.old) × (e.0 < ENTRIES) }
     ensures { Marked work.old work.new e.0 }
 {
-    let x = wide(e.0);
-    bitset::visit(&mut work[WRITTEN..MOVED], x);
+    bitset::visit(&mut work[WRITTEN..MOVED], e.0 as usize);
 }

@@ -9,8 +9,8 @@ ghost use Rattle.cache_entries.specs.Meaning.{Names, Whole};
 ghost use Rattle.cache_entries.specs.Effects.{atom_action, pair_action, Made};
 
 use allocator::NodePtr;
+use cache_entries::table;
 use cache_entries::table::{Key, insert_entry};
-use cache_entries::{Found, table};
 use work_layout::EntryIndex;
 
 // The entry with this key, found or made.
@@ -19,8 +19,8 @@ fn find_or_add(work: &mut [u32], key: Key, len: u64) -> EntryIndex
     ensures { Interned work.old work.new (first_word key) (second_word key) len result.0 }
 {
     match table::find_key(work, key) {
-        Found::At(e) => e,
-        Found::Nothing => insert_entry::insert(work, key, len),
+        Some(e) => e,
+        None => insert_entry::insert(work, key, len),
     }
 }
 

@@ -6,8 +6,6 @@ ghost use Rattle.cache_entries.specs.Effects.{Entered, Room};
 
 use crate::{enter_node, make_entry, meet_sentinel};
 use allocator::NodePtr;
-use cache_entries::Found;
-use words::wide;
 use work_layout::EntryIndex;
 
 // The entry of the tree of handle h, made where it is missing: children first, left before right.
@@ -21,8 +19,8 @@ pub fn enter(work: &mut [u32], h: NodePtr) -> EntryIndex
     if h.is_atom() {
         return enter_node::enter_atom(work, h);
     }
-    let i = wide(h.index());
-    if let Found::At(e) = cache_entries::map_of(work, i) {
+    let i = h.index() as usize;
+    if let Some(e) = cache_entries::map_of(work, i) {
         return e;
     }
     let a = cache_entries::left_of(work, i);

@@ -13,7 +13,6 @@ ghost use Rattle.cache_entries.specs.Meaning.{Names, Whole, unmapped};
 ghost use Rattle.cache_entries.specs.Effects.{Cleared, Updated};
 
 use allocator::NodePtr;
-use cache_entries::Found;
 use cache_parents::moved_parents;
 
 // The parents of the sentinel's present entry go to MOVED. How many there are; none where the sentinel was never met.
@@ -22,8 +21,8 @@ fn take_sentinel(work: &mut [u32]) -> usize
     ensures { Cleared work.old work.new result }
 {
     match cache_entries::sentinel_entry(work) {
-        Found::At(e) => moved_parents::take_parents(work, e),
-        Found::Nothing => 0,
+        Some(e) => moved_parents::take_parents(work, e),
+        None => 0,
     }
 }
 

@@ -1,21 +1,24 @@
--- What the words say of the cache that they hold: the entries of pairs and atoms.
+-- What the words say of the cache that they hold: the entry of an atom, and that of a node.
 -- Assumes nothing.
 use Prim.Native.Nat.{ℕ, ◌+◌, ◌<◌}
-use mathlib.Core.Path.{◌≡◌, sym, ap, ◌∙◌}
+use mathlib.Core.Path.{◌≡◌, refl, sym, ap, ◌∙◌}
 use mathlib.Core.Bool.{true, false≢true}
 use mathlib.Core.List.{List}
-use mathlib.Core.Option.{none, some}
+use mathlib.Core.Option.{Option, none, some}
+use Rattle.std.specs.Prelude.{Some, None}
+use Rattle.std.specs.Option.{unwrap_or}
 use native.Mathlib.Omega.{arith}
 use Rattle.words.specs.Words.{at}
 use Rattle.allocator.specs.Handle.{pair, node_of, is_atom}
 use Rattle.spec_session.specs.File.{File}
 use Rattle.spec_session.specs.Cache.{Entry, Cache, atom_key, find_key}
 use Rattle.spec_session.specs.Writer.{or_zero, atom_entry, pair_entry}
-use Rattle.work_layout.specs.Layout.{MAPS, USED, PAIR_COUNT}
+use Rattle.work_layout.specs.Layout.{USED, ENTRIES}
 use Rattle.work_layout.specs.Rows.{row_of, rows_of}
-use Rattle.cache_entries.specs.declared.table.Found.{Found}
+use Rattle.std.specs.Prelude as code
+use Rattle.work_layout.specs.declared.EntryIndex.{EntryIndex}
 use Rattle.cache_entries.specs.table.Effects.{find_row, option_of}
-use Rattle.cache_entries.proofs.table.Rows.{find_at, word_some}
+use Rattle.cache_entries.proofs.table.Rows.{find_at}
 use Rattle.cache_entries.specs.Meaning.{ATOM_KEY, bytes_named, entry_or_none, Tables, Whole, Holds}
 use Rattle.cache_entries.specs.Effects.{Stands}
 use Rattle.cache_entries.proofs.Keys.{find_atom}
@@ -23,35 +26,32 @@ use Rattle.cache_entries.specs.lookup.Effects.{PairEntry, AtomEntry, EntryOf}
 
 -- ---- what the getters give
 
--- The entry that a pair is mapped to, and entry 0 where it is mapped to none.
-module _ {w : List ℕ} {i : ℕ} (wh : Whole w) (h : i < at w PAIR_COUNT) (r : Found) (q : option_of r ≡ entry_or_none (at w (MAPS + i))) where
-  mapped_is : (f : File) (c : Cache) → Tables f w → Holds f w c → pair_entry c i ≡ or_zero (option_of r)
-  mapped_is f c t ho = ap or_zero (ho.mapped i (omega (arith, t.pair_count)) ∙ sym q)
-
-  pub pair_at : {e : ℕ} → option_of r ≡ some e → PairEntry w i e
-  pair_at {e} p =
-      let z = word_some (at w (MAPS + i)) e (sym p ∙ q) in
-      record { low = omega (arith, wh.maps i h, wh.sound.used); is = λ f c t ho. mapped_is f c t ho ∙ ap or_zero p }
-
-  pub pair_none : option_of r ≡ none → PairEntry w i 0
-  pair_none p = record { low = omega arith; is = λ f c t ho. mapped_is f c t ho ∙ ap or_zero p }
+-- Entry 0 stands for none.
+unwrapped : (r : code.Option EntryIndex) (d x : EntryIndex) → d.0 ≡ 0 → x ≡ unwrap_or r d → x.0 ≡ or_zero (option_of r)
+unwrapped (Some e) d x z q = ap (λ (y : EntryIndex). y.0) q
+unwrapped None d x z q = ap (λ (y : EntryIndex). y.0) q ∙ z
 
 -- The entry that a lookup gives, and entry 0 where it gives none.
-module _ {w : List ℕ} {h key : ℕ} (wh : Whole w) (s : Stands w h key) (r : Found) (q : option_of r ≡ find_row ATOM_KEY key (rows_of w)) where
+module _ {w : List ℕ} {h key : ℕ} (wh : Whole w) (s : Stands w h key) (r : code.Option EntryIndex) (q : option_of r ≡ find_row ATOM_KEY key (rows_of w)) where
   looked_up : (f : File) (c : Cache) → Tables f w → Holds f w c → atom_entry c (bytes_named f (node_of h)) ≡ or_zero (option_of r)
   looked_up f c t ho =
       ap (λ (b : List ℕ). or_zero (find_key (atom_key b) c.entries)) (sym (s.bytes f t))
       ∙ ap (λ (es : List Entry). or_zero (find_key (atom_key (bytes_named f (node_of key))) es)) ho.entries
       ∙ ap or_zero (find_atom f w t wh key s.first ∙ sym q)
 
-  pub atom_at : {e : ℕ} → option_of r ≡ some e → AtomEntry w h e
+  pub atom_or : (d x : EntryIndex) → d.0 ≡ 0 → x ≡ unwrap_or r d → AtomEntry w h x.0
   unfolding rows_of
-  atom_at {e} p =
-      let l = (find_at (at w USED) (row_of w) ATOM_KEY key e (sym q ∙ p)).0 in
-      record { low = omega (arith, wh.sound.used); is = λ f c t ho. looked_up f c t ho ∙ ap or_zero p }
+  atom_or d x z p = record { low = go (option_of r) refl; is = λ f c t ho. looked_up f c t ho ∙ sym is_zero }
+    where
+      is_zero : x.0 ≡ or_zero (option_of r)
+      is_zero = unwrapped r d x z p
 
-  pub atom_none : option_of r ≡ none → AtomEntry w h 0
-  atom_none p = record { low = omega arith; is = λ f c t ho. looked_up f c t ho ∙ ap or_zero p }
+      go : (o : Option ℕ) → option_of r ≡ o → x.0 < ENTRIES
+      go none s = let y : x.0 ≡ 0 = is_zero ∙ ap or_zero s in omega arith
+      go (some e) s =
+          let y : x.0 ≡ e = is_zero ∙ ap or_zero s in
+          let l = (find_at (at w USED) (row_of w) ATOM_KEY key e (sym q ∙ s)).0 in
+          omega (arith, wh.sound.used)
 
 -- ---- a node is an atom or a pair
 

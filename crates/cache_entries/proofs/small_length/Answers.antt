@@ -1,8 +1,6 @@
 -- `cache_entries::small_length` meets its contract.
 -- Assumes nothing.
-use Prim.Native.Nat.{ℕ, ◌+◌}
-use mathlib.Core.Path.{ap, ◌∙◌}
-use borrow.Author.Rules.{rules}
+use Rattle.std.proofs.Common.{ℕ, ◌+◌, ap, ◌∙◌, rules}
 use Rattle.cache_entries.proofs.Lengths.{small_one, small_more, small_few}
 use Rattle.cache_entries.proofs.small_length.Goals as goal
 

@@ -1,7 +1,9 @@
 -- The chains of the table of entries: what they rest on, and that a search needs to look at one chain alone.
 -- Assumes nothing.
-use Prim.Native.Nat.{ℕ, suc, ◌+◌, ◌-◌, ◌≤◌, ◌<◌}
-use mathlib.Core.Path.{◌≡◌, sym, ap, ◌∙◌}
+use Rattle.std.specs.Prelude.{Some, None}
+use Rattle.std.specs.Prelude as code
+use Prim.Native.Nat.{ℕ, zero, suc, ◌+◌, ◌-◌, ◌≤◌, ◌<◌}
+use mathlib.Core.Path.{◌≡◌, refl, sym, ap, ◌∙◌}
 use mathlib.Core.List.{List}
 use mathlib.Core.Option.{none, some}
 use native.Mathlib.Omega.{arith}
@@ -10,7 +12,9 @@ use Rattle.work_layout.specs.Layout.{USED, LEFT, RIGHT, NEXT, HEADS, PARENTS, EN
 use Rattle.work_layout.specs.Rows.{row_of, rows_of, slot_of, slot_at, prev, Chained, Distinct, Sound}
 use Rattle.work_layout.specs.Prev.{prev_le, prev_same}
 use Rattle.work_layout.proofs.Seek.{Seek, seek_first, seek_past, seek_here}
-use Rattle.cache_entries.specs.table.Effects.{find_row, HasKey}
+use Rattle.cache_entries.specs.table.Effects.{find_row, HasKey, option_of}
+use Rattle.cache_entries.specs.Meaning.{entry_or_none}
+use Rattle.work_layout.specs.declared.EntryIndex.{EntryIndex}
 use Rattle.cache_entries.proofs.table.Rows.{find_none, find_some}
 
 -- The chains, and that keys are distinct, rest on the words from LEFT to PARENTS, and on USED.
@@ -52,10 +56,7 @@ module _ (w : List ℕ) (so : Sound w) (l r s : ℕ) (q : s ≡ slot_of l r) whe
   pub seek_start : Sought w l r s (at w (HEADS + s))
   seek_start = rw (so.chained.heads s (omega arith)) (seek_first slot)
 
-  module _ (h e : ℕ) (k : Sought w l r s h) (ne : h ≡ 0 → ⊥) (he : e ≡ h - 1) where
-    is_suc : h ≡ suc e
-    is_suc = omega arith
-
+  module _ (h e : ℕ) (k : Sought w l r s h) (is_suc : h ≡ suc e) where
     low : e < at w USED
     low = omega (arith, k.low)
 
@@ -63,11 +64,10 @@ module _ (w : List ℕ) (so : Sound w) (l r s : ℕ) (q : s ≡ slot_of l r) whe
     next = so.chained.nexts e low ∙ ap (λ (x : ℕ). prev (slot_at w) x e) (seek_here e k is_suc)
 
     -- No earlier entry has the same key, so the last one is the first one.
-    pub seek_found : HasKey w e l r → some (h - 1) ≡ find_row l r (rows_of w)
+    pub seek_found : HasKey w e l r → some e ≡ find_row l r (rows_of w)
     unfolding rows_of
     seek_found t =
-        ap (λ (x : ℕ). some x) (sym he)
-        ∙ sym (find_some (at w USED) (row_of w) l r e low t.0 t.1 (λ i m a b. so.distinct.distinct i e m low (a ∙ sym t.0) (b ∙ sym t.1)))
+        sym (find_some (at w USED) (row_of w) l r e low t.0 t.1 (λ i m a b. so.distinct.distinct i e m low (a ∙ sym t.0) (b ∙ sym t.1)))
 
     pub seek_less : at w (NEXT + e) < h
     seek_less = let p = prev_le (slot_at w) s e in omega (arith, next)
@@ -78,3 +78,14 @@ module _ (w : List ℕ) (so : Sound w) (l r s : ℕ) (q : s ≡ slot_of l r) whe
 pub seek_none : (w : List ℕ) (l r s h : ℕ) → Sought w l r s h → h ≡ 0 → none ≡ find_row l r (rows_of w)
 unfolding rows_of
 seek_none w l r s h k e = sym (find_none (at w USED) (row_of w) l r (λ i m a b. k.passed i (omega arith) m (a, b)))
+
+-- The word that stands for an entry, or for none.
+abbrev pub head_of : code.Option EntryIndex → ℕ
+head_of (Some e) = suc e.0
+head_of None = 0
+
+pub head_is : (r : code.Option EntryIndex) (h : ℕ) → option_of r ≡ entry_or_none h → head_of r ≡ h
+head_is (Some e) zero p = absurd (cc)
+head_is (Some e) (suc h) p = let q : e.0 ≡ h = cc in ap suc q
+head_is None zero p = refl
+head_is None (suc h) p = absurd (cc)

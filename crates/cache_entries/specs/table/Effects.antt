@@ -1,12 +1,12 @@
 -- What each function on the entries of the tree cache leaves. All but the words of the entries, from USED to PARENTS' end, are as they were; `take_parents` writes MOVED too.
-use Rattle.std.specs.Prelude.{ℕ, ◌+◌, ◌*◌, ◌≤◌, ◌<◌, ◌≡◌, Bool, cond, ◌&&◌, List, [], ◌∷◌, ◌++◌, eqb, length}
+use Rattle.std.specs.Prelude.{ℕ, ◌+◌, ◌*◌, ◌≤◌, ◌<◌, ◌≡◌, Bool, cond, ◌&&◌, List, [], ◌∷◌, ◌++◌, eqb, length, Some, None}
+use Rattle.std.specs.Prelude as code
 use Rattle.std.proofs.Math.Option.{Option, none, some}
 use Rattle.words.specs.Words.{at}
 use Rattle.spec_session.specs.Cache.{later, add_parent, move_parents, no_parents}
 use Rattle.work_layout.specs.Layout.{MOVED, MAPS, USED, LEFT, RIGHT, SEEN, ENTRIES, MAX_PARENTS}
 use Rattle.work_layout.specs.Rows.{Row, rows_of, new_row, adjust_row, parents_of, moved_at, moved_of, Sound, all_counts}
-use Rattle.cache_entries.specs.declared.table.Found.{Found}
-use Rattle.cache_entries.specs.declared.table.Found.TheVariants.{At, Nothing}
+use Rattle.work_layout.specs.declared.EntryIndex.{EntryIndex}
 use Rattle.cache_entries.specs.declared.table.Key.{Key}
 use Rattle.cache_entries.specs.declared.table.Key.TheVariants.{Pair, Atom, Sentinel}
 use Rattle.cache_entries.specs.Meaning.{ATOM_KEY, SENTINEL_KEY}
@@ -28,9 +28,9 @@ find_row l r [] = none
 find_row l r (x ∷ xs) = cond (eqb x.left l && eqb x.right r) (some 0) (later (find_row l r xs))
 
 -- The number of the entry that is found.
-abbrev pub option_of : Found → Option ℕ
-option_of (At e) = some e.0
-option_of Nothing = none
+abbrev pub option_of : code.Option EntryIndex → Option ℕ
+option_of (Some e) = some e.0
+option_of None = none
 
 -- Nothing but the words of the entries is touched.
 pub record Kept (w w' : List ℕ) : Type 0 where

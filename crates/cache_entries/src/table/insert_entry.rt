@@ -7,7 +7,6 @@ ghost use Rattle.work_layout.specs.Rows.{rows_of, Sound};
 ghost use Rattle.cache_entries.specs.table.Effects.{first_word, second_word, find_row, Inserted};
 
 use crate::table::Key;
-use words::wide;
 use work_layout::EntryIndex;
 
 // A new entry with this key, which none has yet, and no parents.
@@ -20,7 +19,7 @@ pub fn insert(work: &mut [u32], key: Key, len: u64) -> EntryIndex
     let k = crate::table::words_of(key);
     let slot = work_layout::slot_of(k.left, k.right);
     let used = work[work_layout::USED];
-    let e = wide(used);
+    let e = used as usize;
     let head = work[work_layout::HEADS + slot];
     work[work_layout::LEFT + e] = k.left;
     work[work_layout::RIGHT + e] = k.right;

@@ -1,4 +1,4 @@
--- Laws of the stack: what a pop and two pops leave.
+-- Laws of the stack: what a pop leaves.
 -- Assumes nothing.
 use mathlib.Core.Path.{◌≡◌, sym, ap, ◌∙◌}
 use mathlib.Core.List.{List, ◌∷◌}
@@ -11,8 +11,8 @@ use Rattle.words.specs.Words.{at, WORK}
 use Rattle.work_layout.specs.Layout.{STACK, BELOW, TOPS, ENTRIES}
 use Rattle.work_layout.specs.Rows.{prev, stack_of}
 use Rattle.work_layout.specs.Prev.{prev_same, prev_past}
-use Rattle.cache_stack.specs.Effects.{Stacked, Popped, PoppedTwo}
-use Rattle.cache_stack.proofs.Stacks.{stack_same, stack_more, only_both}
+use Rattle.cache_stack.specs.Effects.{Stacked, Popped}
+use Rattle.cache_stack.proofs.Stacks.{stack_same, stack_more}
 
 module _ (w : List ℕ) (d x : ℕ) (long : WORK ≤ length w) (s : Stacked w d) (some_left : 0 < d) (is-top : x ≡ at w (STACK + (d - 1))) where
   pop_small : x < ENTRIES
@@ -68,14 +68,3 @@ module _ (w : List ℕ) (d x : ℕ) (long : WORK ≤ length w) (s : Stacked w d)
         places = λ i l. pop_place i (omega arith);
         only = record { low = λ k l. pop_other k (omega arith); high = λ k l. pop_other k (omega (arith, pop_small)) };
       }
-
-pub popped_two : (w v w' : List ℕ) (d : ℕ) → 2 ≤ d → Popped w v d → Popped v w' (d - 1) → PoppedTwo w w' d
-popped_two w v w' d h a b =
-    let e : d - 1 - 1 ≡ d - 2 = omega arith in
-    let s : stack_of v (d - 1) ≡ at v (STACK + (d - 2)) ∷ stack_of w' (d - 2) = rw e at b.stack in
-    record {
-      stacked = rw e at b.stacked;
-      stack = a.stack ∙ ap {B = List ℕ} (λ r. at w (STACK + (d - 1)) ∷ r)
-          (s ∙ ap {B = List ℕ} (λ x. x ∷ stack_of w' (d - 2)) (a.places (d - 2) (omega arith)));
-      only = only_both w v w' a.only b.only;
-    }
