@@ -1,5 +1,5 @@
 // A sentinel's parents in work, taken and placed at the end of a root's list.
-ghost use Rattle.std.specs.Prelude.{◌≡◌, ℕ, ◌+◌, ◌-◌, ◌*◌, ◌≤◌, ◌<◌, length};
+ghost use Rattle.std.specs.Prelude.{◌≡◌, ℕ, ◌+◌, ◌*◌, ◌≤◌, ◌<◌, length};
 ghost use Rattle.words.specs.Words.{at, WORK};
 ghost use Rattle.work_layout.specs.Layout.{USED, ENTRIES, MAX_PARENTS};
 ghost use Rattle.work_layout.specs.Rows.{link_at, moved_at, Sound};
@@ -16,11 +16,9 @@ fn save_parents(work: &mut [u32], e: EntryIndex, n: usize)
         × ((i : ℕ) → i < n → link_at work.old e.0 i < 2 * ENTRIES) }
     ensures { Saved work.old work.new e.0 n }
 {
-    let mut i = 0;
-    while i < n {
+    for i in 0..n {
         let p = parents::parent_at(work, e, i);
         parents::set_moved(work, i, p);
-        i += 1;
     }
 }
 
@@ -31,15 +29,8 @@ pub fn take_parents(work: &mut [u32], e: EntryIndex) -> usize
 {
     let n = parents::count_of(work, e);
     save_parents(work, e, n);
-    work[work_layout::COUNTS + words::wide(e.0)] = 0;
+    work[work_layout::COUNTS + e.0 as usize] = 0;
     n
-}
-
-// How many are beyond 100.
-fn over(n: usize) -> usize
-    ensures { result ≡ n - MAX_PARENTS }
-{
-    if n <= MAX_PARENTS { 0 } else { n - MAX_PARENTS }
 }
 
 // The first parents of entry e are dropped; the n after them go to the front.
@@ -48,11 +39,9 @@ fn drop_parents(work: &mut [u32], e: EntryIndex, dropped: usize, n: usize)
     requires by_index { (i : ℕ) → i < n → link_at work.old e.0 (dropped + i) < 2 * ENTRIES }
     ensures { Filled work.old work.new e.0 0 n (λ i. link_at work.old e.0 (dropped + i)) }
 {
-    let mut i = 0;
-    while i < n {
+    for i in 0..n {
         let p = parents::parent_at(work, e, dropped + i);
         parents::set_parent(work, e, i, p);
-        i += 1;
     }
 }
 
@@ -64,11 +53,9 @@ fn append_moved(work: &mut [u32], e: EntryIndex, kept: usize, n: usize)
         × ((i : ℕ) → i < n → moved_at work.old i < 2 * ENTRIES) }
     ensures { Filled work.old work.new e.0 kept n (moved_at work.old) }
 {
-    let mut i = 0;
-    while i < n {
+    for i in 0..n {
         let p = parents::moved_at(work, i);
         parents::set_parent(work, e, kept + i, p);
-        i += 1;
     }
 }
 
@@ -78,9 +65,9 @@ pub fn place_parents(work: &mut [u32], e: EntryIndex, moved: usize)
     ensures { Placed work.old work.new e.0 moved }
 {
     let n = parents::count_of(work, e);
-    let dropped = over(n + moved);
+    let dropped = (n + moved).saturating_sub(MAX_PARENTS);
     let kept = n - dropped;
     drop_parents(work, e, dropped, kept);
     append_moved(work, e, kept, moved);
-    work[work_layout::COUNTS + words::wide(e.0)] = (kept + moved) as u32;
+    work[work_layout::COUNTS + e.0 as usize] = (kept + moved) as u32;
 }

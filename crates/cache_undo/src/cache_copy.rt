@@ -6,7 +6,7 @@ ghost use Rattle.work_layout.specs.Rows.{Sound, all_counts, further, all_further
 ghost use Rattle.cache_undo.specs.cache_copy.Effects.{ListSaved, ListsSaved, CacheSaved};
 ghost use Rattle.cache_undo.specs.cache_copy.Effects.{TakenOff, ListBrought, ListsBrought, Bringable, CacheBrought};
 
-use words::{slices, wide};
+use words::slices;
 use work_layout::{COPIES, COPY, COUNTS, EntryIndex, MAPS, PAIR_COUNT, USED, parents};
 
 // Where the cache lies in a copy of undo, after the marks: how many entries, the map of pairs, how many parents each entry has, the first word of each entry's
@@ -26,12 +26,11 @@ fn save_list(work: &mut [u32], e: EntryIndex, n: usize, to: usize) -> usize
     requires { (WORK ≤ length work.old) × (e.0 < ENTRIES) × (n ≤ MAX_PARENTS) × (SEEN ≤ to) × (to + further n ≤ WORK) }
     ensures { (result ≡ to + further n) × ListSaved work.old work.new e.0 (further n) to }
 {
-    let mut i = 0;
-    while 2 * i + 2 < n {
+    let further = n.saturating_sub(1) / 2;
+    for i in 0..further {
         work[to + i] = parents::links_at(work, e, i + 1);
-        i += 1;
     }
-    to + i
+    to + further
 }
 
 // The further words of the parents of the first n entries stand from `to` on too, those of one entry after the other.
@@ -43,13 +42,11 @@ fn save_lists(work: &mut [u32], n: usize, to: usize)
         × (to + all_further work.old n ≤ WORK) }
     ensures { ListsSaved work.old work.new n to }
 {
-    let mut e = 0;
     let mut next = to;
-    while e < n {
+    for e in 0..n {
         let entry = EntryIndex(e as u32);
         let count = parents::count_of(work, entry);
         next = save_list(work, entry, count, next);
-        e += 1;
     }
 }
 
@@ -60,8 +57,8 @@ pub fn save(work: &mut [u32], k: usize)
 {
     let to = COPIES + k * COPY;
     let used = work[USED];
-    let n = wide(used);
-    let pairs = wide(work[PAIR_COUNT]);
+    let n = used as usize;
+    let pairs = work[PAIR_COUNT] as usize;
     work[to + COPIED_USED] = used;
     slices::copy_within(work, MAPS, to + COPIED_MAPS, pairs);
     slices::copy_within(work, COUNTS, to + COPIED_COUNTS, n);
@@ -74,9 +71,8 @@ fn take_off(work: &mut [u32], n: usize)
     requires { (Sound work.old) × (n ≤ at work.old USED) }
     ensures { TakenOff work.old work.new n }
 {
-    let mut e = wide(work[USED]);
-    while e > n {
-        e -= 1;
+    let used = work[USED] as usize;
+    for e in (n..used).rev() {
         let slot = work_layout::slot_of(work[work_layout::LEFT + e], work[work_layout::RIGHT + e]);
         work[work_layout::HEADS + slot] = work[work_layout::NEXT + e];
         work[COUNTS + e] = 0;
@@ -89,13 +85,12 @@ fn bring_list(work: &mut [u32], e: EntryIndex, n: usize, from: usize) -> usize
     requires { (WORK ≤ length work.old) × (e.0 < ENTRIES) × (n ≤ MAX_PARENTS) × (SEEN ≤ from) × (from + further n ≤ WORK) }
     ensures { (result ≡ from + further n) × ListBrought work.old work.new e.0 (further n) from }
 {
-    let mut i = 0;
-    while 2 * i + 2 < n {
+    let further = n.saturating_sub(1) / 2;
+    for i in 0..further {
         let word = work[from + i];
         parents::set_links(work, e, i + 1, word);
-        i += 1;
     }
-    from + i
+    from + further
 }
 
 // The words that stand from `from` on, those of one entry after the other, become the further words of the parents of the first n entries.
@@ -107,13 +102,11 @@ fn bring_lists(work: &mut [u32], n: usize, from: usize)
         × (from + all_further work.old n ≤ WORK) }
     ensures { ListsBrought work.old work.new n from }
 {
-    let mut e = 0;
     let mut next = from;
-    while e < n {
+    for e in 0..n {
         let entry = EntryIndex(e as u32);
         let count = parents::count_of(work, entry);
         next = bring_list(work, entry, count, next);
-        e += 1;
     }
 }
 
@@ -123,8 +116,8 @@ pub fn bring(work: &mut [u32], k: usize)
     ensures { (v : List ℕ) → Bringable v work.old k → CacheBrought v work.old work.new }
 {
     let from = COPIES + k * COPY;
-    let n = wide(work[from + COPIED_USED]);
-    let pairs = wide(work[PAIR_COUNT]);
+    let n = work[from + COPIED_USED] as usize;
+    let pairs = work[PAIR_COUNT] as usize;
     take_off(work, n);
     slices::copy_within(work, from + COPIED_MAPS, MAPS, pairs);
     slices::copy_within(work, from + COPIED_COUNTS, COUNTS, n);

@@ -21,10 +21,8 @@ fn pop_all(work: &mut [u32], depth: usize)
     requires { (WORK ≤ length work.old) × (Stacked work.old depth) }
     ensures { PoppedAll work.old work.new }
 {
-    let mut d = depth;
-    while d > 0 {
-        stack_pop::pop(work, d);
-        d -= 1;
+    for left in (0..depth).rev() {
+        stack_pop::pop(work, left + 1);
     }
 }
 
@@ -38,11 +36,9 @@ fn push_all(work: &mut [u32], from: usize, depth: usize)
         × ((i : ℕ) → i < depth → at work.old (from + i) < ENTRIES) }
     ensures { PushedAll work.old work.new from depth }
 {
-    let mut i = 0;
-    while i < depth {
+    for i in 0..depth {
         let e = EntryIndex(work[from + i]);
         cache_stack::push(work, i, e);
-        i += 1;
     }
 }
 

@@ -1,10 +1,9 @@
 -- `cache_entries::atom_key` meets its contract: the first listed atom with the same bytes, or the small atom itself.
 -- Assumes nothing.
-use Rattle.std.proofs.Common.{ℕ, ◌+◌, ◌≡◌, true, sym, ap, ◌∙◌}
+use Rattle.std.proofs.Common.{ℕ, ◌+◌, sym, ap, ◌∙◌}
 use Rattle.work_layout.specs.Layout.{FIRST}
-use Rattle.allocator.specs.Handle.{listed_atom, node_of, handle_of}
+use Rattle.allocator.specs.Handle.{listed_atom, handle_of}
 use Rattle.words.specs.Words.{at}
-use Rattle.cache_entries.specs.Effects.{is_listed}
 use Rattle.cache_entries.proofs.Atoms.{stands_listed}
 use Rattle.cache_entries.proofs.atom_key.Goals as goal
 

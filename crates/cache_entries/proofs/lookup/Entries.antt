@@ -1,6 +1,6 @@
 -- What the words say of the cache that they hold: the entry of an atom, and that of a node.
 -- Assumes nothing.
-use Prim.Native.Nat.{ℕ, ◌+◌, ◌<◌}
+use Prim.Native.Nat.{ℕ, ◌<◌}
 use mathlib.Core.Path.{◌≡◌, refl, sym, ap, ◌∙◌}
 use mathlib.Core.Bool.{true, false≢true}
 use mathlib.Core.List.{List}
@@ -12,14 +12,14 @@ use Rattle.words.specs.Words.{at}
 use Rattle.allocator.specs.Handle.{pair, node_of, is_atom}
 use Rattle.spec_session.specs.File.{File}
 use Rattle.spec_session.specs.Cache.{Entry, Cache, atom_key, find_key}
-use Rattle.spec_session.specs.Writer.{or_zero, atom_entry, pair_entry}
+use Rattle.spec_session.specs.Writer.{or_zero, atom_entry}
 use Rattle.work_layout.specs.Layout.{USED, ENTRIES}
 use Rattle.work_layout.specs.Rows.{row_of, rows_of}
 use Rattle.std.specs.Prelude as code
 use Rattle.work_layout.specs.declared.EntryIndex.{EntryIndex}
 use Rattle.cache_entries.specs.table.Effects.{find_row, option_of}
 use Rattle.cache_entries.proofs.table.Rows.{find_at}
-use Rattle.cache_entries.specs.Meaning.{ATOM_KEY, bytes_named, entry_or_none, Tables, Whole, Holds}
+use Rattle.cache_entries.specs.Meaning.{ATOM_KEY, bytes_named, Tables, Whole, Holds}
 use Rattle.cache_entries.specs.Effects.{Stands}
 use Rattle.cache_entries.proofs.Keys.{find_atom}
 use Rattle.cache_entries.specs.lookup.Effects.{PairEntry, AtomEntry, EntryOf}

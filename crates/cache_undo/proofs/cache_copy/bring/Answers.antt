@@ -1,115 +1,38 @@
 -- `cache_undo::cache_copy::bring` meets its contract: the newest entries are taken off, and the map of pairs, the counts and the words of the parents are those of the copy.
 -- Assumes nothing.
-use mathlib.Core.Path.{◌∙◌}
-use native.Mathlib.Omega.{arith}
-use borrow.Author.Rules.{rules}
-use Rattle.work_layout.specs.Layout.{MAPS, COUNTS, PARENTS}
+use Rattle.std.proofs.Common.{◌≡◌, List, ℕ, refl, arith}
+use Rattle.words.specs.Words.{at}
+use Rattle.work_layout.specs.Layout.{MAPS, COUNTS, PARENTS, PAIR_COUNT}
 use Rattle.words.proofs.Copies.{Copied, copied}
-use Rattle.cache_undo.specs.cache_copy.Effects.{copied_maps, copied_counts, copied_firsts}
+use Rattle.cache_undo.specs.cache_copy.Effects.{copied_used, copied_maps, copied_counts, copied_firsts}
 use Rattle.cache_undo.proofs.cache_copy.BringLaws.{lists_asked, cache_brought}
 use Rattle.cache_undo.proofs.cache_copy.bring.Goals as goal
+use Rattle.cache_undo.proofs.cache_copy.bring.Goals.{After-bring_first_links}
 
-pub bring_first_links-requires : goal.bring_first_links-requires
-bring_first_links-requires c =
-    let maps-copied : Copied c.take_off.new.work c.copy_within.new.words (copied_maps c.args.k) MAPS c.wide-pairs.result =
-    let o = c in
-    let s = o in
-    let b = s.requires.1.1 in
-    let m = o.wide-pairs in
-    copied _ (copied_maps s.args.k) MAPS m.result (omega (arith, b.sound.long, o.take_off.ensures.len, m.ensures, b.few_pairs))
-    (omega (arith, b.sound.long, o.take_off.ensures.len, m.ensures, b.few_pairs)) _ c.copy_within.ensures in
-    let counts-copied : Copied c.copy_within.new.words c.copy_within-2.new.words (copied_counts c.args.k) COUNTS c.wide-n.result =
-    let m = c in
-    let o = m in
-    let s = o in
-    let b = s.requires.1.1 in
-    let n = o.wide-n in
-    let l = maps-copied.len in
-    copied _ (copied_counts s.args.k) COUNTS n.result (omega (arith, b.sound.long, o.take_off.ensures.len, n.ensures, b.copied.used, b.then_sound.used))
-    (omega (arith, b.sound.long, o.take_off.ensures.len, n.ensures, b.copied.used, b.then_sound.used)) _ c.copy_within-2.ensures in
-    let d = c in
-    let m = d in
-    let o = m in
-    let s = o in
-    let b = s.requires.1.1 in
-    let n = o.wide-n in
-    let l = counts-copied.len ∙ maps-copied.len in (
-      omega (arith, b.sound.long, o.take_off.ensures.len),
-      omega (arith, n.ensures, b.copied.used, b.then_sound.used),
-      omega arith,
-      omega (arith, s.requires.0, n.ensures, b.copied.used, b.then_sound.used),
-    )
+-- The map of pairs, the counts and the first words of the parents, as they were copied back. w₁ is without the newest entries.
+record Copies (w w₁ w₂ w₃ w₄ : List ℕ) (k : ℕ) : Type 0 where
+  maps : Copied w₁ w₂ (copied_maps k) MAPS (at w PAIR_COUNT)
+  counts : Copied w₂ w₃ (copied_counts k) COUNTS (at w (copied_used k))
+  firsts : Copied w₃ w₄ (copied_firsts k) PARENTS (at w (copied_used k))
+
+copies : (c : After-bring_first_links)
+    → Copies c.args.work.now c.take_off.new.work c.copy_within.new.words c.copy_within-2.new.words c.bring_first_links.new.work c.args.k
+copies c =
+    let b = c.requires.1.1 in
+    let n = b.copied.used in
+    let u = b.then_sound.used in
+    record {
+      maps = copied _ (copied_maps c.args.k) MAPS (at c.args.work.now PAIR_COUNT) (omega (arith, b.sound.long, b.few_pairs)) (omega (arith, b.sound.long, b.few_pairs)) _ c.copy_within.ensures;
+      counts = copied _ (copied_counts c.args.k) COUNTS (at c.args.work.now (copied_used c.args.k)) (omega (arith, b.sound.long, n, u)) (omega (arith, b.sound.long, n, u)) _ c.copy_within-2.ensures;
+      firsts = copied _ (copied_firsts c.args.k) PARENTS (at c.args.work.now (copied_used c.args.k)) (omega (arith, b.sound.long, n, u)) (omega (arith, b.sound.long, n, u)) _ c.bring_first_links.ensures;
+    }
 
 pub bring_lists-requires : goal.bring_lists-requires
 bring_lists-requires c =
-    let maps-copied : Copied c.take_off.new.work c.copy_within.new.words (copied_maps c.args.k) MAPS c.wide-pairs.result =
-    let o = c in
-    let s = o in
-    let b = s.requires.1.1 in
-    let m = o.wide-pairs in
-    copied _ (copied_maps s.args.k) MAPS m.result (omega (arith, b.sound.long, o.take_off.ensures.len, m.ensures, b.few_pairs))
-    (omega (arith, b.sound.long, o.take_off.ensures.len, m.ensures, b.few_pairs)) _ c.copy_within.ensures in
-    let counts-copied : Copied c.copy_within.new.words c.copy_within-2.new.words (copied_counts c.args.k) COUNTS c.wide-n.result =
-    let m = c in
-    let o = m in
-    let s = o in
-    let b = s.requires.1.1 in
-    let n = o.wide-n in
-    let l = maps-copied.len in
-    copied _ (copied_counts s.args.k) COUNTS n.result (omega (arith, b.sound.long, o.take_off.ensures.len, n.ensures, b.copied.used, b.then_sound.used))
-    (omega (arith, b.sound.long, o.take_off.ensures.len, n.ensures, b.copied.used, b.then_sound.used)) _ c.copy_within-2.ensures in
-    let firsts-copied : let d = c in
-    let o = d in
-    Copied d.copy_within-2.new.words c.bring_first_links.new.work (copied_firsts o.args.k) PARENTS o.wide-n.result =
-    let d = c in
-    let m = d in
-    let o = m in
-    let s = o in
-    let b = s.requires.1.1 in
-    let n = o.wide-n in
-    let l = counts-copied.len ∙ maps-copied.len in
-    copied _ (copied_firsts s.args.k) PARENTS n.result (omega (arith, b.sound.long, o.take_off.ensures.len, n.ensures, b.copied.used, b.then_sound.used))
-    (omega (arith, b.sound.long, o.take_off.ensures.len, n.ensures, b.copied.used, b.then_sound.used)) _ c.bring_first_links.ensures in
-    let f = c in
-    let d = f in
-    let m = d in
-    let o = m in
-    let s = o in
-    let n = o.wide-n in
-    lists_asked s.requires.1.0 s.args.work.now _ _ _ _ s.args.k n.result _ s.requires.0 s.requires.1.1 n.ensures o.wide-pairs.ensures
-    o.take_off.ensures maps-copied counts-copied
-    firsts-copied
+    let m = copies (goal.at.bring_lists-requires c).After-bring_first_links in
+    lists_asked c.requires.1.0 c.args.work.now _ _ _ _ c.args.k _ _ c.requires.0 c.requires.1.1 refl refl c.take_off.ensures m.maps m.counts m.firsts
 
 pub returns : goal.returns
 returns c v b =
-    let maps-copied : Copied c.take_off.new.work c.copy_within.new.words (copied_maps c.args.k) MAPS c.wide-pairs.result =
-    let o = c in
-    let s = o in
-    let b = s.requires.1.1 in
-    let m = o.wide-pairs in
-    copied _ (copied_maps s.args.k) MAPS m.result (omega (arith, b.sound.long, o.take_off.ensures.len, m.ensures, b.few_pairs))
-    (omega (arith, b.sound.long, o.take_off.ensures.len, m.ensures, b.few_pairs)) _ c.copy_within.ensures in
-    let counts-copied : Copied c.copy_within.new.words c.copy_within-2.new.words (copied_counts c.args.k) COUNTS c.wide-n.result =
-    let m = c in
-    let o = m in
-    let s = o in
-    let b = s.requires.1.1 in
-    let n = o.wide-n in
-    let l = maps-copied.len in
-    copied _ (copied_counts s.args.k) COUNTS n.result (omega (arith, b.sound.long, o.take_off.ensures.len, n.ensures, b.copied.used, b.then_sound.used))
-    (omega (arith, b.sound.long, o.take_off.ensures.len, n.ensures, b.copied.used, b.then_sound.used)) _ c.copy_within-2.ensures in
-    let firsts-copied : let d = c in
-    let o = d in
-    Copied d.copy_within-2.new.words c.bring_first_links.new.work (copied_firsts o.args.k) PARENTS o.wide-n.result =
-    let d = c in
-    let m = d in
-    let o = m in
-    let s = o in
-    let b = s.requires.1.1 in
-    let n = o.wide-n in
-    let l = counts-copied.len ∙ maps-copied.len in
-    copied _ (copied_firsts s.args.k) PARENTS n.result (omega (arith, b.sound.long, o.take_off.ensures.len, n.ensures, b.copied.used, b.then_sound.used))
-    (omega (arith, b.sound.long, o.take_off.ensures.len, n.ensures, b.copied.used, b.then_sound.used)) _ c.bring_first_links.ensures in
-    cache_brought v c.args.work.now _ _ _ _ c.args.k c.wide-n.result _ c.requires.0 b c.wide-n.ensures c.wide-pairs.ensures
-    c.take_off.ensures maps-copied counts-copied firsts-copied _
-    c.bring_lists.ensures
+    let m = copies (goal.at.returns c).After-bring_first_links in
+    cache_brought v c.args.work.now _ _ _ _ c.args.k _ _ c.requires.0 b refl refl c.take_off.ensures m.maps m.counts m.firsts _ c.bring_lists.ensures
