@@ -9,33 +9,14 @@ use lib.ListN.{length, get_or}
 use borrow.Author.Tests.{ltb-true}
 use Rattle.words.specs.Lists.{same, same_eq, same_refl}
 use Rattle.words.specs.Words.{at}
-use Rattle.atom.specs.Write.{serialized_length}
-use Rattle.allocator.specs.declared.ObjectType.{ObjectType}
-use Rattle.allocator.specs.declared.ObjectType.TheVariants.{Pair, Bytes, SmallAtom, Unknown}
-use Rattle.allocator.specs.Handle.{Node, pair, listed_atom, small_atom, unknown, node_of, handle_of, index_of, is_atom, object_type_of}
+use Rattle.allocator.specs.Handle.{Node, pair, listed_atom, small_atom, unknown, node_of, handle_of, index_of, is_atom}
 use Rattle.allocator.specs.HandleLaws.{index_of_handle, node_of_listed_atom}
-use Rattle.allocator.specs.SmallAtom.{small_bytes}
 use Rattle.spec_session.specs.File.{named}
-use Rattle.work_layout.specs.Layout.{FIRST, ATOM_LENGTHS, ATOM_COUNT, PAIR_COUNT}
+use Rattle.work_layout.specs.Layout.{FIRST, ATOM_COUNT, PAIR_COUNT}
 use Rattle.cache_entries.specs.Meaning.{bytes_named, first_same, Names, FirstOf, Whole}
-use Rattle.cache_entries.specs.Effects.{is_listed, Stands, Measured}
+use Rattle.cache_entries.specs.Effects.{is_listed, Stands}
 
 -- ---- which kind of atom
-
-abbrev type_is_listed : ObjectType → Bool
-type_is_listed Pair = false
-type_is_listed Bytes = true
-type_is_listed SmallAtom = false
-type_is_listed Unknown = false
-
-listed_of_type : (n : Node) → type_is_listed (object_type_of n) ≡ is_listed n
-listed_of_type (pair i) = refl
-listed_of_type (listed_atom i) = refl
-listed_of_type (small_atom v) = refl
-listed_of_type (unknown k i) = refl
-
-pub listed_by_type : (n : Node) (t u : ObjectType) → t ≡ object_type_of n → t ≡ u → type_is_listed u ≡ is_listed n
-listed_by_type n t u e f = ap type_is_listed (sym f ∙ e) ∙ listed_of_type n
 
 pub listed_is : (n : Node) → is_listed n ≡ true → n ≡ listed_atom (index_of n)
 listed_is (pair i) e = absurd (false≢true e)
@@ -99,23 +80,3 @@ module _ (w : List ℕ) (h : ℕ) (wh : Whole w) (n : Names w (at w PAIR_COUNT) 
 
       is : node_of r ≡ listed_atom (at w (FIRST + index_of (node_of h)))
       is = ap node_of e ∙ node_of_listed_atom (at w (FIRST + index_of (node_of h))) first_few
-
-  pub measured_listed : (r : ℕ) → r ≡ at w (ATOM_LENGTHS + index_of (node_of h)) → Measured w h r
-  measured_listed r e =
-      record {
-        measured = λ f t.
-            let c = t.atom_count in
-            e ∙ t.lengths (index_of (node_of h)) (omega (arith, listed_low)) ∙ ap (λ (m : Node). serialized_length (bytes_named f m)) (sym is_atom_i);
-      }
-
--- ---- a small atom
-
-module _ (w : List ℕ) (h : ℕ) (l : is_listed (node_of h) ≡ false) (a : is_atom (node_of h) ≡ true) where
-  is_small : node_of h ≡ small_atom (index_of (node_of h))
-  is_small = small_is (node_of h) l a
-
-  pub stands_small : Stands w h h
-  stands_small = record { first = subst (FirstOf w) (sym is_small) tt; bytes = λ f t. refl }
-
-  pub measured_small : (r : ℕ) → r ≡ serialized_length (small_bytes (index_of (node_of h))) → Measured w h r
-  measured_small r e = record { measured = λ f t. e ∙ ap (λ (m : Node). serialized_length (bytes_named f m)) (sym is_small) }

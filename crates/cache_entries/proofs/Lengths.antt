@@ -1,6 +1,6 @@
--- The length of a pair, stopped at 2^64 - 1, and that of a small atom.
+-- The length of a small atom.
 -- Assumes nothing.
-use Prim.Native.Nat.{ℕ, zero, suc, ◌+◌, ◌-◌, ◌^◌, ◌≤◌, ◌<◌}
+use Prim.Native.Nat.{ℕ, zero, suc, ◌+◌, ◌^◌, ◌≤◌, ◌<◌}
 use mathlib.Core.Path.{◌≡◌, refl, sym, ap, ◌∙◌}
 use mathlib.Core.Bool.{true, false}
 use mathlib.Core.List.{List, [], ◌∷◌}
@@ -15,25 +15,6 @@ use Rattle.atom.specs.PrefixLaws.{carries_width, single_one, single_other}
 use Rattle.atom.specs.WriteLaws.{width_of_single, width_of_sized, length_some}
 use Rattle.allocator.specs.SmallAtom.{len_for_value, small_bytes}
 use Rattle.allocator.specs.SmallAtomLaws.{len_at_most, len_at_least, number_small_bytes, length_small_bytes, small_bytes_nil}
-use Rattle.spec_session.specs.Cache.{pair_length}
-
--- ---- a pair
-
-pub no_right : (a b : ℕ) → b ≡ 0 → 0 ≡ pair_length a b
-no_right zero b e = refl
-no_right (suc a) b e = rw e refl
-
-pub stops : (a b : ℕ) → (a ≡ 0 → ⊥) → (b ≡ 0 → ⊥) → 18446744073709551615 - a ≤ b → 18446744073709551615 ≡ pair_length a b
-stops zero b p q h = absurd (p refl)
-stops (suc a) zero p q h = absurd (q refl)
-stops (suc a) (suc b) p q h = omega arith
-
-pub sums : (a b : ℕ) → (a ≡ 0 → ⊥) → (b ≡ 0 → ⊥) → b < 18446744073709551615 - a → a + b + 1 ≡ pair_length a b
-sums zero b p q h = absurd (p refl)
-sums (suc a) zero p q h = absurd (q refl)
-sums (suc a) (suc b) p q h = omega arith
-
--- ---- a small atom
 
 one_byte : (bs : List ℕ) (v : ℕ) → number bs ≡ v → length bs ≤ 1 → 0 < v → (length bs ≡ 1) × (get_or bs 0 0 ≡ v)
 unfolding number_after

@@ -62,7 +62,7 @@ pub fn is_sentinel(work: &[u32], h: NodePtr) -> bool
 pub fn is_listed(h: NodePtr) -> bool
     ensures { result ≡ is_listed (node_of h.0) }
 {
-    matches!(h.object_type(), ObjectType::Bytes)
+    h.object_type() == ObjectType::Bytes
 }
 
 // The first listed atom with the bytes of listed atom i.

@@ -23,7 +23,7 @@ pub fn length_of(work: &[u32], e: EntryIndex) -> u64
 }
 
 // A key: the entries of a pair's sides; the handle of an atom; a sentinel's own entry.
-#[derive(Clone, Copy)]
+#[derive(Clone, Copy, Debug, PartialEq, Eq)]
 pub enum Key {
     Pair(EntryIndex, EntryIndex),
     Atom(NodePtr),

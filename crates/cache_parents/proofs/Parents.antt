@@ -10,7 +10,7 @@ use lib.Dec.{ltb}
 use lib.ListN.{length, set, length-set}
 use lib.Seq.{get_or-set_same, get_or-set_other}
 use borrow.Author.Tests.{lt-ltb, le-ltb}
-use Rattle.words.specs.Words.{at, tabulate, WORK}
+use Rattle.words.specs.Words.{at, tabulate}
 use Rattle.words.proofs.Words.{length_tabulate, tabulate_more, tabulate_set}
 use Rattle.spec_session.specs.Cache.{add_parent}
 use Rattle.work_layout.specs.Layout.{USED, COUNTS, ENTRIES, MAX_PARENTS}
@@ -18,10 +18,6 @@ use Rattle.work_layout.specs.Rows.{link_at, parent_of, parents_of, Sound}
 use Rattle.work_layout.specs.Parents.{link_same, ParentSet}
 use Rattle.cache_entries.specs.table.Effects.{ParentAdded}
 use Rattle.cache_entries.proofs.table.Single.{RowOnly, row_used, row_sound, row_rows, row_keys, row_counts}
-
--- What the count of an entry's parents asks for.
-pub count_asks : {w : List ℕ} {e : ℕ} → Sound w → e < at w USED → (WORK ≤ length w) × (e < ENTRIES) × (at w (COUNTS + e) ≤ MAX_PARENTS)
-count_asks {w} {e} s h = let l : e < ENTRIES = omega (arith, s.used) in (s.long, l, s.counts e l)
 
 -- A store of a count leaves all parents.
 pub count_links : (w : List ℕ) (e v d i : ℕ) → e < ENTRIES → d < ENTRIES → i < MAX_PARENTS → link_at (set w (COUNTS + e) v) d i ≡ link_at w d i

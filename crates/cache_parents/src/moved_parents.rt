@@ -8,6 +8,8 @@ ghost use Rattle.cache_parents.specs.Lists.{Saved, Filled};
 
 use work_layout::{EntryIndex, MAX_PARENTS, parents};
 
+// Three loops move parents between two places. They stay three: a loop for any two places is no plainer, it takes both as closures with their laws.
+
 // The first n parents of entry e go to MOVED.
 fn save_parents(work: &mut [u32], e: EntryIndex, n: usize)
     requires { (WORK ≤ length work.old)

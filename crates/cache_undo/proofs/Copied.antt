@@ -2,11 +2,11 @@
 -- Assumes nothing.
 use mathlib.Core.Path.{◌≡◌, ◌∙◌}
 use mathlib.Core.List.{List}
-use Prim.Native.Nat.{ℕ, ◌+◌, ◌≤◌, ◌<◌}
+use Prim.Native.Nat.{ℕ, ◌+◌, ◌≤◌}
 use native.Mathlib.Omega.{arith}
 use Rattle.words.specs.Words.{at}
 use Rattle.words.proofs.Copies.{Copied}
-use Rattle.work_layout.specs.Layout.{OPEN, STACK, WRITTEN, MOVED, COPIES, ENTRIES}
+use Rattle.work_layout.specs.Layout.{OPEN, STACK, WRITTEN, MOVED, COPIES}
 use Rattle.cache_stack.proofs.Stacks.{stacked_same}
 use Rattle.cache_undo.specs.undo_state.Effects.{copied_open, copied_stack, copied_marks}
 use Rattle.cache_undo.specs.Effects.{PoppedAll, PushedAll, Restored}
@@ -36,8 +36,3 @@ module _ {w t u v w' : List ℕ} (k : ℕ) {opens d : ℕ} (short : opens ≤ 40
         later = λ j l m. restore_kept j (λ q. l) (λ q. omega arith) ∙ back.only.low j m ∙ gone.only.low j m;
         high = λ j l. restore_kept j (λ q. omega arith) (λ q. l) ∙ back.only.high j (omega arith) ∙ gone.only.high j (omega arith);
       }
-
--- The copy's entries are still entries once the present stack is gone.
-pub entries_still : (w t : List ℕ) (k d : ℕ) → PoppedAll w t → ((i : ℕ) → i < d → at w (copied_stack k + i) < ENTRIES)
-    → (i : ℕ) → i < d → at t (copied_stack k + i) < ENTRIES
-entries_still w t k d gone h i l = rw (gone.only.high (copied_stack k + i) (omega arith)) (h i l)

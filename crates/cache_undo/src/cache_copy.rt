@@ -21,6 +21,8 @@ const COPIED_FIRSTS: usize = 12386;
 
 const COPIED_FURTHERS: usize = 15458;
 
+// Saving and bringing stay two: one function for both ways is no plainer, its contract goes by cases, and it asks at each word which way.
+
 // The further words of the n parents of entry e stand from `to` on too. Answers where they end.
 fn save_list(work: &mut [u32], e: EntryIndex, n: usize, to: usize) -> usize
     requires { (WORK ≤ length work.old) × (e.0 < ENTRIES) × (n ≤ MAX_PARENTS) × (SEEN ≤ to) × (to + further n ≤ WORK) }

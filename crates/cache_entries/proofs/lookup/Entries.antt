@@ -1,15 +1,14 @@
--- What the words say of the cache that they hold: the entry of an atom, and that of a node.
+-- What the words say of the cache that they hold: the entry of an atom.
 -- Assumes nothing.
 use Prim.Native.Nat.{ℕ, ◌<◌}
 use mathlib.Core.Path.{◌≡◌, refl, sym, ap, ◌∙◌}
-use mathlib.Core.Bool.{true, false≢true}
 use mathlib.Core.List.{List}
 use mathlib.Core.Option.{Option, none, some}
 use Rattle.std.specs.Prelude.{Some, None}
 use Rattle.std.specs.Option.{unwrap_or}
 use native.Mathlib.Omega.{arith}
 use Rattle.words.specs.Words.{at}
-use Rattle.allocator.specs.Handle.{pair, node_of, is_atom}
+use Rattle.allocator.specs.Handle.{node_of}
 use Rattle.spec_session.specs.File.{File}
 use Rattle.spec_session.specs.Cache.{Entry, Cache, atom_key, find_key}
 use Rattle.spec_session.specs.Writer.{or_zero, atom_entry}
@@ -22,7 +21,7 @@ use Rattle.cache_entries.proofs.table.Rows.{find_at}
 use Rattle.cache_entries.specs.Meaning.{ATOM_KEY, bytes_named, Tables, Whole, Holds}
 use Rattle.cache_entries.specs.Effects.{Stands}
 use Rattle.cache_entries.proofs.Keys.{find_atom}
-use Rattle.cache_entries.specs.lookup.Effects.{PairEntry, AtomEntry, EntryOf}
+use Rattle.cache_entries.specs.lookup.Effects.{AtomEntry}
 
 -- ---- what the getters give
 
@@ -52,17 +51,3 @@ module _ {w : List ℕ} {h key : ℕ} (wh : Whole w) (s : Stands w h key) (r : c
           let y : x.0 ≡ e = is_zero ∙ ap or_zero s in
           let l = (find_at (at w USED) (row_of w) ATOM_KEY key e (sym q ∙ s)).0 in
           omega (arith, wh.sound.used)
-
--- ---- a node is an atom or a pair
-
-pub entry_of_atom : {w : List ℕ} {h e : ℕ} → is_atom (node_of h) ≡ true → AtomEntry w h e → EntryOf w h e
-entry_of_atom a x =
-    record { low = x.low; of_pair = λ i q. absurd (false≢true (sym (ap is_atom q) ∙ a)); of_atom = λ b. x }
-
-pub entry_of_pair : {w : List ℕ} {h e i : ℕ} → node_of h ≡ pair i → PairEntry w i e → EntryOf w h e
-entry_of_pair {w} {h} {e} {i} n x =
-    record {
-      low = x.low;
-      of_pair = λ j q. let z : i ≡ j = cc in rw (sym z) x;
-      of_atom = λ b. absurd (false≢true (sym (ap is_atom n) ∙ b));
-    }

@@ -1,7 +1,7 @@
 -- Laws of the entries as rows: one row changed, a row looked up by its key, the parents counted.
 -- Assumes nothing.
-use Prim.Native.Nat.{ℕ, zero, suc, ◌+◌, ◌-◌, ◌*◌, ◌^◌, ◌<◌}
-use mathlib.Core.Path.{◌≡◌, refl, ap, ◌∙◌, subst}
+use Prim.Native.Nat.{ℕ, zero, suc, ◌+◌, ◌*◌, ◌^◌, ◌<◌}
+use mathlib.Core.Path.{◌≡◌, refl, ap, subst}
 use mathlib.Core.Bool.{Bool, true, false, cond, ◌&&◌}
 use mathlib.Core.List.{List, ◌∷◌}
 use mathlib.Core.Option.{Option, none, some}
@@ -16,7 +16,7 @@ use Rattle.words.proofs.Words.{tabulate_same}
 use Rattle.spec_session.specs.Cache.{later}
 use Rattle.work_layout.specs.Layout.{USED, COUNTS, LEFT, RIGHT, LOW, HIGH, MAX_PARENTS}
 use Rattle.work_layout.specs.Counts.{counts_same}
-use Rattle.work_layout.specs.Rows.{Sound, length_of, Row, link_at, parent_of, parents_of, row_of, with_parents, adjust_row, all_counts}
+use Rattle.work_layout.specs.Rows.{Sound, Row, link_at, parent_of, parents_of, row_of, with_parents, adjust_row, all_counts}
 use Rattle.cache_entries.specs.Meaning.{entry_or_none}
 use Rattle.cache_entries.specs.table.Effects.{find_row}
 
@@ -30,13 +30,6 @@ row_same w w' k so h a b l m c q =
     let ps : parents_of w' k ≡ parents_of w k =
     rw c (tabulate_same (at w (COUNTS + k)) (λ i. parent_of (link_at w k i)) (λ i. parent_of (link_at w' k i)) (λ i z. ap parent_of (q i (omega arith)))) in
     λ i. record { left = a i; right = b i; parents = ps i; len = l i + 2 ^ 32 * m i }
-
--- What `length_of` gives, at the place i of the entry e.
-pub length_is : (w : List ℕ) (e i a b : ℕ) → i ≡ e → a ≡ at w (LOW + i) → b ≡ at w (HIGH + i) → a + b * 4294967296 ≡ length_of w e
-length_is w e i a b p q r =
-    let x : a ≡ at w (LOW + e) = q ∙ ap (λ (y : ℕ). at w (LOW + y)) p in
-    let z : b ≡ at w (HIGH + e) = r ∙ ap (λ (y : ℕ). at w (HIGH + y)) p in
-    omega arith
 
 -- Two tables that differ in the parents of row e alone.
 pub adjust_tabulate : (n e : ℕ) (g h : ℕ → Row) (f : List (ℕ × Bool) → List (ℕ × Bool)) → e < n → ((k : ℕ) → k < n → (k ≡ e → ⊥) → g k ≡ h k)
@@ -117,10 +110,6 @@ find_at (suc n) f l r e q =
     go false b o x y p g = rest o p g
 
 -- ---- a word that stands for an entry, as one more, or for none
-
-pub some_word : (k : ℕ) → (k ≡ 0 → ⊥) → some (k - 1) ≡ entry_or_none k
-some_word zero n = absurd (n refl)
-some_word (suc k) n = ap {B = Option ℕ} some (omega arith)
 
 pub word_some : (k e : ℕ) → some e ≡ entry_or_none k → k ≡ e + 1
 word_some zero e q = clash cc

@@ -1,9 +1,9 @@
 -- What the loops over lists of parents leave, turn by turn, and with them `take_parents` and `place_parents`.
 -- Assumes nothing.
-use Prim.Native.Nat.{ℕ, zero, suc, ◌+◌, ◌*◌, ◌-◌, ◌≤◌, ◌<◌}
+use Prim.Native.Nat.{ℕ, ◌+◌, ◌*◌, ◌-◌, ◌≤◌, ◌<◌}
 use mathlib.Core.Path.{◌≡◌, refl, sym, ap, ◌∙◌}
 use mathlib.Core.Bool.{Bool, false}
-use mathlib.Core.List.{List, [], ◌∷◌, ◌++◌}
+use mathlib.Core.List.{List, [], ◌++◌}
 use native.Mathlib.Omega.{arith}
 use native.Mathlib.Decide.{ℕ_discrete, dec_lt}
 use lib.ListN.{length, get_or, set, drop, length-set, length-append, length-drop, get_or-append}
@@ -11,7 +11,7 @@ use lib.Seq.{get_or-set_same, get_or-set_other, ext_get_or, get_or-drop, get_or-
 use Rattle.words.specs.Words.{at, tabulate}
 use Rattle.words.proofs.Words.{length_tabulate, get_d_tabulate, tabulate_same}
 use Rattle.spec_session.specs.Cache.{move_parents, no_parents}
-use Rattle.work_layout.specs.Layout.{MOVED, MAPS, USED, COUNTS, SEEN, ENTRIES, MAX_PARENTS}
+use Rattle.work_layout.specs.Layout.{USED, COUNTS, ENTRIES, MAX_PARENTS}
 use Rattle.work_layout.specs.Rows.{link_at, moved_at, parent_of, parents_of, moved_of, Sound}
 use Rattle.work_layout.specs.Parents.{link_same, moved_same, ParentSet, MovedSet}
 use Rattle.cache_entries.specs.table.Effects.{MovedLinks, Taken, Placed}
@@ -20,9 +20,6 @@ use Rattle.cache_parents.specs.Lists.{Saved, Filled}
 use Rattle.cache_parents.proofs.Parents.{count_links}
 
 -- ---- the loops
-
-pub saved_none : (w : List ℕ) (e : ℕ) → Saved w w e 0
-saved_none w e = record { len = refl; here = λ i l. absurd (omega arith); low = λ k l. refl; high = λ k l. refl }
 
 -- All parents are as they were while those of an entry are saved.
 pub saved_links : (w w' : List ℕ) (e n d i : ℕ) → d < ENTRIES → i < MAX_PARENTS → Saved w w' e n → link_at w' d i ≡ link_at w d i

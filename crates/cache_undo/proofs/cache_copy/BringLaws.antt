@@ -17,10 +17,6 @@ use Rattle.cache_undo.specs.cache_copy.Effects.{ListBrought, ListsBrought, Bring
 
 -- ---- the further words of one entry
 
-pub list_brought_none : (w : List ℕ) (e from : ℕ) → ListBrought w w e 0 from
-list_brought_none w e from =
-    record { len = refl; here = λ i l. absurd (omega arith); others = λ d i h n. refl; firsts = λ d h. refl; low = λ j l. refl; high = λ j l. refl }
-
 pub list_brought_more : (w w₁ w₂ : List ℕ) (e i from v : ℕ) → e < ENTRIES → SEEN ≤ from → v ≡ at w₁ (from + i) → ListBrought w w₁ e i from → LinksSet w₁ w₂ e (i + 1) v
     → ListBrought w w₂ e (i + 1) from
 list_brought_more w w₁ w₂ e i from v h o q s p = record {

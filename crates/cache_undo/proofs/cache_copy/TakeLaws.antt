@@ -1,7 +1,7 @@
 -- Laws of taking the newest entries off their slots: what one turn leaves, and the end.
 -- Assumes nothing.
 use Prim.Native.Nat.{ℕ, ◌+◌, ◌≤◌, ◌<◌}
-use mathlib.Core.Path.{◌≡◌, refl, sym, ap, ◌∙◌}
+use mathlib.Core.Path.{◌≡◌, sym, ap, ◌∙◌}
 use mathlib.Core.List.{List, [], ◌∷◌}
 use native.Mathlib.Omega.{arith}
 use native.Mathlib.Decide.{ℕ_discrete}
@@ -23,17 +23,6 @@ pub record Taking (w w' : List ℕ) (e : ℕ) : Type 0 where
   pub keys : (j : ℕ) → LEFT ≤ j → j < HEADS → at w' j ≡ at w j
   pub low : (j : ℕ) → j < COUNTS → at w' j ≡ at w j
   pub high : (j : ℕ) → PARENTS ≤ j → at w' j ≡ at w j
-
-pub taking_none : (w : List ℕ) (e : ℕ) → Sound w → e ≡ at w USED → Taking w w e
-taking_none w e so q = record {
-  len = refl;
-  heads = λ s l. so.chained.heads s l ∙ ap (prev (slot_at w) s) (sym q);
-  counts = λ d l. refl;
-  none = λ d l h. so.unused d (omega arith) h;
-  keys = λ j l h. refl;
-  low = λ j l. refl;
-  high = λ j l. refl;
-}
 
 -- One entry more, e: its slot's chain begins at the entry before it.
 module _ (w w₁ : List ℕ) (from e slot : ℕ) (so : Sound w) (h : e < at w USED) (q : from ≡ e + 1) (hs : slot ≡ slot_of (at w₁ (LEFT + e)) (at w₁ (RIGHT + e)))

@@ -1,6 +1,6 @@
 -- `drop_parents` meets its contract, turn by turn: the parents from `dropped + i` on are still as they were.
 -- Assumes nothing.
-use Rattle.std.proofs.Common.{ℕ, ◌+◌, ◌∙◌, arith}
+use Rattle.std.proofs.Common.{◌+◌, ◌∙◌, arith}
 use Rattle.work_layout.specs.Rows.{link_at}
 use Rattle.cache_parents.proofs.moved_parents.Move.{filled_none, filled_more}
 use Rattle.cache_parents.proofs.moved_parents.drop_parents.Goals as goal

@@ -1,6 +1,6 @@
 -- `cache_undo::cache_copy::bring` meets its contract: the newest entries are taken off, and the map of pairs, the counts and the words of the parents are those of the copy.
 -- Assumes nothing.
-use Rattle.std.proofs.Common.{◌≡◌, List, ℕ, refl, arith}
+use Rattle.std.proofs.Common.{List, ℕ, refl, arith}
 use Rattle.words.specs.Words.{at}
 use Rattle.work_layout.specs.Layout.{MAPS, COUNTS, PARENTS, PAIR_COUNT}
 use Rattle.words.proofs.Copies.{Copied, copied}

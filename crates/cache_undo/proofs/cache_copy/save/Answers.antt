@@ -1,6 +1,6 @@
 -- `cache_undo::cache_copy::save` meets its contract: the number of entries, the map of pairs, the counts and the words of the parents go to parts of the copy that do not meet.
 -- Assumes nothing.
-use Rattle.std.proofs.Common.{◌≡◌, List, ℕ, refl, length, set, length-set, arith}
+use Rattle.std.proofs.Common.{List, ℕ, refl, set, length-set, arith}
 use Rattle.words.specs.Words.{at}
 use Rattle.work_layout.specs.Layout.{MAPS, USED, COUNTS, PARENTS, PAIR_COUNT}
 use Rattle.words.proofs.Copies.{Copied, copied}
