@@ -1,6 +1,6 @@
 -- `cache_undo::cache_copy::bring` meets its contract: the newest entries are taken off, and the map of pairs, the counts and the words of the parents are those of the copy.
 -- Assumes nothing.
-use Rattle.std.proofs.Common.{List, ℕ, refl, arith}
+use Rattle.std.proofs.Common.{List, ℕ, ◌≤◌, refl, arith}
 use Rattle.words.specs.Words.{at}
 use Rattle.work_layout.specs.Layout.{MAPS, COUNTS, PARENTS, PAIR_COUNT}
 use Rattle.words.proofs.Copies.{Copied, copied}
@@ -19,12 +19,13 @@ copies : (c : After-bring_first_links)
     → Copies c.args.work.now c.take_off.new.work c.copy_within.new.words c.copy_within-2.new.words c.bring_first_links.new.work c.args.k
 copies c =
     let b = c.requires.1.1 in
-    let n = b.copied.used in
-    let u = b.then_sound.used in
+    let l = b.sound.long in
+    let n = at c.args.work.now (copied_used c.args.k) in
+    let n_few : n ≤ 3072 = omega (arith, b.copied.used, b.then_sound.used) in
     record {
-      maps = copied _ (copied_maps c.args.k) MAPS (at c.args.work.now PAIR_COUNT) (omega (arith, b.sound.long, b.few_pairs)) (omega (arith, b.sound.long, b.few_pairs)) _ c.copy_within.ensures;
-      counts = copied _ (copied_counts c.args.k) COUNTS (at c.args.work.now (copied_used c.args.k)) (omega (arith, b.sound.long, n, u)) (omega (arith, b.sound.long, n, u)) _ c.copy_within-2.ensures;
-      firsts = copied _ (copied_firsts c.args.k) PARENTS (at c.args.work.now (copied_used c.args.k)) (omega (arith, b.sound.long, n, u)) (omega (arith, b.sound.long, n, u)) _ c.bring_first_links.ensures;
+      maps = copied _ (copied_maps c.args.k) MAPS (at c.args.work.now PAIR_COUNT) (omega (arith, l, b.few_pairs)) (omega (arith, l, b.few_pairs)) _ c.copy_within.ensures;
+      counts = copied _ (copied_counts c.args.k) COUNTS n (omega (arith, l)) (omega (arith, l)) _ c.copy_within-2.ensures;
+      firsts = copied _ (copied_firsts c.args.k) PARENTS n (omega (arith, l)) (omega (arith, l)) _ c.bring_first_links.ensures;
     }
 
 pub bring_lists-requires : goal.bring_lists-requires
