@@ -1,18 +1,18 @@
 -- What the writing's answer means.
-use Rattle.std.specs.Prelude.{ℕ, ◌≡◌, List}
+use Rattle.std.specs.Prelude.{ℕ, ◌≡◌, List, Result, Ok, Err}
 use Rattle.std.proofs.Math.Option.{some}
 use Rattle.atom.specs.Prefix.{prefix_width}
 use Rattle.atom.specs.Write.{next, full, too_long, Written}
-use Rattle.atom_encode.specs.declared.write_atom.WriteAtom.{WriteAtom}
-use Rattle.atom_encode.specs.declared.write_atom.WriteAtom.TheVariants as write_atom
+use Rattle.atom_encode.specs.declared.write_atom.Written as code
+use Rattle.atom_encode.specs.declared.write_atom.WriteError.{WriteError}
+use Rattle.atom_encode.specs.declared.write_atom.WriteError.TheVariants as write_error
 
-abbrev pub written : WriteAtom → List ℕ → Written
-written (write_atom.Next p w) out = record { answer = next p; output = out }
-written write_atom.Full out = record { answer = full; output = out }
-written write_atom.TooLong out = record { answer = too_long; output = out }
+abbrev pub written : Result code.Written WriteError → List ℕ → Written
+written (Ok w) out = record { answer = next w.next; output = out }
+written (Err write_error.Full) out = record { answer = full; output = out }
+written (Err write_error.TooLong) out = record { answer = too_long; output = out }
 
 -- The width that it tells is that of the atom's prefix.
-abbrev pub WidthTold : (atom : List ℕ) → WriteAtom → Type 0
-WidthTold atom (write_atom.Next p w) = prefix_width atom ≡ some w
-WidthTold atom write_atom.Full = Unit {0}
-WidthTold atom write_atom.TooLong = Unit {0}
+abbrev pub WidthTold : (atom : List ℕ) → Result code.Written WriteError → Type 0
+WidthTold atom (Ok w) = prefix_width atom ≡ some w.width
+WidthTold atom (Err e) = Unit {0}

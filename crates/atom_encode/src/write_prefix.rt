@@ -1,8 +1,9 @@
 // The prefix of an atom, written.
 ghost use Rattle.std.specs.Prelude.{◌≡◌, ◌+◌, ◌^◌, ◌≤◌, ◌<◌, length};
 ghost use Rattle.std.proofs.Math.Seq.{paste};
-ghost use Rattle.words.specs.BigEndian.{big_endian};
 ghost use Rattle.atom.specs.Prefix.{mark, prefix};
+
+use words::slices;
 
 // The leading ones of a prefix of each width.
 const MARK: [u64; 5] = [0x80, 0xc000, 0xe00000, 0xf0000000, 0xf800000000];
@@ -14,20 +15,6 @@ fn mark_of(width: usize) -> u64
     MARK[width - 1]
 }
 
-// The last `width` bytes of a number, the highest first, from `position` on.
-fn write_number(output: &mut [u8], position: usize, width: usize, number: u64)
-    requires { position + width ≤ length output.old }
-    ensures { output.new ≡ paste output.old position (big_endian width number) width }
-{
-    let mut left = width;
-    let mut rest = number;
-    while 0 < left {
-        left -= 1;
-        output[position + left] = (rest % 256) as u8;
-        rest = rest / 256;
-    }
-}
-
 // The prefix of `width` bytes for a size, from `position` on; no bytes for the width 0.
 pub fn write_prefix(output: &mut [u8], position: usize, width: usize, size: u64)
     requires { (width ≤ 5) × (size < 2 ^ 34) × (position + width ≤ length output.old) }
@@ -36,5 +23,6 @@ pub fn write_prefix(output: &mut [u8], position: usize, width: usize, size: u64)
     if width == 0 {
         return;
     }
-    write_number(output, position, width, mark_of(width) + size);
+    let bytes = (mark_of(width) + size).to_be_bytes();
+    slices::copy_bytes(&bytes[8 - width..], output, position);
 }

@@ -15,7 +15,6 @@ use lib.Pow.{shl-shr, shl_lt, shr_lt, split}
 use Rattle.words.specs.Lists.{Bytes, all_at}
 use Rattle.path.specs.Bytes.{bit, value, low_bits, all_bits}
 use Rattle.path.proofs.BytesLaws.{odd_value, half_value, shifted_split, value_last}
-use Rattle.path_builder.specs.declared.push_bit.BitPlace.{BitPlace}
 use Rattle.path_builder.specs.Put.{put, Put}
 use Rattle.path_builder.specs.declared.PathBuilder.{PathBuilder}
 use Rattle.path_builder.specs.Builder.{free, built, Sound, Fresh, Room, Pushed}
@@ -162,13 +161,13 @@ module _ (s : List ℕ) (p : PathBuilder) (b : Bool) (sound : Sound s p) (room :
 
   -- ---- either of them
 
-  pub pushed : (v : ℕ) → v ≡ bit b → (s' : List ℕ) (q : BitPlace) → Put s p.in_use p.bit_pos v s' q
-      → Pushed s p b s' (record { in_use = q.in_use; bit_pos = q.bit_pos })
+  pub pushed : (v : ℕ) → v ≡ bit b → (s' : List ℕ) (q : PathBuilder) → Put s p.in_use p.bit_pos v s' q
+      → Pushed s p b s' q
   pushed v ev s' q h = go (ℕ_discrete p.bit_pos 7)
     where
       stored : s' ≡ put s p.in_use p.bit_pos (bit b)
       stored = h.stored ∙ ap (put s p.in_use p.bit_pos) ev
 
-      go : Dec (p.bit_pos ≡ 7) → Pushed s p b s' (record { in_use = q.in_use; bit_pos = q.bit_pos })
+      go : Dec (p.bit_pos ≡ 7) → Pushed s p b s' q
       go (yes e) = new_byte s' _ h.place e (rw (eq-eqb p.bit_pos 7 e) at stored) (rw (eq-eqb p.bit_pos 7 e) at h.bytes)
       go (no d) = more_bits d s' _ h.place (rw (ne_eqb p.bit_pos 7 d) at stored) (rw (ne_eqb p.bit_pos 7 d) at h.bytes)

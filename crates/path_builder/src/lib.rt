@@ -13,29 +13,30 @@ ghost use Rattle.path_builder.specs.Builder.{right, built, Counts, Sound, Fresh,
 
 use path_length::counted_bytes;
 pub use path_length::measured_bytes;
-use words::wide;
 
-#[derive(Clone, Copy)]
+#[derive(Clone, Copy, Debug, PartialEq, Eq)]
 pub enum ChildPos {
     Left,
     Right,
 }
 
-#[derive(Clone, Copy)]
+// The bit of a step.
+impl From<ChildPos> for u8 {
+    ghost from_gives = { λ dir b. b ≡ bit (right dir) };
+
+    fn from(dir: ChildPos) -> u8 {
+        match dir {
+            ChildPos::Left => 0,
+            ChildPos::Right => 1,
+        }
+    }
+}
+
+#[derive(Clone, Copy, Debug, PartialEq, Eq)]
 pub struct PathBuilder {
     pub in_use: u32,
     // the place that the next bit goes to (counts down)
     pub bit_pos: u8,
-}
-
-// The bit of a step.
-fn bit_of(dir: ChildPos) -> u8
-    ensures { result ≡ bit (right dir) }
-{
-    match dir {
-        ChildPos::Left => 0,
-        ChildPos::Right => 1,
-    }
 }
 
 impl PathBuilder {
@@ -54,11 +55,7 @@ impl PathBuilder {
         requires { (Sound store.old self) × (Room store.old self) }
         ensures { Pushed store.old self (right dir) store.new result }
     {
-        let p = push_bit::push_bit(store, self.in_use, self.bit_pos, bit_of(dir));
-        PathBuilder {
-            in_use: p.in_use,
-            bit_pos: p.bit_pos,
-        }
+        self.push_bit(store, u8::from(dir))
     }
 
     // Right-aligns the path in place: its bytes are the first of the store, as many as are returned.
@@ -66,12 +63,11 @@ impl PathBuilder {
         requires { Sound store.old self }
         ensures { Finished store.old self store.new result }
     {
-        let n = wide(self.in_use);
-        let place = self.bit_pos;
-        if place == 7 {
+        let n = self.in_use as usize;
+        if self.bit_pos == 7 {
             return n;
         }
-        right_align::right_align(store, n, place + 1);
+        right_align::right_align(store, n, self.bit_pos + 1);
         n
     }
 
@@ -83,12 +79,16 @@ impl PathBuilder {
         self.len() == 0
     }
 
-    // The number of bits.
+    // The number of bits. At `bit_pos` 7 the bytes are full; otherwise the places of the last byte from `bit_pos` down are free.
     pub fn len(self) -> u32
         requires { Counts self }
         ensures { (store : List ℕ) → Sound store self → result ≡ length (built store self) }
     {
-        path_length::len(self.in_use, self.bit_pos)
+        if self.bit_pos == 7 {
+            self.in_use * 8
+        } else {
+            self.in_use * 8 - u32::from(self.bit_pos) - 1
+        }
     }
 
     // The number of bytes that the path's atom is counted at. The Rust's 80 is decimal.

@@ -1,21 +1,9 @@
-// What a path builder's numbers count: its bits, and the bytes of its atom, by either measure.
-ghost use Rattle.std.specs.Prelude.{◌≡◌, ◌+◌, ◌*◌, ◌-◌, ◌%◌, ◌^◌, ◌≤◌, ◌<◌};
+// What a path's atom is measured at, by either measure.
+ghost use Rattle.std.specs.Prelude.{◌≡◌, ◌+◌, ◌^◌, ◌<◌};
 ghost use Rattle.path.specs.Measure.{counted_bytes};
 ghost use Rattle.path_builder.specs.Measured.{documented_bytes, measured_bytes};
 
 use path::Measure;
-
-// The number of bits. At `bit_pos` 7 the bytes are full; otherwise the places of the last byte from `bit_pos` down are free.
-pub fn len(in_use: u32, bit_pos: u8) -> u32
-    requires { (bit_pos < 8) × ((bit_pos + 1) % 8 ≤ 8 * in_use) × (8 * in_use < 2 ^ 32) }
-    ensures { result ≡ 8 * in_use - (bit_pos + 1) % 8 }
-{
-    if bit_pos == 7 {
-        in_use * 8
-    } else {
-        in_use * 8 - bit_pos as u32 - 1
-    }
-}
 
 // The number of bytes that the atom of a path of so many bytes is counted at; `full` says that the bits fill a single byte, which is not small.
 // The ranges are the Rust's.
@@ -43,7 +31,7 @@ fn documented_bytes(bytes: u32, full: bool) -> u32
     if bytes == 1 && !full {
         return 1;
     }
-    bytes + atom::shortest_width(bytes as u64) as u32
+    bytes + atom::shortest_width(u64::from(bytes)) as u32
 }
 
 // The number of bytes that the atom of a path of so many bytes is measured at.

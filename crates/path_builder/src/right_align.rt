@@ -20,10 +20,7 @@ pub fn right_align(store: &mut [u8], n: usize, r: u8)
     requires { (n ≤ length store.old) × (0 < r) × (r < 8) }
     ensures { Aligned store.old n r store.new }
 {
-    let mut j = n;
-    while 0 < j {
-        j -= 1;
-        let b = shifted(store, j, r);
-        store[j] = b;
+    for j in (0..n).rev() {
+        store[j] = shifted(store, j, r);
     }
 }

@@ -1,4 +1,4 @@
--- The bytes that the documentation has for a path of n bytes: one that stands for itself, and those with a prefix.
+-- The bytes that the documentation has for a path of n bytes that do not stand for themselves.
 -- Assumes nothing.
 use Prim.Native.Nat.{ℕ, ◌+◌, ◌^◌, ◌<◌}
 use mathlib.Core.Path.{◌≡◌, sym, ◌∙◌}
@@ -15,15 +15,12 @@ use Rattle.path.proofs.MeasureLaws.{width_is}
 use Rattle.path_builder.specs.Measured.{documented_bytes}
 
 module _ (full : Bool) (n : ℕ) where
-  pub documented_alone : n ≡ 1 → not full ≡ true → 1 ≡ documented_bytes full n
-  documented_alone e f = sym (rw (eq-eqb n 1 e, f))
-
   -- More than one byte, or one that the bits fill.
-  prefixed : ((n ≡ 1) × (not full ≡ false)) ⊎ (n ≡ 1 → ⊥) → eqb n 1 && not full ≡ false
+  prefixed : ((n ≡ 1) × (full ≡ true)) ⊎ (n ≡ 1 → ⊥) → eqb n 1 && not full ≡ false
   prefixed (inl q) = rw (eq-eqb n 1 q.0, q.1)
   prefixed (inr d) = rw (ne_eqb n 1 d)
 
-  pub documented_sized : (w : ℕ) → n < 2 ^ 34 → width n ≡ some w → ((n ≡ 1) × (not full ≡ false)) ⊎ (n ≡ 1 → ⊥) → n + w ≡ documented_bytes full n
+  pub documented_sized : (w : ℕ) → n < 2 ^ 34 → width n ≡ some w → ((n ≡ 1) × (full ≡ true)) ⊎ (n ≡ 1 → ⊥) → n + w ≡ documented_bytes full n
   documented_sized w h e q =
       let is : documented_prefix n ≡ w = some-injective (documented_prefix n) w (sym (width_is n h) ∙ e) in
       sym (cond_false (eqb n 1 && not full) 1 (documented_prefix n + n) (prefixed q) ∙ omega (arith, is))

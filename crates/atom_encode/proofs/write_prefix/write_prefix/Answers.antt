@@ -3,10 +3,10 @@
 use mathlib.Core.Path.{ap, ◌∙◌}
 use Prim.Native.Nat.{ℕ, ◌+◌}
 use native.Mathlib.Omega.{arith}
-use lib.Seq.{paste, paste-zero}
-use Rattle.words.specs.BigEndian.{big_endian}
-use Rattle.atom.specs.Prefix.{prefix}
+use lib.Seq.{paste-zero}
+use Rattle.atom.specs.Prefix.{mark, prefix}
 use Rattle.atom.specs.WriteLaws.{mark_bound}
+use Rattle.atom_encode.proofs.write_prefix.Numbers.{last_written}
 use Rattle.atom_encode.proofs.write_prefix.write_prefix.Goals as goal
 
 pub returns-then-width-eq0 : goal.returns-then-width-eq0
@@ -18,4 +18,5 @@ overflow_add-mark_of c = omega (arith, c.mark_of.ensures, mark_bound c.args.widt
 pub returns : goal.returns
 returns c =
     let a = c.args in
-    c.write_number.ensures ∙ ap (λ (n : ℕ). paste a.output.now a.position (big_endian a.width (n + a.size)) a.width) c.mark_of.ensures
+    c.copy_bytes.ensures
+    ∙ last_written a.output.now a.position a.width c.to_be_bytes-bytes.result (c.mark_of.result + a.size) (mark a.width + a.size) c.requires.0 c.to_be_bytes-bytes.ensures (ap (λ (n : ℕ). n + a.size) c.mark_of.ensures)

@@ -4,7 +4,6 @@ use Rattle.path_builder.proofs.right_align.Aligning.{shifted_first, shifted_next
 use Prim.Native.Nat.{◌<◌}
 use native.Mathlib.Omega.{arith}
 use lib.ListN.{get_or}
-use borrow.Author.Rules.{rules}
 use Rattle.path_builder.proofs.right_align.shifted.Goals as goal
 
 pub returns-then-i-eq0 : goal.returns-then-i-eq0
