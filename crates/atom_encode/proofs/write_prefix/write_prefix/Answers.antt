@@ -19,4 +19,5 @@ pub returns : goal.returns
 returns c =
     let a = c.args in
     c.copy_bytes.ensures
-    ∙ last_written a.output.now a.position a.width c.to_be_bytes-bytes.result (c.mark_of.result + a.size) (mark a.width + a.size) c.requires.0 c.to_be_bytes-bytes.ensures (ap (λ (n : ℕ). n + a.size) c.mark_of.ensures)
+    ∙ last_written a.output.now a.position a.width c.to_be_bytes-bytes.result (c.mark_of.result + a.size) (mark a.width + a.size) c.requires.0
+    c.to_be_bytes-bytes.ensures (ap (λ (n : ℕ). n + a.size) c.mark_of.ensures)

@@ -13,11 +13,9 @@ push_bit-requires c =
     let a = c.args in
     let b = right a.dir in
     let sound = c.requires.0 in (
-      sound.counts.place,
+      sound.counts,
       omega (arith, c.from.ensures, bit_small b),
-      sound.counts.begun,
       next_within a.store.now a.self b sound c.requires.1 bytes,
-      omega (arith, sound.counts.few),
       λ l. rw c.from.ensures (last_fits a.store.now a.self b sound c.requires.1 bytes (λ e. omega arith)),
     )
 
