@@ -4,7 +4,7 @@ use Rattle.std.proofs.Common.{◌≡◌, ℕ, zero, suc, ◌+◌, ◌<◌, ◌�
 use mathlib.Core.Bool.{false≢true}
 use Rattle.words.specs.Choice.{by_lt}
 use Rattle.words.specs.Lists.{same, same_refl, same_eq}
-use Rattle.words.specs.Words.{at, tabulate}
+use Rattle.words.specs.Words.{tabulate}
 use Rattle.words.proofs.Words.{length_tabulate, get_d_tabulate, tabulate_same}
 use Rattle.cache_entries.specs.Meaning.{first_same}
 use Rattle.file_tables.specs.Chains.{first_of}

@@ -1,5 +1,5 @@
 -- The bytes of a listed atom lie within the file; the slot of an atom's bytes.
-use Rattle.std.specs.Prelude.{ℕ, ◌+◌, ◌-◌, ◌%◌, ◌^◌, ◌≤◌, List, [], ◌∷◌, length}
+use Rattle.std.specs.Prelude.{ℕ, ◌+◌, ◌%◌, ◌^◌, ◌≤◌, List, [], ◌∷◌, length}
 use Rattle.work_layout.specs.Rows.{start_of, end_of}
 
 -- The bytes of listed atom i lie within the file.

@@ -9,8 +9,6 @@ ghost use Rattle.file_tables.specs.Listed.{Inside, slot_of};
 ghost use Rattle.file_tables.specs.Load.{Ready, Kept, Loaded};
 ghost use Rattle.file_tables.specs.Chains.{first_of, Loading};
 
-use words::wide;
-
 // The first atom with the bytes of atom i, where all atoms before i are loaded; i itself where none of them has its bytes.
 fn find_first(work: &[u32], file: &[u8], i: usize, slot: usize) -> usize
     requires { (i < 1024)
@@ -19,13 +17,13 @@ fn find_first(work: &[u32], file: &[u8], i: usize, slot: usize) -> usize
         × ((k : ℕ) → k < i + 1 → Inside file.now work.now k) }
     ensures { result ≡ first_of (atom_bytes file.now work.now) i }
 {
-    let mut head = wide(work[work_layout::ATOM_HEADS + slot]);
+    let mut head = work[work_layout::ATOM_HEADS + slot] as usize;
     while head != 0 {
         let j = head - 1;
         if listed_atoms::same_atoms(work, file, j, i) {
             return j;
         }
-        head = wide(work[work_layout::ATOM_NEXT + j]);
+        head = work[work_layout::ATOM_NEXT + j] as usize;
     }
     i
 }

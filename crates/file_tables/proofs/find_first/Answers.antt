@@ -1,13 +1,13 @@
 -- `find_first` meets its contract. The invariant: no first atom from `head` on has the bytes.
 -- Assumes nothing.
-use Rattle.std.proofs.Common.{◌-◌, sym, ◌∙◌, arith, rules}
+use Rattle.std.proofs.Common.{◌-◌, refl, sym, ◌∙◌, arith}
 use Rattle.work_layout.specs.Rows.{atom_bytes}
 use Rattle.file_tables.proofs.listed_atoms.Slots.{slot_low}
-use Rattle.file_tables.proofs.Seeking.{Sought, seek_start, seek_low, seek_found, seek_less, seek_next, seek_none}
+use Rattle.file_tables.proofs.Seeking.{seek_start, seek_low, seek_found, seek_less, seek_next, seek_none}
 use Rattle.file_tables.proofs.find_first.Goals as goal
 
-pub overflow_add-slot : goal.overflow_add-slot
-overflow_add-slot c = let s = c in omega (arith, slot_low (atom_bytes s.args.file.now s.args.work.now s.args.i), s.requires.1)
+pub overflow_add-head : goal.overflow_add-head
+overflow_add-head c = let s = c in omega (arith, slot_low (atom_bytes s.args.file.now s.args.work.now s.args.i), s.requires.1)
 
 pub offset_bounds-work-slot : goal.offset_bounds-work-slot
 offset_bounds-work-slot c = let s = c in omega (arith, slot_low (atom_bytes s.args.file.now s.args.work.now s.args.i), s.requires.1)
@@ -16,7 +16,7 @@ pub bounds-work-slot : goal.bounds-work-slot
 bounds-work-slot c = let s = c in omega (arith, slot_low (atom_bytes s.args.file.now s.args.work.now s.args.i), s.requires.1, s.requires.2.long)
 
 pub loop-head-init : goal.loop-head-init
-loop-head-init c = let s = c in seek_start _ _ _ _ s.requires.2 s.requires.1 c.wide-head.result c.wide-head.ensures
+loop-head-init c = let s = c in seek_start _ _ _ _ s.requires.2 s.requires.1 _ refl
 
 pub same_atoms-requires : goal.same_atoms-requires
 same_atoms-requires c =
@@ -30,26 +30,17 @@ returns-then-same_atoms c =
     seek_found _ _ _ _ s.requires.2 s.requires.1 c.loop-head.head c.loop-head.invariant c.loop-head-test.true
     (sym c.same_atoms.ensures ∙ c.if-same_atoms.true)
 
-pub overflow_add-j : goal.overflow_add-j
-overflow_add-j c = omega (arith, c.loop-head.invariant.low)
-
-pub offset_bounds-work-j : goal.offset_bounds-work-j
-offset_bounds-work-j c = omega (arith, c.loop-head.invariant.low)
-
-pub bounds-work-j : goal.bounds-work-j
-bounds-work-j c = let s = c in omega (arith, c.loop-head.invariant.low, s.requires.2.long)
-
 pub loop-head-smaller : goal.loop-head-smaller
 loop-head-smaller c =
     let s = c in
     let l = c.loop-head in
-    seek_less _ _ _ _ s.requires.2 s.requires.1 l.head l.invariant c.loop-head-test.true c.wide-head-in-loop-head.result c.wide-head-in-loop-head.ensures
+    seek_less _ _ _ _ s.requires.2 s.requires.1 l.head l.invariant c.loop-head-test.true _ refl
 
 pub loop-head-preserved : goal.loop-head-preserved
 loop-head-preserved c =
     let s = c in
     let l = c.loop-head in
-    seek_next _ _ _ _ s.requires.2 s.requires.1 l.head l.invariant c.loop-head-test.true c.wide-head-in-loop-head.result c.wide-head-in-loop-head.ensures
+    seek_next _ _ _ _ s.requires.2 s.requires.1 l.head l.invariant c.loop-head-test.true _ refl
     (sym c.same_atoms.ensures ∙ c.if-same_atoms.false)
 
 pub returns : goal.returns

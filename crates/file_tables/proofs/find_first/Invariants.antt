@@ -1,9 +1,7 @@
 -- `find_first` meets its contract. The invariant: no first atom from `head` on has the bytes.
 -- Assumes nothing.
-use Rattle.std.proofs.Common.{◌-◌, sym, ◌∙◌, arith, rules}
 use Rattle.work_layout.specs.Rows.{atom_bytes}
-use Rattle.file_tables.proofs.listed_atoms.Slots.{slot_low}
-use Rattle.file_tables.proofs.Seeking.{Sought, seek_start, seek_low, seek_found, seek_less, seek_next, seek_none}
+use Rattle.file_tables.proofs.Seeking.{Sought}
 use Rattle.file_tables.proofs.find_first.Given as goal
 
 abbrev pub invariant-loop-head : goal.invariant-loop-head

@@ -24,10 +24,12 @@ length_by a (some v) q = omega (arith, length_some a v q, (prefixed a v q).five)
 pub length_most : (a : List ℕ) → serialized_length a ≤ length a + 5
 length_most a = length_by a (prefix_width a) refl
 
-pub part_length_fits : (file : List ℕ) (s e : ℕ) → e ≤ length file → length file ≤ 65535 → serialized_length (take (e - s) (drop s file)) < 2 ^ 32
-part_length_fits file s e h k =
-    let l : length (take (e - s) (drop s file)) ≤ 65535 = simp length-take (omega arith) in
-    omega (arith, length_most (take (e - s) (drop s file)))
+-- An atom within a short file.
+pub atom_length_fits : (file w : List ℕ) (i : ℕ) → end_of w i ≤ length file → length file ≤ 65535 → serialized_length (atom_bytes file w i) < 2 ^ 32
+unfolding atom_bytes
+atom_length_fits file w i h k =
+    let l : length (atom_bytes file w i) ≤ 65535 = simp length-take (omega arith) in
+    omega (arith, length_most (atom_bytes file w i))
 
 -- ---- slots
 

@@ -1,6 +1,6 @@
 -- `load_atom` meets its contract: two stores for an atom whose bytes are known, four for one that is the first of its bytes.
 -- Assumes nothing.
-use Rattle.std.proofs.Common.{arith, length-set, rules}
+use Rattle.std.proofs.Common.{arith, length-set}
 use Rattle.work_layout.specs.Rows.{atom_bytes}
 use Rattle.file_tables.proofs.First.{first_of_le}
 use Rattle.file_tables.proofs.listed_atoms.Slots.{slot_low}
@@ -34,17 +34,11 @@ overflow_cast-work c =
     let a = c.args in
     omega (arith, first_of_le (atom_bytes a.file.now a.work.now) a.i, c.find_first-first.ensures)
 
-pub bounds-work-i-2 : goal.bounds-work-i-2
-bounds-work-i-2 c = simp length-set (omega arith)
-
 pub returns-then-first-i : goal.returns-then-first-i
 returns-then-first-i c =
     let s = c in
     known_turn s.requires.2 s.requires.0 c.slot_at-slot.ensures c.find_first-first.ensures
     c.length_at-size.ensures c.if-first-i.true
-
-pub bounds-work-i-3 : goal.bounds-work-i-3
-bounds-work-i-3 c = simp length-set (omega arith)
 
 pub overflow_add-work-5 : goal.overflow_add-work-5
 overflow_add-work-5 c =

@@ -1,7 +1,7 @@
 -- `load_firsts` meets its contract. The invariant: the tables of the atoms before `i` are loaded.
 -- Assumes nothing.
-use Rattle.std.proofs.Common.{◌≡◌, ◌-◌, ◌≤◌, length, refl, ◌∙◌, arith}
-use Rattle.file_tables.proofs.Turns.{Progress, none_yet, load_asks, inside_asks, load_more, all_loaded}
+use Rattle.std.proofs.Common.{refl, ◌∙◌, arith}
+use Rattle.file_tables.proofs.Turns.{none_yet, load_asks, inside_asks, load_more, all_loaded}
 use Rattle.file_tables.proofs.load_firsts.Goals as goal
 
 pub loop-i-init : goal.loop-i-init

@@ -1,7 +1,7 @@
 -- `load_firsts` meets its contract. The invariant: the tables of the atoms before `i` are loaded.
 -- Assumes nothing.
-use Rattle.std.proofs.Common.{◌≡◌, ◌-◌, ◌≤◌, length, refl, ◌∙◌, arith}
-use Rattle.file_tables.proofs.Turns.{Progress, none_yet, load_asks, inside_asks, load_more, all_loaded}
+use Rattle.std.proofs.Common.{◌≡◌, ◌-◌, ◌≤◌, length}
+use Rattle.file_tables.proofs.Turns.{Progress}
 use Rattle.file_tables.proofs.load_firsts.Given as goal
 
 abbrev pub invariant-loop-i : goal.invariant-loop-i
