@@ -9,9 +9,7 @@ pub fn is_visited(bits: &[u32], idx: usize) -> bool
     requires { idx < 32 * length bits.now }
     ensures { result ≡ get_or (bits_of bits.now) idx false }
 {
-    let x = bits[idx / 32];
-    let k = (idx % 32) as u32;
-    (x >> k) % 2 == 1
+    (bits[idx / 32] >> (idx % 32)) % 2 == 1
 }
 
 // Marks the number, and returns whether it was marked already.
@@ -20,9 +18,7 @@ pub fn visit(bits: &mut [u32], idx: usize) -> bool
     ensures { (result ≡ get_or (bits_of bits.old) idx false)
         × (bits_of bits.new ≡ set (bits_of bits.old) idx true) }
 {
-    let pos = idx / 32;
-    let x = bits[pos];
-    let bit = (idx % 32) as u32;
-    bits[pos] = x | (1 << bit);
-    (x >> bit) % 2 == 1
+    let visited = is_visited(bits, idx);
+    bits[idx / 32] |= 1 << (idx % 32);
+    visited
 }

@@ -5,6 +5,4 @@ use Rattle.bitset.specs.BitSetLaws.{bits_of_at}
 use Rattle.bitset.proofs.is_visited.Goals as goal
 
 pub returns : goal.returns
-returns c =
-    let o = c in
-    sym (bits_of_at o.args.bits.now o.args.idx o.requires)
+returns c = sym (bits_of_at c.args.bits.now c.args.idx c.requires)
