@@ -12,8 +12,9 @@ use Rattle.words.specs.Choice.{clash}
 use Rattle.atom.specs.Write.{Written, next, full, too_long, put}
 use Rattle.atom.specs.WriteLaws.{put_none, put_full, put_room}
 use Rattle.atom_encode.specs.Answers.{written}
-use Rattle.atom_encode.specs.declared.write_atom.WriteAtom.{WriteAtom}
-use Rattle.atom_encode.specs.declared.write_atom.WriteAtom.TheVariants.{Next}
+use Rattle.atom_encode.specs.declared.write_atom.Written as code
+use Rattle.atom_encode.specs.declared.write_atom.WriteError.{WriteError}
+use Rattle.std.specs.Prelude.{Result, Ok}
 
 -- A write that answers where the next byte goes has kept within the output.
 pub put_within : (out : List ℕ) (p : ℕ) (bytes : Option (List ℕ)) (n : ℕ) → (put out p bytes).answer ≡ next n → n ≤ length out
@@ -33,7 +34,7 @@ put_within out p (some bytes) n e = go (ltb (length out) (p + length bytes)) ref
         omega arith
 
 -- The same of the code's answer.
-pub written_within : (out out' : List ℕ) (p : ℕ) (bytes : Option (List ℕ)) (r : WriteAtom) (n width : ℕ) → r ≡ Next n width
-    → written r out' ≡ put out p bytes → length out' ≡ length out → n ≤ length out'
-written_within out out' p bytes r n width e w l =
-    omega (arith, put_within out p bytes n (ap (λ (x : Written). x.answer) (sym w ∙ ap (λ (x : WriteAtom). written x out') e)))
+pub written_within : (out out' : List ℕ) (p : ℕ) (bytes : Option (List ℕ)) (r : Result code.Written WriteError) (w : code.Written) → r ≡ Ok w
+    → written r out' ≡ put out p bytes → length out' ≡ length out → w.next ≤ length out'
+written_within out out' p bytes r w e q l =
+    omega (arith, put_within out p bytes w.next (ap (λ (x : Written). x.answer) (sym q ∙ ap (λ (x : Result code.Written WriteError). written x out') e)))

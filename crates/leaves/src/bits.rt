@@ -2,7 +2,7 @@
 ghost use Rattle.std.specs.Prelude.{◌*◌, ◌≤◌, ◌<◌, length};
 ghost use Rattle.path_builder.specs.Builder.{Sound};
 
-use crate::print;
+use crate::refusal::Refusal;
 use path_builder::{ChildPos, PathBuilder};
 use std::io;
 use std::io::Write;
@@ -36,23 +36,25 @@ fn push_all(store: &mut [u8], bits: &[u8]) -> PathBuilder
 fn print_path<W: Write>(out: &mut W, store: &mut [u8], builder: PathBuilder) -> io::Result<()>
     requires { Sound store.old builder }
 {
-    text::decimal(out, u64::from(builder.len()))?;
-    text::space(out)?;
-    text::decimal(out, u64::from(builder.serialized_length(store)))?;
-    text::space(out)?;
+    write!(
+        out,
+        "{} {} ",
+        builder.len(),
+        builder.serialized_length(store)
+    )?;
     let n = builder.done(store);
     text::hex(out, &store[..n])
 }
 
 // `b`: the path with these bits; 0 is a step to the left, any other byte one to the right.
-pub fn path_of_bits<W: Write>(out: &mut W, bits: &[u8]) -> io::Result<bool> {
+pub fn path_of_bits<W: Write>(out: &mut W, bits: &[u8]) -> Result<(), Refusal> {
     if MAX_BITS < bits.len() {
-        return Ok(false);
+        return Err(Refusal::BadRecord);
     }
     let mut store = [0u8; MAX_BYTES];
     let builder = push_all(&mut store, bits);
     print_path(out, &mut store, builder)?;
-    Ok(true)
+    Ok(())
 }
 
 // One operation on the set: 0 asks for the bit, any other code sets it too.
@@ -67,11 +69,11 @@ fn operation(set: &mut [u32; 8], code: u8, idx: usize) -> bool
 }
 
 // `t`: pairs of an operation and an index, on one set of 256 bits.
-pub fn visits<W: Write>(out: &mut W, pairs: &[u8]) -> io::Result<bool> {
+pub fn visits<W: Write>(out: &mut W, pairs: &[u8]) -> Result<(), Refusal> {
     let mut set = [0u32; 8];
     for pair in pairs.chunks_exact(2) {
-        let bit = operation(&mut set, pair[0], print::wide(pair[1]));
+        let bit = operation(&mut set, pair[0], usize::from(pair[1]));
         text::decimal(out, u64::from(bit))?;
     }
-    Ok(true)
+    Ok(())
 }

@@ -5,26 +5,26 @@
 mod answer;
 mod bits;
 mod print;
+mod refusal;
 
-ghost use Rattle.std.specs.Prelude.{◌≤◌, length, IfOk};
+ghost use Rattle.std.specs.Prelude.{◌<◌, ◌≤◌, length, IfOk};
 
+use refusal::Refusal;
 use std::io;
 use std::io::Write;
 
-// The answer to the record at the start of the input, and how many bytes the record takes; 0 where it is bad.
-fn record<W: Write>(out: &mut W, input: &[u8]) -> io::Result<usize>
-    ensures { IfOk result (λ n. n ≤ length input.now) }
+// The answer to the record at the start of the input, and how many bytes the record takes.
+fn record<W: Write>(out: &mut W, input: &[u8]) -> Result<usize, Refusal>
+    ensures { IfOk result (λ n. (0 < n) × (n ≤ length input.now)) }
 {
-    if input.len() < 3 {
-        return Ok(0);
-    }
-    let end = 3 + print::wide(input[1]) * 256 + print::wide(input[2]);
-    if input.len() < end {
-        return Ok(0);
-    }
-    if !answer::answer(out, input[0], &input[3..end])? {
-        return Ok(0);
-    }
+    let [op, high, low, ..] = *input else {
+        return Err(Refusal::BadRecord);
+    };
+    let end = 3 + usize::from(u16::from_be_bytes([high, low]));
+    let Some(payload) = input.get(3..end) else {
+        return Err(Refusal::BadRecord);
+    };
+    answer::answer(out, op, payload)?;
     text::line_end(out)?;
     Ok(end)
 }
@@ -33,11 +33,11 @@ fn record<W: Write>(out: &mut W, input: &[u8]) -> io::Result<usize>
 fn records<W: Write>(out: &mut W, input: &[u8]) -> io::Result<()> {
     let mut rest = input;
     while !rest.is_empty() {
-        let n = record(out, rest)?;
-        if n == 0 {
-            return print::bad_record(out);
+        match record(out, rest) {
+            Ok(n) => rest = &rest[n..],
+            Err(Refusal::BadRecord) => return print::bad_record(out),
+            Err(Refusal::Output(error)) => return Err(error),
         }
-        rest = &rest[n..];
     }
     Ok(())
 }

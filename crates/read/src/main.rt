@@ -3,7 +3,6 @@
 
 mod print;
 
-use print::Row;
 use std::env::FillError;
 use std::io;
 use std::io::{Read, Write};
@@ -23,8 +22,8 @@ fn report_with<W: Write, E: Write>(
 ) -> io::Result<()> {
     let a = read_call::nikvoldra_read(input, work, pairs, atoms, bytes);
     print::answer(out, a)?;
-    print::rows(out, Row::Pair, pairs, a.pairs)?;
-    print::rows(out, Row::Atom, atoms, a.atoms)?;
+    print::pairs(out, pairs, a.pairs)?;
+    print::atoms(out, atoms, a.atoms)?;
     print::hex(out, bytes, a.bytes)?;
     out.flush()?;
     questions::question(err, a.number)

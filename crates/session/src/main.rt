@@ -9,7 +9,8 @@ use std::io;
 use std::io::{Read, Write};
 use std::rt::{Env, Files};
 use text::input;
-use text::session_text::{items, print};
+use text::session_text::items::{self, Layout};
+use text::session_text::print::{self, Columns};
 
 // Three words for each of the steps, of which a session has at most 1,024.
 const WORDS: usize = 3072;
@@ -27,43 +28,39 @@ const BLANK: Checkpoint = Checkpoint {
     sentinel: 0,
 };
 
-// What the arguments ask for: the output item by item, each step's counts, the documentation's measure.
-#[derive(Clone, Copy)]
+// How found paths are measured.
+#[derive(Clone, Copy, Debug, Default, PartialEq, Eq)]
+pub enum Measure {
+    #[default]
+    Program,
+    Documentation,
+}
+
+// What the arguments ask for.
+#[derive(Clone, Copy, Debug, Default, PartialEq, Eq)]
 pub struct Options {
-    pub items: bool,
-    pub counts: bool,
-    pub documented: bool,
+    pub layout: Layout,
+    pub columns: Columns,
+    pub measure: Measure,
 }
 
-// The session call with sixteen checkpoint records of its own.
-fn run(file: &[u8], work: &mut [u32], words: &mut [u32], output: &mut [u8]) -> SessionAnswer {
-    let mut checkpoints = [BLANK; 16];
-    session_call::nikvoldra_session(file, work, words, &mut checkpoints, output)
-}
-
-// The same by the documentation's measure.
-fn run_documented(
+// The session call by this measure, with sixteen checkpoint records of its own.
+fn run(
+    measure: Measure,
     file: &[u8],
     work: &mut [u32],
     words: &mut [u32],
     output: &mut [u8],
 ) -> SessionAnswer {
     let mut checkpoints = [BLANK; 16];
-    session_call::nikvoldra_session_documented(file, work, words, &mut checkpoints, output)
-}
-
-// The call that the arguments ask for.
-fn run_by(
-    documented: bool,
-    file: &[u8],
-    work: &mut [u32],
-    words: &mut [u32],
-    output: &mut [u8],
-) -> SessionAnswer {
-    if documented {
-        return run_documented(file, work, words, output);
+    match measure {
+        Measure::Program => {
+            session_call::nikvoldra_session(file, work, words, &mut checkpoints, output)
+        }
+        Measure::Documentation => {
+            session_call::nikvoldra_session_documented(file, work, words, &mut checkpoints, output)
+        }
     }
-    run(file, work, words, output)
 }
 
 // A line for each finished step, the output in hexadecimal or item by item, and the number of the question that got no. The parameters'
@@ -77,9 +74,9 @@ fn report_with<W: Write, E: Write>(
     words: &mut [u32; WORDS],
     output: &mut [u8; OUTPUT],
 ) -> io::Result<()> {
-    let a = run_by(options.documented, file, work, words, output);
-    print::steps(out, words, a.steps, options.counts)?;
-    items::output(out, output, a.size, options.items)?;
+    let a = run(options.measure, file, work, words, output);
+    print::steps(out, words, a.steps, options.columns)?;
+    items::output(out, output, a.size, options.layout)?;
     print::refusal(out, err, a.number)?;
     out.flush()
 }
@@ -120,15 +117,15 @@ fn read_from<W: Write, E: Write, R: Read + Drop>(
 fn asked(options: Options, argument: &[u8]) -> Option<Options> {
     match argument {
         b"--items" => Some(Options {
-            items: true,
+            layout: Layout::Items,
             ..options
         }),
         b"--counts" => Some(Options {
-            counts: true,
+            columns: Columns::Counts,
             ..options
         }),
         b"--documented" => Some(Options {
-            documented: true,
+            measure: Measure::Documentation,
             ..options
         }),
         _ => None,
@@ -159,11 +156,7 @@ fn read_named<W: Write, E: Write, R: Files>(
 fn main(rt: HostRuntime) -> io::Result<()> {
     let mut out = rt.stdout();
     let mut err = rt.stderr();
-    let mut options = Options {
-        items: false,
-        counts: false,
-        documented: false,
-    };
+    let mut options = Options::default();
     let mut name = [0u8; input::LONGEST_NAME];
     for i in 1..usize::MAX {
         match rt.arg(i, &mut name) {

@@ -1,6 +1,5 @@
 // The items of the output: what find_path answered before each of them.
 use atom::{BACK_REFERENCE, CONS_BOX_MARKER};
-use atom_decode::ParseAtom;
 use std::io;
 use std::io::Write;
 
@@ -17,28 +16,23 @@ fn line<W: Write>(out: &mut W, word: &str, bytes: &[u8]) -> io::Result<()> {
 // The line of the atom or path at a place; the place after it.
 fn atom<W: Write>(out: &mut W, word: &str, output: &[u8], position: usize) -> io::Result<usize> {
     let found = atom_decode::parse_atom(output, position);
-    match found {
-        ParseAtom::Blob { start: _, end } => {
-            line(out, word, atom_decode::parse_atom_ptr(output, found))?;
-            Ok(end)
-        }
-        ParseAtom::SerializationError => Ok(output.len()),
-        ParseAtom::NonCanonicalSerialization => Ok(output.len()),
-    }
+    let Ok(blob) = found else {
+        return Ok(output.len());
+    };
+    line(out, word, atom_decode::parse_atom_ptr(output, found))?;
+    Ok(blob.end)
 }
 
 // The line of the item at a place: a reference with its path where find_path gave one, else a pair or an atom. The place after it.
 fn item<W: Write>(out: &mut W, output: &[u8], position: usize) -> io::Result<usize> {
-    if output.len() <= position {
-        return Ok(position);
-    }
-    match output[position] {
-        CONS_BOX_MARKER => {
+    match output.get(position) {
+        None => Ok(position),
+        Some(&CONS_BOX_MARKER) => {
             line(out, "pair", b"")?;
             Ok(position + 1)
         }
-        BACK_REFERENCE => atom(out, "reference", output, position + 1),
-        _ => atom(out, "atom", output, position),
+        Some(&BACK_REFERENCE) => atom(out, "reference", output, position + 1),
+        Some(_) => atom(out, "atom", output, position),
     }
 }
 
@@ -51,12 +45,22 @@ fn items<W: Write>(out: &mut W, output: &[u8]) -> io::Result<()> {
     Ok(())
 }
 
-// The first `count` bytes that the slice has, in hexadecimal or item by item.
-pub fn output<W: Write>(out: &mut W, bytes: &[u8], count: u32, by_items: bool) -> io::Result<()> {
+// How the output is printed.
+#[derive(Clone, Copy, Debug, Default, PartialEq, Eq)]
+pub enum Layout {
+    #[default]
+    Hexadecimal,
+    Items,
+}
+
+// The first `count` bytes that the slice has.
+pub fn output<W: Write>(out: &mut W, bytes: &[u8], count: u32, layout: Layout) -> io::Result<()> {
     let n = crate::least(count, bytes.len());
-    if by_items {
-        return items(out, &bytes[..n]);
+    match layout {
+        Layout::Hexadecimal => {
+            crate::hex(out, &bytes[..n])?;
+            crate::line_end(out)
+        }
+        Layout::Items => items(out, &bytes[..n]),
     }
-    crate::hex(out, &bytes[..n])?;
-    crate::line_end(out)
 }

@@ -1,39 +1,26 @@
 // What the program writes.
-use crate::{decimal, least, line_end, questions, say, space};
+use crate::{line_end, questions, say};
 use std::io;
 use std::io::Write;
 
-// After a space, a number.
-fn column<W: Write>(out: &mut W, number: u32) -> io::Result<()> {
-    space(out)?;
-    decimal(out, u64::from(number))
-}
-
-// A finished step: its number, the size, and 1 if finished; with counts the references and the prefix bytes too.
-fn step<W: Write>(
-    out: &mut W,
-    number: usize,
-    word: u32,
-    references: u32,
-    prefix_bytes: u32,
-    counts: bool,
-) -> io::Result<()> {
-    decimal(out, number as u64)?;
-    column(out, word / 2)?;
-    column(out, word % 2)?;
-    if counts {
-        column(out, references)?;
-        column(out, prefix_bytes)?;
-    }
-    line_end(out)
+// What is printed of a finished step.
+#[derive(Clone, Copy, Debug, Default, PartialEq, Eq)]
+pub enum Columns {
+    // Its number, the size, and 1 if finished.
+    #[default]
+    Sizes,
+    // The references and the prefix bytes too.
+    Counts,
 }
 
 // A line for each of the first `count` steps whose three words the slice has, counted from 1.
-pub fn steps<W: Write>(out: &mut W, words: &[u32], count: u32, counts: bool) -> io::Result<()> {
-    let n = least(count, words.len() / 3);
-    for i in 0..n {
-        let at = 3 * i;
-        step(out, i + 1, words[at], words[at + 1], words[at + 2], counts)?;
+pub fn steps<W: Write>(out: &mut W, words: &[u32], count: u32, columns: Columns) -> io::Result<()> {
+    for (i, step) in words.chunks_exact(3).take(count as usize).enumerate() {
+        write!(out, "{} {} {}", i + 1, step[0] / 2, step[0] % 2)?;
+        if columns == Columns::Counts {
+            write!(out, " {} {}", step[1], step[2])?;
+        }
+        line_end(out)?;
     }
     Ok(())
 }
@@ -43,9 +30,7 @@ pub fn refusal<W: Write, E: Write>(out: &mut W, err: &mut E, number: u32) -> io:
     if number == 0 {
         return Ok(());
     }
-    out.write_all(b"refused ")?;
-    decimal(out, u64::from(number))?;
-    line_end(out)?;
+    write!(out, "refused {number}\n")?;
     out.flush()?;
     questions::question(err, number)
 }

@@ -6,10 +6,10 @@ use Rattle.leaves.proofs.answer.written_in.Goals as goal
 pub slice_bounds-hex-end : goal.slice_bounds-hex-end
 slice_bounds-hex-end g c =
     let w = c.write_atom in
-    written_within _ w.new.output _ _ _ _ _ c.in-Next.is w.ensures.0 w.auto.output
+    written_within _ w.new.output _ _ _ _ c.in-Ok.is w.ensures.0 w.auto.output
 
-pub slice_bounds-hex-end-in-Next : goal.slice_bounds-hex-end-in-Next
-slice_bounds-hex-end-in-Next g c =
+pub slice_bounds-hex-end-2 : goal.slice_bounds-hex-end-2
+slice_bounds-hex-end-2 g c =
     let w = c.write_atom in
-    let h : c.in-Next.n ≤ length w.new.output = written_within _ w.new.output _ _ _ _ _ c.in-Next.is w.ensures.0 w.auto.output in
+    let h : c.in-Ok.written.next ≤ length w.new.output = written_within _ w.new.output _ _ _ _ c.in-Ok.is w.ensures.0 w.auto.output in
     search rules
