@@ -43,23 +43,24 @@ const ATOM_KEY: u32 = 0xfffffffe;
 // The first word of a sentinel's key; the second one is its entry.
 const SENTINEL_KEY: u32 = 0xffffffff;
 
-// The words of a key.
-fn words_of(key: Key) -> KeyWords
-    ensures { (result.left ≡ first_word key) × (result.right ≡ second_word key) }
-{
-    match key {
-        Key::Pair(l, r) => KeyWords {
-            left: l.0,
-            right: r.0,
-        },
-        Key::Atom(h) => KeyWords {
-            left: ATOM_KEY,
-            right: h.0,
-        },
-        Key::Sentinel(e) => KeyWords {
-            left: SENTINEL_KEY,
-            right: e.0,
-        },
+impl From<Key> for KeyWords {
+    ghost from_gives = { λ key k. (k.left ≡ first_word key) × (k.right ≡ second_word key) };
+
+    fn from(key: Key) -> KeyWords {
+        match key {
+            Key::Pair(l, r) => KeyWords {
+                left: l.0,
+                right: r.0,
+            },
+            Key::Atom(h) => KeyWords {
+                left: ATOM_KEY,
+                right: h.0,
+            },
+            Key::Sentinel(e) => KeyWords {
+                left: SENTINEL_KEY,
+                right: e.0,
+            },
+        }
     }
 }
 
@@ -75,7 +76,7 @@ pub fn find_key(work: &[u32], key: Key) -> Option<EntryIndex>
     requires { Sound work.now }
     ensures { option_of result ≡ find_row (first_word key) (second_word key) (rows_of work.now) }
 {
-    let k = words_of(key);
+    let k = KeyWords::from(key);
     let slot = work_layout::slot_of(k.left, k.right);
     let mut next = found_by(work[work_layout::HEADS + slot]);
     while let Some(e) = next {

@@ -6,7 +6,7 @@ ghost use Rattle.work_layout.specs.Layout.{USED, ENTRIES};
 ghost use Rattle.work_layout.specs.Rows.{rows_of, Sound};
 ghost use Rattle.cache_entries.specs.table.Effects.{first_word, second_word, find_row, Inserted};
 
-use crate::table::Key;
+use crate::table::{Key, KeyWords};
 use work_layout::EntryIndex;
 
 // A new entry with this key, which none has yet, and no parents.
@@ -16,7 +16,7 @@ pub fn insert(work: &mut [u32], key: Key, len: u64) -> EntryIndex
         × (find_row (first_word key) (second_word key) (rows_of work.old) ≡ none) }
     ensures { Inserted work.old work.new (first_word key) (second_word key) len result.0 }
 {
-    let k = crate::table::words_of(key);
+    let k = KeyWords::from(key);
     let slot = work_layout::slot_of(k.left, k.right);
     let used = work[work_layout::USED];
     let e = used as usize;

@@ -12,7 +12,7 @@ loop-next-init c = rw (head_is _ _ c.found_by-next.ensures) (seek_start c.args.w
 
 pub returns-then-work-i-2 : goal.returns-then-work-i-2
 returns-then-work-i-2 c =
-    let words = c.words_of-k.ensures in
+    let words = c.from-k.ensures in
     seek_found c.args.work.now c.requires _ _ _ c.slot_of-slot.ensures _ c.in-Some.e.0 c.loop-next.invariant (ap head_of c.in-Some.is)
     (c.if-work-i.true, c.if-work-i-2.true)
     ∙ (λ j. find_row (words.0 j) (words.1 j) (rows_of c.args.work.now))
@@ -30,6 +30,6 @@ loop-next-preserved c =
 
 pub returns : goal.returns
 returns c =
-    let words = c.words_of-k.ensures in
+    let words = c.from-k.ensures in
     seek_none _ _ _ _ _ c.loop-next.invariant (ap head_of c.in_default.is)
     ∙ (λ j. find_row (words.0 j) (words.1 j) (rows_of c.args.work.now))
