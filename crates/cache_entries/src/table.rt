@@ -31,7 +31,7 @@ pub enum Key {
 }
 
 // The two words that stand for a key in work.
-#[derive(Clone, Copy)]
+#[derive(Clone, Copy, Debug, PartialEq, Eq)]
 struct KeyWords {
     left: u32,
     right: u32,

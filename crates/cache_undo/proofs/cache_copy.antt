@@ -1,3 +1,4 @@
 mod SaveLaws
 mod TakeLaws
 mod BringLaws
+mod CopyLaws

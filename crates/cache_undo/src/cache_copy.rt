@@ -3,8 +3,8 @@ ghost use Rattle.std.specs.Prelude.{◌≡◌, ℕ, ◌+◌, ◌*◌, ◌≤◌,
 ghost use Rattle.words.specs.Words.{at, WORK};
 ghost use Rattle.work_layout.specs.Layout.{PAIR_COUNT, COUNTS, SEEN, COPIES, USED, ENTRIES, MAX_PARENTS};
 ghost use Rattle.work_layout.specs.Rows.{Sound, all_counts, further, all_further};
-ghost use Rattle.cache_undo.specs.cache_copy.Effects.{ListSaved, ListsSaved, CacheSaved};
-ghost use Rattle.cache_undo.specs.cache_copy.Effects.{TakenOff, ListBrought, ListsBrought, Bringable, CacheBrought};
+ghost use Rattle.cache_undo.specs.cache_copy.Effects.{ListCopied, ListsCopied, CacheSaved};
+ghost use Rattle.cache_undo.specs.cache_copy.Effects.{TakenOff, Bringable, CacheBrought};
 
 use words::slices;
 use work_layout::{COPIES, COPY, COUNTS, EntryIndex, MAPS, PAIR_COUNT, USED, parents};
@@ -21,34 +21,42 @@ const COPIED_FIRSTS: usize = 12386;
 
 const COPIED_FURTHERS: usize = 15458;
 
-// Saving and bringing stay two: one function for both ways is no plainer, its contract goes by cases, and it asks at each word which way.
+// Which way the further words go: into a copy of undo, or back from it.
+const SAVE: bool = true;
 
-// The further words of the n parents of entry e stand from `to` on too. Answers where they end.
-fn save_list(work: &mut [u32], e: EntryIndex, n: usize, to: usize) -> usize
-    requires { (WORK ≤ length work.old) × (e.0 < ENTRIES) × (n ≤ MAX_PARENTS) × (SEEN ≤ to) × (to + further n ≤ WORK) }
-    ensures { (result ≡ to + further n) × ListSaved work.old work.new e.0 (further n) to }
+const BRING: bool = false;
+
+// The further words of the n parents of entry e stand from `place` on too: they go there, or come from there. Answers where they end.
+fn copy_list<const SAVED: bool>(work: &mut [u32], e: EntryIndex, n: usize, place: usize) -> usize
+    requires { (WORK ≤ length work.old) × (e.0 < ENTRIES) × (n ≤ MAX_PARENTS) × (SEEN ≤ place) × (place + further n ≤ WORK) }
+    ensures { (result ≡ place + further n) × ListCopied SAVED work.old work.new e.0 (further n) place }
 {
     let further = n.saturating_sub(1) / 2;
     for i in 0..further {
-        work[to + i] = parents::links_at(work, e, i + 1);
+        if SAVED {
+            work[place + i] = parents::links_at(work, e, i + 1);
+        } else {
+            let word = work[place + i];
+            parents::set_links(work, e, i + 1, word);
+        }
     }
-    to + further
+    place + further
 }
 
-// The further words of the parents of the first n entries stand from `to` on too, those of one entry after the other.
-fn save_lists(work: &mut [u32], n: usize, to: usize)
+// The further words of the parents of the first n entries stand from `place` on too, those of one entry after the other.
+fn copy_lists<const SAVED: bool>(work: &mut [u32], n: usize, place: usize)
     requires { (WORK ≤ length work.old)
         × (n ≤ ENTRIES)
         × ((e : ℕ) → e < n → at work.old (COUNTS + e) ≤ MAX_PARENTS)
-        × (SEEN ≤ to)
-        × (to + all_further work.old n ≤ WORK) }
-    ensures { ListsSaved work.old work.new n to }
+        × (SEEN ≤ place)
+        × (place + all_further work.old n ≤ WORK) }
+    ensures { ListsCopied SAVED work.old work.new n place }
 {
-    let mut next = to;
+    let mut next = place;
     for e in 0..n {
         let entry = EntryIndex(e as u32);
         let count = parents::count_of(work, entry);
-        next = save_list(work, entry, count, next);
+        next = copy_list::<SAVED>(work, entry, count, next);
     }
 }
 
@@ -65,7 +73,7 @@ pub fn save(work: &mut [u32], k: usize)
     slices::copy_within(work, MAPS, to + COPIED_MAPS, pairs);
     slices::copy_within(work, COUNTS, to + COPIED_COUNTS, n);
     parents::save_first_links(work, n, to + COPIED_FIRSTS);
-    save_lists(work, n, to + COPIED_FURTHERS);
+    copy_lists::<SAVE>(work, n, to + COPIED_FURTHERS);
 }
 
 // The entries from number n on are taken off their slots, the newest first, and have no parents.
@@ -82,36 +90,6 @@ fn take_off(work: &mut [u32], n: usize)
     work[USED] = n as u32;
 }
 
-// The words that stand from `from` on become the further words of the n parents of entry e. Answers where they end.
-fn bring_list(work: &mut [u32], e: EntryIndex, n: usize, from: usize) -> usize
-    requires { (WORK ≤ length work.old) × (e.0 < ENTRIES) × (n ≤ MAX_PARENTS) × (SEEN ≤ from) × (from + further n ≤ WORK) }
-    ensures { (result ≡ from + further n) × ListBrought work.old work.new e.0 (further n) from }
-{
-    let further = n.saturating_sub(1) / 2;
-    for i in 0..further {
-        let word = work[from + i];
-        parents::set_links(work, e, i + 1, word);
-    }
-    from + further
-}
-
-// The words that stand from `from` on, those of one entry after the other, become the further words of the parents of the first n entries.
-fn bring_lists(work: &mut [u32], n: usize, from: usize)
-    requires { (WORK ≤ length work.old)
-        × (n ≤ ENTRIES)
-        × ((e : ℕ) → e < n → at work.old (COUNTS + e) ≤ MAX_PARENTS)
-        × (SEEN ≤ from)
-        × (from + all_further work.old n ≤ WORK) }
-    ensures { ListsBrought work.old work.new n from }
-{
-    let mut next = from;
-    for e in 0..n {
-        let entry = EntryIndex(e as u32);
-        let count = parents::count_of(work, entry);
-        next = bring_list(work, entry, count, next);
-    }
-}
-
 // The cache of copy k is the present one again, but for the sentinel's entry.
 pub fn bring(work: &mut [u32], k: usize)
     requires { (k < 16) × ((v : List ℕ) × Bringable v work.old k) }
@@ -124,5 +102,5 @@ pub fn bring(work: &mut [u32], k: usize)
     slices::copy_within(work, from + COPIED_MAPS, MAPS, pairs);
     slices::copy_within(work, from + COPIED_COUNTS, COUNTS, n);
     parents::bring_first_links(work, n, from + COPIED_FIRSTS);
-    bring_lists(work, n, from + COPIED_FURTHERS);
+    copy_lists::<BRING>(work, n, from + COPIED_FURTHERS);
 }

@@ -14,6 +14,24 @@ use Rattle.work_layout.specs.Rows.{links_at, Sound, all_counts, further, all_fur
 use Rattle.work_layout.specs.Counts.{counts_upto, further_same, further_more, further_within, further_few}
 use Rattle.cache_undo.specs.cache_copy.Effects.{copied_used, copied_maps, copied_counts, copied_firsts, copied_furthers, ListSaved, ListsSaved, CacheSaved}
 
+-- ---- the further words of one entry
+
+pub list_saved_more : (w w₁ : List ℕ) (e i to v : ℕ) → e < ENTRIES → 2 * (i + 1) < MAX_PARENTS → SEEN ≤ to → to + i < length w → v ≡ links_at w₁ e (i + 1) → ListSaved w w₁ e i to
+    → ListSaved w (set w₁ (to + i) v) e (i + 1) to
+list_saved_more w w₁ e i to v h l o room q s = record {
+  len = length-set w₁ (to + i) v ∙ s.len;
+  here = λ j k. go j k (ℕ_discrete j i);
+  low = λ j k. apart j (omega arith) ∙ s.low j k;
+  high = λ j k. apart j (omega arith) ∙ s.high j (omega arith);
+}
+  where
+    apart : (j : ℕ) → (j ≡ to + i → ⊥) → at (set w₁ (to + i) v) j ≡ at w₁ j
+    apart j d = get_or-set_other w₁ (to + i) j v 0 d
+
+    go : (j : ℕ) → j < i + 1 → Dec (j ≡ i) → at (set w₁ (to + i) v) (to + j) ≡ links_at w e (j + 1)
+    go j k (yes x) = rw x (get_or-set_same w₁ (to + i) v 0 (omega (arith, s.len)) ∙ q ∙ s.low (PARENTS + (i + 1) * ENTRIES + e) (omega arith))
+    go j k (no x) = apart (to + j) (omega arith) ∙ s.here j (omega arith)
+
 -- ---- the further words of all entries
 
 pub lists_saved_none : (w : List ℕ) (to : ℕ) → ListsSaved w w 0 to

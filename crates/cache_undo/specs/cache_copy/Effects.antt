@@ -1,5 +1,5 @@
 -- Where the tree cache lies in a copy of undo; what saving it and putting it back leave, and which words are as they were.
-use Rattle.std.specs.Prelude.{ℕ, ◌+◌, ◌*◌, ◌≤◌, ◌<◌, ◌≡◌, List, length}
+use Rattle.std.specs.Prelude.{ℕ, ◌+◌, ◌*◌, ◌≤◌, ◌<◌, ◌≡◌, Bool, true, false, List, length}
 use Rattle.words.specs.Words.{at}
 use Rattle.work_layout.specs.Layout.{PAIR_COUNT, MAPS, SENTINEL_ENTRY, USED, COUNTS, LEFT, HEADS, PARENTS, SEEN, COPIES, COPY, ENTRIES, SLOTS}
 use Rattle.work_layout.specs.Rows.{links_at, link_at, slot_at, prev, Sound, all_counts, further, all_further}
@@ -80,6 +80,15 @@ pub record ListsBrought (w w' : List ℕ) (n from : ℕ) : Type 0 where
   pub firsts : (d : ℕ) → d < ENTRIES → links_at w' d 0 ≡ links_at w d 0
   pub low : (j : ℕ) → j < PARENTS → at w' j ≡ at w j
   pub high : (j : ℕ) → SEEN ≤ j → at w' j ≡ at w j
+
+-- Either way: saved where it is true, put back where it is false.
+abbrev pub ListCopied : Bool → (w w' : List ℕ) (e n place : ℕ) → Type 0
+ListCopied true w w' e n place = ListSaved w w' e n place
+ListCopied false w w' e n place = ListBrought w w' e n place
+
+abbrev pub ListsCopied : Bool → (w w' : List ℕ) (n place : ℕ) → Type 0
+ListsCopied true w w' n place = ListsSaved w w' n place
+ListsCopied false w w' n place = ListsBrought w w' n place
 
 -- What putting back copy k takes: it has the cache of v, of which the present one has all entries, and maybe more. The file has as many pairs as then.
 pub record Bringable (v w : List ℕ) (k : ℕ) : Type 0 where

@@ -28,12 +28,12 @@ copies c =
       firsts = copied _ (copied_firsts c.args.k) PARENTS n (omega (arith, l)) (omega (arith, l)) _ c.bring_first_links.ensures;
     }
 
-pub bring_lists-requires : goal.bring_lists-requires
-bring_lists-requires c =
-    let m = copies (goal.at.bring_lists-requires c).After-bring_first_links in
+pub copy_lists-requires : goal.copy_lists-requires
+copy_lists-requires c =
+    let m = copies (goal.at.copy_lists-requires c).After-bring_first_links in
     lists_asked c.requires.1.0 c.args.work.now _ _ _ _ c.args.k _ _ c.requires.0 c.requires.1.1 refl refl c.take_off.ensures m.maps m.counts m.firsts
 
 pub returns : goal.returns
 returns c v b =
     let m = copies (goal.at.returns c).After-bring_first_links in
-    cache_brought v c.args.work.now _ _ _ _ c.args.k _ _ c.requires.0 b refl refl c.take_off.ensures m.maps m.counts m.firsts _ c.bring_lists.ensures
+    cache_brought v c.args.work.now _ _ _ _ c.args.k _ _ c.requires.0 b refl refl c.take_off.ensures m.maps m.counts m.firsts _ c.copy_lists.ensures

@@ -24,12 +24,12 @@ copies c =
       firsts = copied _ PARENTS (copied_firsts c.args.k) (at c.args.work.now USED) (omega arith) (omega arith) _ c.save_first_links.ensures;
     }
 
-pub save_lists-requires : goal.save_lists-requires
-save_lists-requires c =
-    let m = copies (goal.at.save_lists-requires c).After-save_first_links in
+pub copy_lists-requires : goal.copy_lists-requires
+copy_lists-requires c =
+    let m = copies (goal.at.copy_lists-requires c).After-save_first_links in
     lists_asked c.args.work.now _ _ _ c.args.k _ _ c.requires.0 c.requires.1 c.requires.2 c.requires.3 refl refl m.maps m.counts m.firsts
 
 pub returns : goal.returns
 returns c =
     let m = copies (goal.at.returns c).After-save_first_links in
-    cache_saved c.args.work.now _ _ _ c.args.k _ _ c.requires.0 c.requires.1 c.requires.2 c.requires.3 refl refl m.maps m.counts m.firsts _ c.save_lists.ensures
+    cache_saved c.args.work.now _ _ _ c.args.k _ _ c.requires.0 c.requires.1 c.requires.2 c.requires.3 refl refl m.maps m.counts m.firsts _ c.copy_lists.ensures
