@@ -8,7 +8,7 @@ use Rattle.cache_undo.proofs.cache_copy.copy_list.Goals.{then-this-ne0, else-thi
 pub loop-i-preserved : goal.loop-i-preserved
 loop-i-preserved g c =
     elim c.if-this-ne0.branch [
-      then-this-ne0 w ↦
+      | then-this-ne0 w ↦
           rw w.work-is
           (word_saved _ (ap not (ne_eqb g.row.SAVED 0 w.if-this-ne0.true)) c.args.work.now c.loop-i.work c.args.e.0 c.loop-i.i c.args.place w.links_at.result c.requires.1 (omega arith)
           c.requires.3 (omega arith) w.links_at.ensures c.loop-i.invariant)

@@ -1,7 +1,6 @@
 -- `cache_undo::cache_copy::copy_lists` meets its contract, entry by entry: the counts are as they were.
 -- Assumes nothing.
-use Rattle.std.proofs.Common.{◌≡◌, ◌+◌, ap, ◌∙◌, arith}
-use Rattle.words.specs.Words.{at}
+use Rattle.std.proofs.Common.{◌+◌, ap, ◌∙◌, arith}
 use Rattle.work_layout.specs.Layout.{COUNTS}
 use Rattle.work_layout.specs.Rows.{further}
 use Rattle.work_layout.specs.Counts.{further_none, further_more, further_within}
