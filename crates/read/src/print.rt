@@ -2,7 +2,7 @@
 use read_answer::ReadAnswer;
 use std::io;
 use std::io::Write;
-use text::{least, line_end, say};
+use text::{least, line_end};
 
 // A line: number, root, pairs, atoms, bytes, ghosts.
 pub fn answer<W: Write>(out: &mut W, a: ReadAnswer) -> io::Result<()> {
@@ -34,9 +34,4 @@ pub fn hex<W: Write>(out: &mut W, bytes: &[u8], count: u32) -> io::Result<()> {
     let n = least(count, bytes.len());
     text::hex(out, &bytes[..n])?;
     line_end(out)
-}
-
-// How the program is called, on standard error.
-pub fn usage<W: Write>(err: &mut W) -> io::Result<()> {
-    say(err, b"usage: read [FILE ..]    no file: standard input\n")
 }

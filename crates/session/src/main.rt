@@ -4,11 +4,9 @@
 
 use session_answer::SessionAnswer;
 use session_state::Checkpoint;
-use std::env::FillError;
 use std::io;
-use std::io::{Read, Write};
-use std::rt::{Env, Files};
-use text::input;
+use std::io::Write;
+use text::program::{self, Program};
 use text::session_text::items::{self, Layout};
 use text::session_text::print::{self, Columns};
 
@@ -81,92 +79,34 @@ fn report_with<W: Write, E: Write>(
     out.flush()
 }
 
-// The same, with arrays of its own.
-fn report<W: Write, E: Write>(
-    out: &mut W,
-    err: &mut E,
-    file: &[u8],
-    options: Options,
-) -> io::Result<()> {
-    let mut work = [0u32; words::WORK];
-    let mut words = [0u32; WORDS];
-    let mut output = [0u8; OUTPUT];
-    report_with(out, err, file, options, &mut work, &mut words, &mut output)
-}
+impl Program for Options {
+    const USAGE: &'static [u8] =
+        b"usage: session [--items] [--counts] [--documented] [FILE ..]    no file: standard input\n";
 
-// A read of no bytes first, which fails where nothing can be read, as from a directory.
-fn read_from<W: Write, E: Write, R: Read + Drop>(
-    out: &mut W,
-    err: &mut E,
-    from: R,
-    name: &[u8],
-    options: Options,
-) -> io::Result<()> {
-    let mut from = from;
-    match from.read(&mut []) {
-        Ok(_) => {
-            let mut file = [0u8; input::LONGEST];
-            let n = input::read_full(&mut from, &mut file)?;
-            report(out, err, &file[..n], options)
+    fn asks(&mut self, argument: &[u8]) -> bool {
+        match argument {
+            b"--items" => self.layout = Layout::Items,
+            b"--counts" => self.columns = Columns::Counts,
+            b"--documented" => self.measure = Measure::Documentation,
+            _ => return false,
         }
-        Err(error) => input::fail(err, name, error),
+        true
     }
-}
 
-// What the arguments --items, --counts and --documented ask for after them; others ask for nothing.
-fn asked(options: Options, argument: &[u8]) -> Option<Options> {
-    match argument {
-        b"--items" => Some(Options {
-            layout: Layout::Items,
-            ..options
-        }),
-        b"--counts" => Some(Options {
-            columns: Columns::Counts,
-            ..options
-        }),
-        b"--documented" => Some(Options {
-            measure: Measure::Documentation,
-            ..options
-        }),
-        _ => None,
+    fn report<W: Write, E: Write>(&self, out: &mut W, err: &mut E, input: &[u8]) -> io::Result<()> {
+        let mut work = [0u32; words::WORK];
+        let mut words = [0u32; WORDS];
+        let mut output = [0u8; OUTPUT];
+        report_with(out, err, input, *self, &mut work, &mut words, &mut output)
     }
-}
-
-// A file that an argument names, unless it asks for something: what is asked for after it.
-fn read_named<W: Write, E: Write, R: Files>(
-    out: &mut W,
-    err: &mut E,
-    rt: &R,
-    name: &[u8],
-    options: Options,
-) -> io::Result<Options> {
-    if let Some(asked) = asked(options, name) {
-        return Ok(asked);
-    }
-    match input::open(rt, name) {
-        Ok(file) => read_from(out, err, file, name, options)?,
-        Err(error) => {
-            input::fail(err, name, error)?;
-            print::usage(err)?;
-        }
-    }
-    Ok(options)
 }
 
 fn main(rt: HostRuntime) -> io::Result<()> {
-    let mut out = rt.stdout();
-    let mut err = rt.stderr();
-    let mut options = Options::default();
-    let mut name = [0u8; input::LONGEST_NAME];
-    for i in 1..usize::MAX {
-        match rt.arg(i, &mut name) {
-            Ok(n) => options = read_named(&mut out, &mut err, &rt, &name[..n], options)?,
-            Err(FillError::TooLong) => input::too_long(&mut err)?,
-            Err(FillError::NotPresent) if i == 1 => {
-                return read_from(&mut out, &mut err, rt.stdin(), b"standard input", options);
-            }
-            Err(FillError::NotPresent) => return Ok(()),
-        }
-    }
-    Ok(())
+    program::run(
+        &mut Options::default(),
+        &mut rt.stdout(),
+        &mut rt.stderr(),
+        rt.stdin(),
+        &rt,
+    )
 }

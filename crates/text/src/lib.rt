@@ -2,6 +2,7 @@
 #![tactic(auto)]
 
 pub mod input;
+pub mod program;
 pub mod questions;
 pub mod session_text;
 

@@ -1,5 +1,5 @@
 // What the program writes.
-use crate::{line_end, questions, say};
+use crate::{line_end, questions};
 use std::io;
 use std::io::Write;
 
@@ -33,12 +33,4 @@ pub fn refusal<W: Write, E: Write>(out: &mut W, err: &mut E, number: u32) -> io:
     write!(out, "refused {number}\n")?;
     out.flush()?;
     questions::question(err, number)
-}
-
-// How the program is called, on standard error.
-pub fn usage<W: Write>(err: &mut W) -> io::Result<()> {
-    say(
-        err,
-        b"usage: session [--items] [--counts] [--documented] [FILE ..]    no file: standard input\n",
-    )
 }
