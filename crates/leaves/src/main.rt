@@ -32,6 +32,7 @@ fn record<W: Write>(out: &mut W, input: &[u8]) -> Result<usize, Refusal>
 // The answers to all records, up to the first bad one.
 fn records<W: Write>(out: &mut W, input: &[u8]) -> io::Result<()> {
     let mut rest = input;
+    // No `for`: a record says itself how long it is.
     while !rest.is_empty() {
         match record(out, rest) {
             Ok(n) => rest = &rest[n..],

@@ -20,6 +20,7 @@ pub fn read_full<R: Read>(from: &mut R, input: &mut [u8]) -> io::Result<usize>
     ensures { IfOk result (λ n. n ≤ length input.new) }
 {
     let mut filled = 0;
+    // No `for`: each turn goes on by as many bytes as a read gave.
     while filled < input.len() {
         let n = from.read(&mut input[filled..])?;
         if n == 0 {

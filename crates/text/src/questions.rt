@@ -12,7 +12,7 @@ fn say_line<W: Write>(err: &mut W, text: &[u8], number: usize) -> io::Result<()>
     }
 }
 
-// The question that got no, in words, on standard error; nothing for none.
+// The question that got no, in words, on standard error; nothing for 0, which is none. It is a number as in the calls' answers, which C reads.
 pub fn question<W: Write>(err: &mut W, number: u32) -> io::Result<()> {
     say_line(
         err,

@@ -25,7 +25,7 @@ pub fn steps<W: Write>(out: &mut W, words: &[u32], count: u32, columns: Columns)
     Ok(())
 }
 
-// The number of the question that got no, and its words on standard error; nothing for none.
+// The number of the question that got no, as the call's answer has it for C, and its words on standard error; nothing for 0, which is none.
 pub fn refusal<W: Write, E: Write>(out: &mut W, err: &mut E, number: u32) -> io::Result<()> {
     if number == 0 {
         return Ok(());
