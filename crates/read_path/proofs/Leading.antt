@@ -1,6 +1,7 @@
 -- What a path leads to from the stack, by the number of set bits in front: below the stack, the list from a value down, or into a value.
 -- Assumes nothing.
 use Prim.Native.Nat.{ℕ, zero, suc, ◌+◌, ◌-◌, ◌*◌, ◌≤◌, ◌<◌}
+use Rattle.std.specs.Prelude.{Result, Ok, Err}
 use mathlib.Core.Path.{◌≡◌, refl, sym, ap, subst, ◌∙◌}
 use mathlib.Core.Bool.{Bool, true, false}
 use mathlib.Core.List.{List, [], ◌∷◌, ◌++◌}
@@ -20,14 +21,14 @@ use Rattle.read_store.proofs.reader_stacks.Stacks.{length_values, drop_values}
 use Rattle.path.specs.declared.path_bits.PathBits.TheVariants as path_bits
 use Rattle.path.specs.Answers.{counted}
 use Rattle.path.proofs.path_bits.Bits.{lowest}
-use Rattle.read_path.specs.declared.path_walk.Walked.{Walked}
-use Rattle.read_path.specs.declared.path_walk.Walked.TheVariants as walked
+use Rattle.read_path.specs.declared.path_walk.PathIntoAtom.{PathIntoAtom}
 use Rattle.read_path.specs.Answers.{down, Within, Reachable, walked_to, Walks}
 use Rattle.read_path.specs.declared.stack_list.Built.{Built}
-use Rattle.read_path.specs.declared.Traversed.{Traversed}
+use Rattle.read_path.specs.declared.stack_list.Counts.{Counts}
+use Rattle.allocator.specs.declared.NodePtr.{NodePtr}
 use Rattle.spec_reading.specs.Sound.{unlisted}
 use Rattle.read_path.specs.Lists.{HaveLists, ListRoom, Lists}
-use Rattle.read_path.specs.Leads.{led, reached, Walkable, Leads, LeadsTo, SameTotal}
+use Rattle.read_path.specs.Leads.{led, Walkable, Leads, LeadsTo, SameTotal}
 use Rattle.read_path.proofs.stack_list.Adding.{unlisted_up}
 
 -- ---- the bits of the path
@@ -119,10 +120,15 @@ values_split w w' (suc n) (suc k) h f =
 
 -- ---- what is left where a path leads to a node of the store
 
-leads_to : (w p : List ℕ) (values listed used ghosts : ℕ) → HaveLists w listed values → (r : Walked) (n : Option Node) (s : Store) → s.pairs ≡ take (2 * used) p
+-- A node of the store is reached with no pair made.
+abbrev pub reached : Result NodePtr PathIntoAtom → Counts → Result Built PathIntoAtom
+reached (Ok h) c = Ok (record { node = h; counts = c })
+reached (Err into) c = Err into
+
+leads_to : (w p : List ℕ) (values listed used ghosts : ℕ) → HaveLists w listed values → (r : Result NodePtr PathIntoAtom) (n : Option Node) (s : Store) → s.pairs ≡ take (2 * used) p
     → s.ghosts ≡ ghosts → walked_to r ≡ n
-    → LeadsTo w p values used (led_to n (values_of w values) s) w p (reached r used ghosts listed)
-leads_to w p values listed used ghosts a (walked.Node h) n s e f q =
+    → LeadsTo w p values used (led_to n (values_of w values) s) w p (reached r (record { listed = listed; pairs = used; ghosts = ghosts }))
+leads_to w p values listed used ghosts a (Ok h) n s e f q =
     record {
       node_is = ap node_handle (sym q) ∙ ap some (handle_of_node_of h.0);
       values_are = refl;
@@ -132,25 +138,27 @@ leads_to w p values listed used ghosts a (walked.Node h) n s e f q =
       low = λ k l. refl;
       lists = a;
     }
-leads_to w p values listed used ghosts a walked.IntoAtom n s e f q = ap node_handle (sym q)
+leads_to w p values listed used ghosts a (Err into) n s e f q = ap node_handle (sym q)
 
-abbrev pub nil_reached : Walked
-nil_reached = walked.Node (record { 0 = 134217728 })
+abbrev pub nil_reached : Result NodePtr PathIntoAtom
+nil_reached = Ok (record { 0 = 134217728 })
 
 module _ (path w p : List ℕ) (values listed used ghosts : ℕ) (a : HaveLists w listed values) where
+  abbrev counts : Counts
+  counts = record { listed = listed; pairs = used; ghosts = ghosts }
+
   -- A node of the store, or none, where the definition leads.
-  reaches : (r : Walked) (t : Traversed) → t ≡ reached r used ghosts listed → (n : Option Node) (s : Store)
+  reaches : (r : Result NodePtr PathIntoAtom) (n : Option Node) (s : Store)
       → led (read_path path) (values_of w values) s ≡ led_to n (values_of w values) s → s.pairs ≡ take (2 * used) p → s.ghosts ≡ ghosts
-      → walked_to r ≡ n → LeadsTo w p values used (led (read_path path) (values_of w values) s) w p t
-  reaches r t is n s l e f g =
-      subst (λ (x : Traversed). LeadsTo w p values used (led (read_path path) (values_of w values) s) w p x) (sym is)
-      (subst (λ (y : Led). LeadsTo w p values used y w p (reached r used ghosts listed)) (sym l) (leads_to w p values listed used ghosts a r n s e f g))
+      → walked_to r ≡ n → LeadsTo w p values used (led (read_path path) (values_of w values) s) w p (reached r counts)
+  reaches r n s l e f g =
+      subst (λ (y : Led). LeadsTo w p values used y w p (reached r counts)) (sym l) (leads_to w p values listed used ghosts a r n s e f g)
 
   -- A path with no set bit is nil.
-  pub leads_nil : (t : Traversed) → t ≡ reached nil_reached used ghosts listed → read_path path ≡ none
-      → (s : Store) → s.pairs ≡ take (2 * used) p → s.ghosts ≡ ghosts → LeadsTo w p values used (led (read_path path) (values_of w values) s) w p t
-  leads_nil t is z s e f =
-      reaches nil_reached t is (some nil) s (ap (λ (o : Option (List Bool)). led o (values_of w values) s) z) e f (ap some node_of_nil)
+  pub leads_nil : read_path path ≡ none → (s : Store) → s.pairs ≡ take (2 * used) p → s.ghosts ≡ ghosts
+      → LeadsTo w p values used (led (read_path path) (values_of w values) s) w p (reached nil_reached counts)
+  leads_nil z s e f =
+      reaches nil_reached (some nil) s (ap (λ (o : Option (List Bool)). led o (values_of w values) s) z) e f (ap some node_of_nil)
 
   module _ (count : ℕ) (q : Counted path count) (steps : ℕ) (d : steps ≡ down q.bits values) where
     led_some : (s : Store) → led (read_path path) (values_of w values) s ≡ lead q.bits (values_of w values) s
@@ -162,12 +170,12 @@ module _ (path w p : List ℕ) (values listed used ghosts : ℕ) (a : HaveLists 
     pub steps_within : (steps ≤ count) × (steps ≤ values)
     steps_within = omega (arith, d, q.long, down_within q.bits values)
 
-    module _ (r : Walked) (t : Traversed) (is : t ≡ reached r used ghosts listed) where
+    module _ (r : Result NodePtr PathIntoAtom) where
       -- Below the lowest value is nil.
       pub leads_below : steps ≡ values → Walks p used (drop steps q.bits) 134217728 r → (s : Store) → s.pairs ≡ take (2 * used) p → s.ghosts ≡ ghosts
-          → LeadsTo w p values used (led (read_path path) (values_of w values) s) w p t
+          → LeadsTo w p values used (led (read_path path) (values_of w values) s) w p (reached r counts)
       leads_below z g s e f =
-          reaches r t is (walk s (drop steps q.bits) nil) s
+          reaches r (walk s (drop steps q.bits) nil) s
           (led_some s
           ∙ lead_below q.bits (values_of w values) s (down_values ∙ z ∙ sym (length_values w values))
           ∙ ap (λ (k : ℕ). led_to (walk s (drop k q.bits) nil) (values_of w values) s) (length_values w values ∙ sym z))
@@ -175,9 +183,9 @@ module _ (path w p : List ℕ) (values listed used ghosts : ℕ) (a : HaveLists 
 
       -- Into the value that a clear bit comes to.
       pub leads_value : steps < values → steps < count → Walks p used (drop (steps + 1) q.bits) (at w (VALUES + 2 * (values - 1 - steps))) r
-          → (s : Store) → s.pairs ≡ take (2 * used) p → s.ghosts ≡ ghosts → LeadsTo w p values used (led (read_path path) (values_of w values) s) w p t
+          → (s : Store) → s.pairs ≡ take (2 * used) p → s.ghosts ≡ ghosts → LeadsTo w p values used (led (read_path path) (values_of w values) s) w p (reached r counts)
       leads_value m n g s e f =
-          reaches r t is (walk s (drop (suc steps) q.bits) (node_of (at w (VALUES + 2 * (values - 1 - steps))))) s
+          reaches r (walk s (drop (suc steps) q.bits) (node_of (at w (VALUES + 2 * (values - 1 - steps))))) s
           (led_some s
           ∙ lead_value q.bits (values_of w values) s steps down_values (omega (arith, q.long)) (value_at w (values - 1 - steps)) (values_of w (values - 1 - steps))
           (value_next w values steps m))
@@ -236,9 +244,6 @@ pub lists_of : {w p : List ℕ} {values listed used ghosts : ℕ} → Walkable w
 lists_of k = record { all = k.room.lists; few = k.listed_few }
 
 -- A node that was reached changes no count.
-pub total_reached : (w : Walked) (used ghosts listed : ℕ) (r : Traversed) → r ≡ reached w used ghosts listed → SameTotal used ghosts r
-total_reached w used ghosts listed r e = subst (SameTotal used ghosts) (sym e) (total w)
-  where
-    total : (w : Walked) → SameTotal used ghosts (reached w used ghosts listed)
-    total (walked.Node h) = (omega arith, refl)
-    total walked.IntoAtom = tt
+pub total_reached : (w : Result NodePtr PathIntoAtom) (c : Counts) → SameTotal c.pairs c.ghosts (reached w c)
+total_reached (Ok h) c = (omega arith, refl)
+total_reached (Err into) c = tt

@@ -1,11 +1,11 @@
 -- What the walk's answers mean.
-use Rattle.std.specs.Prelude.{ℕ, zero, suc, ◌*◌, ◌≤◌, ◌<◌, ◌≡◌, Bool, true, false, List, [], ◌∷◌, length, take}
+use Rattle.std.specs.Prelude.{ℕ, zero, suc, ◌*◌, ◌≤◌, ◌<◌, ◌≡◌, Bool, true, false, List, [], ◌∷◌, length, take, Result, Ok, Err}
 use Rattle.std.proofs.Math.Option.{Option, none, some}
 use Rattle.words.specs.Words.{at}
 use Rattle.allocator.specs.Handle.{Node, pair, listed_atom, small_atom, unknown, node_of}
 use Rattle.spec_reading.specs.Store.{Store, walk}
-use Rattle.read_path.specs.declared.path_walk.Walked.{Walked}
-use Rattle.read_path.specs.declared.path_walk.Walked.TheVariants as walked
+use Rattle.allocator.specs.declared.NodePtr.{NodePtr}
+use Rattle.read_path.specs.declared.path_walk.PathIntoAtom.{PathIntoAtom}
 
 -- How many set bits a path begins with, `depth` at most.
 unfoldable pub down : List Bool → (depth : ℕ) → ℕ
@@ -27,10 +27,11 @@ pub record Reachable (p : List ℕ) (n h : ℕ) : Type 0 where
   pub here : Within n (node_of h)
   pub there : (k : ℕ) → k < 2 * n → Within n (node_of (at p k))
 
-abbrev pub walked_to : Walked → Option Node
-walked_to (walked.Node h) = some (node_of h.0)
-walked_to walked.IntoAtom = none
+-- None where a walk steps into an atom.
+abbrev pub walked_to : Result NodePtr PathIntoAtom → Option Node
+walked_to (Ok h) = some (node_of h.0)
+walked_to (Err into) = none
 
 -- The walk of the definition, in any store whose pairs are those in use.
-abbrev pub Walks : List ℕ → ℕ → List Bool → ℕ → Walked → Type 0
+abbrev pub Walks : List ℕ → ℕ → List Bool → ℕ → Result NodePtr PathIntoAtom → Type 0
 Walks p n bits h r = (s : Store) → s.pairs ≡ take (2 * n) p → walked_to r ≡ walk s bits (node_of h)

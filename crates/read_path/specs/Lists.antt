@@ -30,36 +30,36 @@ pub record AddRoom (w p : List ℕ) (i : ℕ) (below : Built) : Type 0 where
   pub work : WORK ≤ length w
   pub pairs : 262144 ≤ length p
   pub few : i < 131072
-  pub ghost : unlisted_of (value_at w i).list 0 ≤ below.ghosts
-  pub room : below.pairs + below.ghosts ≤ 131072
+  pub ghost : unlisted_of (value_at w i).list 0 ≤ below.counts.ghosts
+  pub room : below.counts.pairs + below.counts.ghosts ≤ 131072
 
 -- A list is the one with this node, these pairs and ghost pairs.
 pub record Holds (p : List ℕ) (b : Built) (l : Listed) : Type 0 where
   pub node_is : b.node.0 ≡ l.node
-  pub pairs_are : take (2 * b.pairs) p ≡ l.store.pairs
-  pub ghosts_are : b.ghosts ≡ l.store.ghosts
+  pub pairs_are : take (2 * b.counts.pairs) p ≡ l.store.pairs
+  pub ghosts_are : b.counts.ghosts ≡ l.store.ghosts
 
 -- Value i is put on the list of those below as `add_to_list` says; of work only the word of its list changes.
 pub record Adds (w p : List ℕ) (i : ℕ) (below : Built) (w' p' : List ℕ) (b : Built) : Type 0 where
   pub list_is : (l : Listed) → Holds p below l → Holds p' b (add_to_list (value_at w i).list (value_at w i).node l)
   pub values_are : (l : Listed) → Holds p below l → value_at w' i ∷ l.values ≡ (add_to_list (value_at w i).list (value_at w i).node l).values
   pub others : (k : ℕ) → (k ≡ VALUES + 2 * i + 1 → ⊥) → at w' k ≡ at w k
-  pub pairs_rest : drop (2 * b.pairs) p' ≡ drop (2 * b.pairs) p
-  pub total : b.pairs + b.ghosts ≡ below.pairs + below.ghosts
-  pub spent : unlisted_of (value_at w i).list b.ghosts ≡ below.ghosts
-  pub listed_is : b.listed ≡ i + 1
+  pub pairs_rest : drop (2 * b.counts.pairs) p' ≡ drop (2 * b.counts.pairs) p
+  pub total : b.counts.pairs + b.counts.ghosts ≡ below.counts.pairs + below.counts.ghosts
+  pub spent : unlisted_of (value_at w i).list b.counts.ghosts ≡ below.counts.ghosts
+  pub listed_is : b.counts.listed ≡ i + 1
 
 -- The list of the lowest `count` values is made as `list_of` says, in any store whose pairs and ghosts are those in use; the rest
 -- is as it was. All these have a list then, and those that had one before.
 pub record Lists (w p : List ℕ) (count listed used ghosts : ℕ) (w' p' : List ℕ) (b : Built) : Type 0 where
   pub node_is : (s : Store) → s.pairs ≡ take (2 * used) p → s.ghosts ≡ ghosts → b.node.0 ≡ (list_of (values_of w count) s).node
   pub values_are : (s : Store) → s.pairs ≡ take (2 * used) p → s.ghosts ≡ ghosts → values_of w' count ≡ (list_of (values_of w count) s).values
-  pub pairs_are : (s : Store) → s.pairs ≡ take (2 * used) p → s.ghosts ≡ ghosts → take (2 * b.pairs) p' ≡ (list_of (values_of w count) s).store.pairs
-  pub ghosts_are : (s : Store) → s.pairs ≡ take (2 * used) p → s.ghosts ≡ ghosts → b.ghosts ≡ (list_of (values_of w count) s).store.ghosts
-  pub pairs_rest : drop (2 * b.pairs) p' ≡ drop (2 * b.pairs) p
+  pub pairs_are : (s : Store) → s.pairs ≡ take (2 * used) p → s.ghosts ≡ ghosts → take (2 * b.counts.pairs) p' ≡ (list_of (values_of w count) s).store.pairs
+  pub ghosts_are : (s : Store) → s.pairs ≡ take (2 * used) p → s.ghosts ≡ ghosts → b.counts.ghosts ≡ (list_of (values_of w count) s).store.ghosts
+  pub pairs_rest : drop (2 * b.counts.pairs) p' ≡ drop (2 * b.counts.pairs) p
   pub low : (k : ℕ) → k < VALUES → at w' k ≡ at w k
   pub high : (k : ℕ) → VALUES + 2 * count ≤ k → at w' k ≡ at w k
-  pub total : b.pairs + b.ghosts ≡ used + ghosts
-  pub more : used ≤ b.pairs
-  pub listed_is : b.listed ≡ max listed count
-  pub lists : unlisted (values_of w' b.listed) ≡ 0
+  pub total : b.counts.pairs + b.counts.ghosts ≡ used + ghosts
+  pub more : used ≤ b.counts.pairs
+  pub listed_is : b.counts.listed ≡ max listed count
+  pub lists : unlisted (values_of w' b.counts.listed) ≡ 0

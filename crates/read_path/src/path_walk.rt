@@ -15,27 +15,20 @@ pub fn stack_steps(path: &[u8], count: usize, depth: usize) -> usize
     requires { count ≤ 8 * length path.now }
     ensures { (bits : List Bool) → read_path path.now ≡ some bits → count ≡ length bits → result ≡ down bits depth }
 {
-    let mut i = 0;
-    while i < count {
-        if depth <= i {
-            return i;
-        }
+    let most = count.min(depth);
+    for i in 0..most {
         if !path_bits::path_bit(path, i) {
             return i;
         }
-        i += 1;
     }
-    i
+    most
 }
 
-// The node that a path leads to in the store, or that it steps into an atom.
-#[derive(Clone, Copy)]
-pub enum Walked {
-    Node(NodePtr),
-    IntoAtom,
-}
+// A path steps into an atom.
+#[derive(Clone, Copy, Debug, PartialEq, Eq)]
+pub struct PathIntoAtom;
 
-// Down the bits from `from` up to `count`, through the `used` pairs.
+// The node that a path leads to in the store: down the bits from `from` up to `count`, through the `used` pairs.
 pub fn walk_bits(
     path: &[u8],
     from: usize,
@@ -43,21 +36,19 @@ pub fn walk_bits(
     pairs: &[u32],
     used: usize,
     start: NodePtr,
-) -> Walked
+) -> Result<NodePtr, PathIntoAtom>
     requires { (from ≤ count) × (count ≤ 8 * length path.now) × (Reachable pairs.now used start.0) }
     ensures { (bits : List Bool) → read_path path.now ≡ some bits → count ≡ length bits
         → Walks pairs.now used (drop from bits) start.0 result }
 {
     let mut node = start;
-    let mut i = from;
-    while i < count {
+    for i in from..count {
         if !node.is_pair() {
-            return Walked::IntoAtom;
+            return Err(PathIntoAtom);
         }
         node = side(pairs, node, path_bits::path_bit(path, i));
-        i += 1;
     }
-    Walked::Node(node)
+    Ok(node)
 }
 
 // The left or the right side of a pair.

@@ -1,5 +1,5 @@
 // The list that the reader's stack of values is to a path, made and kept: a part of `traverse_path_with_vec` of de_br.rs.
-ghost use Rattle.std.specs.Prelude.{◌≡◌, ◌≤◌, min, length};
+ghost use Rattle.std.specs.Prelude.{◌≡◌, ◌≤◌, length};
 ghost use Rattle.words.specs.Words.{WORK};
 ghost use Rattle.spec_reading.specs.Store.{Store, list_of};
 ghost use Rattle.read_store.specs.Layout.{values_of};
@@ -8,32 +8,19 @@ ghost use Rattle.read_path.specs.Lists.{HaveLists, AddRoom, Adds, ListRoom, List
 use allocator::NodePtr;
 use read_store::reader_stacks::VALUES;
 
-// How many values there are, how many of the lowest are known to have a list, and how many pairs and ghost pairs there are.
+// How many of the lowest values are known to have a list, and how many pairs and ghost pairs there are.
 #[derive(Clone, Copy)]
 pub struct Counts {
-    pub values: usize,
     pub listed: usize,
     pub pairs: usize,
     pub ghosts: usize,
 }
 
-// A list of the stack, how many pairs and ghost pairs there are then, and how many of the lowest values are known to have a list.
+// A list of the stack, or a node of the store, and the counts then.
 #[derive(Clone, Copy)]
 pub struct Built {
     pub node: NodePtr,
-    pub pairs: usize,
-    pub ghosts: usize,
-    pub listed: usize,
-}
-
-// How many of the lowest `listed` values are among the lowest `values`.
-pub fn listed_among(listed: usize, values: usize) -> usize
-    ensures { result ≡ min listed values }
-{
-    if listed < values {
-        return listed;
-    }
-    values
+    pub counts: Counts,
 }
 
 // The list that the lowest `count` values have: that of the topmost of them.
@@ -54,16 +41,13 @@ pub fn build_list(work: &mut [u32], pairs: &mut [u32], count: usize, counts: Cou
     ensures { Lists work.old pairs.old count counts.listed counts.pairs counts.ghosts
         work.new pairs.new result }
 {
-    let mut i = listed_among(counts.listed, count);
+    let listed = counts.listed.min(count);
     let mut b = Built {
-        node: list_at(work, i),
-        pairs: counts.pairs,
-        ghosts: counts.ghosts,
-        listed: counts.listed,
+        node: list_at(work, listed),
+        counts,
     };
-    while i < count {
+    for i in listed..count {
         b = add_value(work, pairs, i, b);
-        i += 1;
     }
     b
 }
@@ -73,22 +57,19 @@ fn add_value(work: &mut [u32], pairs: &mut [u32], i: usize, below: Built) -> Bui
     requires { AddRoom work.old pairs.old i below }
     ensures { Adds work.old pairs.old i below work.new pairs.new result }
 {
+    let mut counts = below.counts;
+    counts.listed = i + 1;
     let list = work[VALUES + 2 * i + 1];
     if list != 0 {
         return Built {
             node: NodePtr(list - 1),
-            pairs: below.pairs,
-            ghosts: below.ghosts,
-            listed: i + 1,
+            counts,
         };
     }
     let value = NodePtr(work[VALUES + 2 * i]);
-    let node = read_store::new_pair(pairs, below.pairs, value, below.node);
+    let node = read_store::new_pair(pairs, counts.pairs, value, below.node);
     work[VALUES + 2 * i + 1] = node.0 + 1;
-    Built {
-        node,
-        pairs: below.pairs + 1,
-        ghosts: below.ghosts - 1,
-        listed: i + 1,
-    }
+    counts.pairs += 1;
+    counts.ghosts -= 1;
+    Built { node, counts }
 }

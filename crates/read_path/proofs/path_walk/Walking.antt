@@ -1,6 +1,6 @@
 -- A walk by a loop: i bits are passed. What the whole gives is what is left gives.
 -- Assumes nothing.
-use Prim.Native.Nat.{ℕ, zero, suc, ◌+◌, ◌-◌, ◌*◌, ◌≤◌, ◌<◌}
+use Prim.Native.Nat.{ℕ, zero, suc, ◌+◌, ◌-◌, ◌*◌, ◌≤◌, ◌<◌, min}
 use mathlib.Core.Path.{◌≡◌, refl, sym, ap, subst, ◌∙◌}
 use mathlib.Core.Bool.{Bool, true, false}
 use mathlib.Core.List.{List, [], ◌∷◌}
@@ -9,7 +9,7 @@ use native.Mathlib.Omega.{arith}
 use native.Mathlib.Numerals.{add-one}
 use lib.ListN.{length, get_or, take, drop, drop_of_length-le}
 use lib.Seq.{drop-cons, get_or-take}
-use Rattle.words.specs.Choice.{clash}
+use Rattle.words.specs.Choice.{clash, by_lt}
 use Rattle.words.specs.Words.{at}
 use Rattle.allocator.specs.Handle.{Node, pair, listed_atom, small_atom, unknown, node_of, index_of, is_pair}
 use Rattle.spec_reading.specs.Store.{Store, walk, pick_word}
@@ -52,15 +52,21 @@ down_start bits depth = ap (down bits) less ∙ omega arith
     less : depth ≡ depth - 0
     less = omega arith
 
-pub down_deep : (bits : List Bool) (depth i : ℕ) → Down bits depth i → depth ≤ i → i ≡ down bits depth
+down_deep : (bits : List Bool) (depth i : ℕ) → Down bits depth i → depth ≤ i → i ≡ down bits depth
 down_deep bits depth i d h = sym (d ∙ ap (λ (n : ℕ). i + down (drop i bits) n) none_left ∙ ap (λ (n : ℕ). i + n) (down_zero (drop i bits)) ∙ omega arith)
   where
     none_left : depth - i ≡ 0
     none_left = omega arith
 
-pub down_over : (bits : List Bool) (depth i : ℕ) → Down bits depth i → length bits ≤ i → i ≡ down bits depth
+down_over : (bits : List Bool) (depth i : ℕ) → Down bits depth i → length bits ≤ i → i ≡ down bits depth
 down_over bits depth i d h =
     sym (d ∙ ap (λ (l : List Bool). i + down l (depth - i)) (drop_of_length-le bits h) ∙ ap (λ (n : ℕ). i + n) (down_end [] (depth - i) (omega arith)) ∙ omega arith)
+
+pub down_most : (bits : List Bool) (depth i : ℕ) → Down bits depth i → (most : ℕ) → most ≡ min (length bits) depth → i ≡ most → most ≡ down bits depth
+down_most bits depth i d most m e =
+    by_lt (length bits) depth
+    (λ h. sym e ∙ down_over bits depth i d (omega arith))
+    (λ h. sym e ∙ down_deep bits depth i d (omega arith))
 
 pub down_stop : (bits : List Bool) (depth i : ℕ) → Down bits depth i → i < length bits → get_or bits i false ≡ false → i ≡ down bits depth
 down_stop bits depth i d h e =

@@ -28,7 +28,7 @@ list_of_word (suc n) h = ap some less
     less = omega arith
 
 module _ (w p : List ℕ) (i : ℕ) (below b : Built) (listed : at w (VALUES + 2 * i + 1) ≡ 0 → ⊥) (node : b.node.0 ≡ at w (VALUES + 2 * i + 1) - 1)
-    (pairs : b.pairs ≡ below.pairs) (ghosts : b.ghosts ≡ below.ghosts) (listed_is : b.listed ≡ i + 1) where
+    (pairs : b.counts.pairs ≡ below.counts.pairs) (ghosts : b.counts.ghosts ≡ below.counts.ghosts) (listed_is : b.counts.listed ≡ i + 1) where
   cached : cached_list (at w (VALUES + 2 * i + 1)) ≡ some b.node.0
   cached = list_of_word (at w (VALUES + 2 * i + 1)) listed ∙ ap some (sym node)
 
@@ -47,10 +47,10 @@ module _ (w p : List ℕ) (i : ℕ) (below b : Built) (listed : at w (VALUES + 2
 
 -- ---- a pair that is made
 
-module _ (w p : List ℕ) (i : ℕ) (below : Built) (p' : List ℕ) (b : Built) (room : VALUES + 2 * i + 1 < length w) (free : 2 * below.pairs + 2 ≤ length p)
-    (bare : at w (VALUES + 2 * i + 1) ≡ 0) (some_left : 1 ≤ below.ghosts) (node : b.node.0 ≡ handle_of (pair below.pairs))
-    (pairs : b.pairs ≡ below.pairs + 1) (ghosts : b.ghosts ≡ below.ghosts - 1) (listed_is : b.listed ≡ i + 1)
-    (appended : p' ≡ paste p (2 * below.pairs) (at w (VALUES + 2 * i) ∷ below.node.0 ∷ []) 2) where
+module _ (w p : List ℕ) (i : ℕ) (below : Built) (p' : List ℕ) (b : Built) (room : VALUES + 2 * i + 1 < length w) (free : 2 * below.counts.pairs + 2 ≤ length p)
+    (bare : at w (VALUES + 2 * i + 1) ≡ 0) (some_left : 1 ≤ below.counts.ghosts) (node : b.node.0 ≡ handle_of (pair below.counts.pairs))
+    (pairs : b.counts.pairs ≡ below.counts.pairs + 1) (ghosts : b.counts.ghosts ≡ below.counts.ghosts - 1) (listed_is : b.counts.listed ≡ i + 1)
+    (appended : p' ≡ paste p (2 * below.counts.pairs) (at w (VALUES + 2 * i) ∷ below.node.0 ∷ []) 2) where
   kept : List ℕ
   kept = set w (VALUES + 2 * i + 1) (b.node.0 + 1)
 
@@ -68,9 +68,9 @@ module _ (w p : List ℕ) (i : ℕ) (below : Built) (p' : List ℕ) (b : Built) 
   made : (l : Listed) → Holds p below l → Holds p' b (add_to_list none (at w (VALUES + 2 * i)) l)
   made l h =
       record {
-        node_is = node ∙ ap (λ (n : ℕ). handle_of (pair n)) (sym (half p l.store.pairs below.pairs (omega arith) (sym h.pairs_are)));
+        node_is = node ∙ ap (λ (n : ℕ). handle_of (pair n)) (sym (half p l.store.pairs below.counts.pairs (omega arith) (sym h.pairs_are)));
         pairs_are =
-            (λ j. take (2 * pairs j) (appended j)) ∙ take_two p below.pairs (at w (VALUES + 2 * i)) below.node.0 free
+            (λ j. take (2 * pairs j) (appended j)) ∙ take_two p below.counts.pairs (at w (VALUES + 2 * i)) below.node.0 free
             ∙ (λ j. h.pairs_are j ++ at w (VALUES + 2 * i) ∷ h.node_is j ∷ []);
         ghosts_are = ghosts ∙ ap (λ (n : ℕ). n - 1) h.ghosts_are;
       }
@@ -85,10 +85,10 @@ module _ (w p : List ℕ) (i : ℕ) (below : Built) (p' : List ℕ) (b : Built) 
             ∙ ap (λ (o : Option ℕ). (add_to_list o (at w (VALUES + 2 * i)) l).values) (sym none_yet);
         others = elsewhere;
         pairs_rest =
-            (λ j. drop (2 * pairs j) (appended j)) ∙ drop_two p below.pairs (at w (VALUES + 2 * i)) below.node.0 free
+            (λ j. drop (2 * pairs j) (appended j)) ∙ drop_two p below.counts.pairs (at w (VALUES + 2 * i)) below.node.0 free
             ∙ (λ j. drop (2 * sym pairs j) p);
         total = omega arith;
-        spent = ap (λ (o : Option ℕ). unlisted_of o b.ghosts) none_yet ∙ omega arith;
+        spent = ap (λ (o : Option ℕ). unlisted_of o b.counts.ghosts) none_yet ∙ omega arith;
         listed_is = listed_is;
       }
 
@@ -186,7 +186,7 @@ no_list w n e s = ap (λ (k : ℕ). (list_of (values_of w k) s).node) (sym e)
 
 -- The lowest i of the values that have their lists.
 pub lists_start : (w p : List ℕ) (i listed used ghosts : ℕ) (b : Built) → i ≤ listed → unlisted (values_of w listed) ≡ 0
-    → ((s : Store) → b.node.0 ≡ (list_of (values_of w i) s).node) → b.pairs ≡ used → b.ghosts ≡ ghosts → b.listed ≡ listed
+    → ((s : Store) → b.node.0 ≡ (list_of (values_of w i) s).node) → b.counts.pairs ≡ used → b.counts.ghosts ≡ ghosts → b.counts.listed ≡ listed
     → Lists w p i listed used ghosts w p b
 lists_start w p i listed used ghosts b h a n u g m =
     record {
@@ -225,10 +225,10 @@ module _ (w₀ p₀ : List ℕ) (listed used ghosts i : ℕ) (w p : List ℕ) (b
   holds : (s : Store) → s.pairs ≡ take (2 * used) p₀ → s.ghosts ≡ ghosts → Holds p' b (list_of (values_of w₀ (i + 1)) s)
   holds s e f = subst (Holds p' b) (next_list s) (a.list_is (list_of (values_of w₀ i) s) (held s e f))
 
-  grown : below.pairs ≤ b.pairs
+  grown : below.counts.pairs ≤ b.counts.pairs
   grown = go (value_at w i).list a.spent
     where
-      go : (o : Option ℕ) → unlisted_of o b.ghosts ≡ below.ghosts → below.pairs ≤ b.pairs
+      go : (o : Option ℕ) → unlisted_of o b.counts.ghosts ≡ below.counts.ghosts → below.counts.pairs ≤ b.counts.pairs
       go none e = omega (arith, a.total)
       go (some h) e = omega (arith, a.total)
 
@@ -238,7 +238,7 @@ module _ (w₀ p₀ : List ℕ) (listed used ghosts i : ℕ) (w p : List ℕ) (b
       ∙ ap {B = List Value} (λ vs. value_at w' i ∷ vs) (values_same w w' i (λ k m n. a.others k (λ q. omega arith)) ∙ l.values_are s e f)
       ∙ a.values_are (list_of (values_of w₀ i) s) (held s e f) ∙ ap (λ (r : Listed). r.values) (next_list s)
 
-  listed_next : unlisted (values_of w' b.listed) ≡ 0
+  listed_next : unlisted (values_of w' b.counts.listed) ≡ 0
   listed_next =
       let s : Store = record { pairs = take (2 * used) p₀; atoms = []; bytes = []; ghosts = ghosts } in
       ap (λ (n : ℕ). unlisted (values_of w' n)) a.listed_is ∙ ap unlisted (values_next s refl refl) ∙ all_listed (values_of w₀ (i + 1)) s
@@ -250,7 +250,7 @@ module _ (w₀ p₀ : List ℕ) (listed used ghosts i : ℕ) (w p : List ℕ) (b
         values_are = values_next;
         pairs_are = λ s e f. (holds s e f).pairs_are;
         ghosts_are = λ s e f. (holds s e f).ghosts_are;
-        pairs_rest = a.pairs_rest ∙ drop_more below.pairs b.pairs p p₀ grown l.pairs_rest;
+        pairs_rest = a.pairs_rest ∙ drop_more below.counts.pairs b.counts.pairs p p₀ grown l.pairs_rest;
         low = λ k m. a.others k (λ q. omega arith) ∙ l.low k m;
         high = λ k m. a.others k (λ q. omega arith) ∙ l.high k (omega arith);
         total = a.total ∙ l.total;
@@ -260,18 +260,18 @@ module _ (w₀ p₀ : List ℕ) (listed used ghosts i : ℕ) (w p : List ℕ) (b
       }
 
   -- A ghost pair is spent for each value without a list.
-  pub spent_more : below.ghosts + unlisted (values_of w₀ i) ≡ ghosts → b.ghosts + unlisted (values_of w₀ (i + 1)) ≡ ghosts
+  pub spent_more : below.counts.ghosts + unlisted (values_of w₀ i) ≡ ghosts → b.counts.ghosts + unlisted (values_of w₀ (i + 1)) ≡ ghosts
   spent_more e =
-      ap (λ (n : ℕ). b.ghosts + n) (unlisted_more w₀ i) ∙ sym (unlisted_at (value_at w₀ i).list b.ghosts (unlisted (values_of w₀ i)))
-      ∙ ap (λ (v : Value). unlisted_of v.list b.ghosts + unlisted (values_of w₀ i)) (sym same_value)
+      ap (λ (n : ℕ). b.counts.ghosts + n) (unlisted_more w₀ i) ∙ sym (unlisted_at (value_at w₀ i).list b.counts.ghosts (unlisted (values_of w₀ i)))
+      ∙ ap (λ (v : Value). unlisted_of v.list b.counts.ghosts + unlisted (values_of w₀ i)) (sym same_value)
       ∙ ap (λ (n : ℕ). n + unlisted (values_of w₀ i)) a.spent ∙ e
 
 -- One is left for the next value, if it has no list.
 pub one_left : (w₀ p₀ : List ℕ) (listed used ghosts i count : ℕ) (w p : List ℕ) (b : Built) → Lists w₀ p₀ i listed used ghosts w p b → i < count
-    → unlisted (values_of w₀ count) ≤ ghosts → b.ghosts + unlisted (values_of w₀ i) ≡ ghosts → unlisted_of (value_at w i).list 0 ≤ b.ghosts
+    → unlisted (values_of w₀ count) ≤ ghosts → b.counts.ghosts + unlisted (values_of w₀ i) ≡ ghosts → unlisted_of (value_at w i).list 0 ≤ b.counts.ghosts
 one_left w₀ p₀ listed used ghosts i count w p b l h r e =
-    subst (λ (v : Value). unlisted_of v.list 0 ≤ b.ghosts) (sym same)
-    (unlisted_least (value_at w₀ i).list (unlisted (values_of w₀ i)) b.ghosts 0
+    subst (λ (v : Value). unlisted_of v.list 0 ≤ b.counts.ghosts) (sym same)
+    (unlisted_least (value_at w₀ i).list (unlisted (values_of w₀ i)) b.counts.ghosts 0
     (omega (arith, unlisted_more w₀ i, unlisted_up w₀ (i + 1) (count - (i + 1)), ap (λ (n : ℕ). unlisted (values_of w₀ n)) whole)))
   where
     same : value_at w i ≡ value_at w₀ i

@@ -2,36 +2,19 @@
 -- Assumes nothing.
 use mathlib.Core.Path.{sym, ◌∙◌}
 use native.Mathlib.Omega.{arith}
-use Rattle.read_path.proofs.path_walk.Walking.{down_start, down_deep, down_over, down_stop, down_more}
+use Rattle.read_path.proofs.path_walk.Walking.{down_stop, down_more, down_most}
 use Rattle.read_path.proofs.path_walk.stack_steps.Goals as goal
-
-pub loop-i-init : goal.loop-i-init
-loop-i-init c = (omega arith, omega arith, λ bits e l. down_start bits c.args.depth)
-
-pub returns-then-depth-i : goal.returns-then-depth-i
-returns-then-depth-i c =
-    let h = c in
-    λ bits e l. down_deep bits h.args.depth h.loop-i.i (h.loop-i.invariant.2 bits e l) (omega (arith, c.if-depth-i.true))
-
-pub path_bit-requires : goal.path_bit-requires
-path_bit-requires c = omega (arith, c.requires)
 
 pub returns-then-not-path_bit : goal.returns-then-not-path_bit
 returns-then-not-path_bit c =
-    let h = c in
-    λ bits e l. down_stop bits h.args.depth h.loop-i.i (h.loop-i.invariant.2 bits e l) (omega arith)
-    (sym (c.path_bit.ensures bits e (omega arith)) ∙ c.if-not-path_bit.true)
+    λ bits e l. down_stop bits c.args.depth c.loop-i.i (c.loop-i.invariant bits e l) (omega (arith, c.min-most.ensures))
+    (sym (c.path_bit.ensures bits e (omega (arith, c.min-most.ensures))) ∙ c.if-not-path_bit.true)
 
 pub loop-i-preserved : goal.loop-i-preserved
 loop-i-preserved c =
-    let h = c in (
-      omega arith,
-      omega arith,
-      λ bits e l. down_more bits h.args.depth h.loop-i.i (h.loop-i.invariant.2 bits e l) (omega arith) (omega arith)
-          (sym (c.path_bit.ensures bits e (omega arith)) ∙ c.if-not-path_bit.false),
-    )
+    λ bits e l. down_more bits c.args.depth c.loop-i.i (c.loop-i.invariant bits e l) (omega (arith, c.min-most.ensures)) (omega (arith, c.min-most.ensures))
+    (sym (c.path_bit.ensures bits e (omega (arith, c.min-most.ensures))) ∙ c.if-not-path_bit.false)
 
 pub returns : goal.returns
 returns c =
-    let h = c in
-    λ bits e l. down_over bits h.args.depth h.loop-i.i (h.loop-i.invariant.2 bits e l) (omega arith)
+    λ bits e l. down_most bits c.args.depth c.loop-i.i (c.loop-i.invariant bits e l) c.min-most.result (omega (arith, c.min-most.ensures)) (omega arith)

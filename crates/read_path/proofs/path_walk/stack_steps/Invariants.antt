@@ -1,6 +1,5 @@
 -- `read_path::path_walk::stack_steps` meets its contract. The loop's invariant: the set bits in front are those passed and those in front of the rest.
 -- Assumes nothing.
-use Prim.Native.Nat.{◌≤◌, ◌-◌}
 use mathlib.Core.Path.{◌≡◌}
 use mathlib.Core.Bool.{Bool}
 use mathlib.Core.List.{List}
@@ -11,7 +10,4 @@ use Rattle.read_path.proofs.path_walk.Walking.{Down}
 use Rattle.read_path.proofs.path_walk.stack_steps.Given as goal
 
 abbrev pub invariant-loop-i : goal.invariant-loop-i
-invariant-loop-i l = (l.i ≤ l.count) × (l.i ≤ l.depth) × ((bits : List Bool) → read_path l.path ≡ some bits → l.count ≡ length bits → Down bits l.depth l.i)
-
-abbrev pub decreases-loop-i : goal.decreases-loop-i
-decreases-loop-i l = l.count - l.i
+invariant-loop-i l = (bits : List Bool) → read_path l.path ≡ some bits → l.count ≡ length bits → Down bits l.depth l.i

@@ -1,6 +1,5 @@
 -- `read_path::path_walk::walk_bits` meets its contract. The loop's invariant: the whole walk is the walk from the node by the bits that are left.
 -- Assumes nothing.
-use Prim.Native.Nat.{◌≤◌, ◌-◌}
 use mathlib.Core.Path.{◌≡◌}
 use mathlib.Core.Bool.{Bool}
 use mathlib.Core.List.{List}
@@ -13,8 +12,5 @@ use Rattle.read_path.proofs.path_walk.walk_bits.Given as goal
 
 abbrev pub invariant-loop-i : goal.invariant-loop-i
 invariant-loop-i l =
-    (l.i ≤ l.count) × Reachable l.pairs l.used l.node.0
+    Reachable l.pairs l.used l.node.0
     × ((bits : List Bool) → read_path l.path ≡ some bits → l.count ≡ length bits → Onward l.pairs l.used bits l.from l.initial.node.0 l.i l.node.0)
-
-abbrev pub decreases-loop-i : goal.decreases-loop-i
-decreases-loop-i l = l.count - l.i

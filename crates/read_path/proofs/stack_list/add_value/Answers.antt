@@ -11,35 +11,25 @@ returns-then-list-ne0 c = adds_cached _ _ _ _ _ c.if-list-ne0.true refl refl ref
 
 pub new_pair-node-requires : goal.new_pair-node-requires
 new_pair-node-requires c =
-    let ghost : 1 ≤ c.args.below.ghosts =
-    let o = c in
-    bare_ghost o.args.work.now o.args.i o.args.below.ghosts c.if-list-ne0.false o.requires.ghost in
-    let bare = c in
-    let p = bare.requires in
-    omega (arith, ghost, p.room, p.pairs)
+    let a = c.args in
+    let ghost : 1 ≤ a.below.counts.ghosts = bare_ghost a.work.now a.i a.below.counts.ghosts c.if-list-ne0.false c.requires.ghost in
+    omega (arith, ghost, c.requires.room, c.requires.pairs)
 
 pub overflow_add-work : goal.overflow_add-work
 overflow_add-work c =
-    let ghost : 1 ≤ c.args.below.ghosts =
-    let o = c in
-    bare_ghost o.args.work.now o.args.i o.args.below.ghosts c.if-list-ne0.false o.requires.ghost in
-    let bare = c in
-    let o = bare in
-    omega (arith, c.new_pair-node.ensures.0, pair_handle_small o.args.below.pairs (omega (arith, ghost, o.requires.room)))
+    let a = c.args in
+    let ghost : 1 ≤ a.below.counts.ghosts = bare_ghost a.work.now a.i a.below.counts.ghosts c.if-list-ne0.false c.requires.ghost in
+    omega (arith, c.new_pair-node.ensures.0, pair_handle_small a.below.counts.pairs (omega (arith, ghost, c.requires.room)))
 
-pub overflow_sub-result-2 : goal.overflow_sub-result-2
-overflow_sub-result-2 c =
-    let ghost : 1 ≤ c.args.below.ghosts =
-    let o = c in
-    bare_ghost o.args.work.now o.args.i o.args.below.ghosts c.if-list-ne0.false o.requires.ghost in
-    omega (arith, ghost)
+pub overflow_sub-counts : goal.overflow_sub-counts
+overflow_sub-counts c =
+    let a = c.args in
+    bare_ghost a.work.now a.i a.below.counts.ghosts c.if-list-ne0.false c.requires.ghost
 
 pub returns : goal.returns
 returns c =
-    let ghost : 1 ≤ c.args.below.ghosts =
-    let o = c in
-    bare_ghost o.args.work.now o.args.i o.args.below.ghosts c.if-list-ne0.false o.requires.ghost in
-    let bare = c in
-    let p = bare.requires in
+    let a = c.args in
+    let p = c.requires in
+    let ghost : 1 ≤ a.below.counts.ghosts = bare_ghost a.work.now a.i a.below.counts.ghosts c.if-list-ne0.false p.ghost in
     let n = c.new_pair-node.ensures in
-    adds_made _ _ _ _ _ _ (omega (arith, p.work, p.few)) (omega (arith, ghost, p.room, p.pairs)) bare.if-list-ne0.false ghost n.0 refl refl refl n.1
+    adds_made _ _ _ _ _ _ (omega (arith, p.work, p.few)) (omega (arith, ghost, p.room, p.pairs)) c.if-list-ne0.false ghost n.0 refl refl refl n.1
