@@ -12,7 +12,7 @@ pub fn clear_store(pairs: &mut [u32], atoms: &mut [u32], bytes: &mut [u8])
 {
     slices::clear(pairs);
     slices::clear(atoms);
-    slices::clear_bytes(bytes);
+    slices::clear(bytes);
 }
 
 // A refused reading leaves nothing.

@@ -1,6 +1,6 @@
 -- What a head says of the input: whether a byte stands at the place, which one, and what was parsed.
 -- Assumes nothing.
-use Rattle.std.specs.Prelude.{ℕ, ◌+◌, ◌≤◌, ◌<◌, ◌≡◌, refl, cond, eqb, length, get_or}
+use Rattle.std.specs.Prelude.{ℕ, ◌+◌, ◌≤◌, ◌<◌, ◌≡◌, refl, cond, eqb, length, get_or, Option}
 use Rattle.std.proofs.Common.{sym, ap, ◌∙◌, drop_of_length-le, drop-cons, eqb-true}
 use Rattle.std.proofs.Math.Path.{subst}
 use mathlib.Core.List.{List}
@@ -33,5 +33,5 @@ module _ (input : List ℕ) (p : ℕ) where
       (λ h. subst (λ (l : List ℕ). Says input p (head_of l input p)) (sym (drop_of_length-le input {i = p} h)) h)
 
   -- What the code's answer h, which is x, says.
-  pub told : (h x : Head) → there_of h ≡ head_at input p → h ≡ x → Says input p (there_of x)
+  pub told : (h x : Option Head) → there_of h ≡ head_at input p → h ≡ x → Says input p (there_of x)
   told h x e g = subst (Says input p) (sym e ∙ ap there_of g) head_says

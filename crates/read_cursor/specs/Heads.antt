@@ -1,9 +1,7 @@
 -- What stands at a place of the input, from the format of a serialized tree, and what the code's answers mean.
-use Rattle.std.specs.Prelude.{ℕ, ◌+◌, cond, List, [], ◌∷◌, eqb, drop}
+use Rattle.std.specs.Prelude.{ℕ, ◌+◌, cond, List, [], ◌∷◌, eqb, drop, Option, Some, None}
 use Rattle.atom.specs.Parse.{Parse, parse_at}
 use Rattle.atom_decode.specs.Answers.{parse_of}
-use Rattle.read_cursor.specs.declared.First.{First}
-use Rattle.read_cursor.specs.declared.First.TheVariants as first
 use Rattle.read_cursor.specs.declared.Head.{Head}
 use Rattle.read_cursor.specs.declared.Head.TheVariants as head
 
@@ -14,11 +12,11 @@ pub data There : Type 0 where
   path : Parse → There
   atom : Parse → There
 
-abbrev pub there_of : Head → There
-there_of head.End = end
-there_of head.Pair = pair
-there_of (head.Path z) = path (parse_of z)
-there_of (head.Atom z) = atom (parse_of z)
+abbrev pub there_of : Option Head → There
+there_of None = end
+there_of (Some head.Pair) = pair
+there_of (Some (head.Path z)) = path (parse_of z)
+there_of (Some (head.Atom z)) = atom (parse_of z)
 
 -- What begins with the byte b at the place p: `ff` is a pair's mark; after `fe` stands a path; anything else begins an atom.
 abbrev pub begun : ℕ → List ℕ → ℕ → There
@@ -31,23 +29,3 @@ head_of (b ∷ rest) input p = begun b input p
 
 unfoldable pub head_at : List ℕ → ℕ → There
 head_at input p = head_of (drop p input) input p
-
--- ---- the steps to it
-
--- The byte with which bytes begin.
-abbrev pub first_of : List ℕ → First
-first_of [] = first.End
-first_of (b ∷ rest) = first.Byte b
-
-abbrev pub byte_at : List ℕ → ℕ → First
-byte_at input p = first_of (drop p input)
-
--- How many bytes stand before the atom or path.
-abbrev pub mark_width : First → ℕ
-mark_width (first.Byte b) = cond (eqb b 0xfe) 1 0
-mark_width first.End = 0
-
--- What begins with this byte, where its atom or path stands at q.
-abbrev pub parsed : First → List ℕ → ℕ → There
-parsed (first.Byte b) input q = cond (eqb b 0xff) pair (cond (eqb b 0xfe) (path (parse_at input q)) (atom (parse_at input q)))
-parsed first.End input q = end

@@ -1,110 +1,64 @@
 // de_br.rs: the reader's Cursor, the input and a position in it; what stands at a place of the input.
 #![tactic(auto)]
 
-ghost use Rattle.std.specs.Prelude.{◌≡◌, ◌+◌, ◌<◌, ◌^◌};
-ghost use Rattle.read_cursor.specs.Heads.{byte_at, mark_width, parsed, head_at, there_of};
+ghost use Rattle.std.specs.Prelude.{◌≡◌, ◌+◌, ◌<◌, ◌^◌, slice_get};
+ghost use Rattle.atom.specs.Parse.{parse_at};
+ghost use Rattle.atom_decode.specs.Answers.{parse_of};
+ghost use Rattle.read_cursor.specs.Heads.{head_at, there_of};
 
 use atom::{BACK_REFERENCE, CONS_BOX_MARKER};
-use atom_decode::ParseAtom;
+use atom_decode::{Blob, ParseError};
 
-// A place of the input. What is over it is thin and goes straight on.
+// A place of the input.
 #[derive(Clone, Copy)]
 pub struct Cursor<'a> {
     pub input: &'a [u8],
     pub position: usize,
 }
 
-// The byte at a place, or that there is none.
-#[derive(Clone, Copy)]
-pub enum First {
-    Byte(u8),
-    End,
+impl<'a> Cursor<'a> {
+    // The byte at the cursor, if there is one.
+    fn read_byte(self) -> Option<u8>
+        ensures { result ≡ slice_get self.entry.input.now self.entry.position }
+    {
+        self.input.get(self.position).copied()
+    }
+
+    // The cursor that many bytes further on.
+    fn advance(self, count: usize) -> Cursor<'a>
+        requires { self.position + count < 2 ^ 64 }
+        ensures { (result.input ≡ self.entry.input) × (result.position ≡ self.entry.position + count) }
+    {
+        Cursor {
+            input: self.input,
+            position: self.position + count,
+        }
+    }
+
+    // The atom or path at the cursor.
+    fn parse_atom(self) -> Result<Blob, ParseError>
+        ensures { parse_of result ≡ parse_at self.entry.input.now self.entry.position }
+    {
+        atom_decode::parse_atom(self.input, self.position)
+    }
 }
 
-// What stands at a place: nothing, a pair's mark, a reference with its path, or an atom.
-#[derive(Clone, Copy)]
+// What stands at a place: a pair's mark, a reference with its path, or an atom.
+#[derive(Clone, Copy, Debug, PartialEq, Eq)]
 pub enum Head {
-    End,
     Pair,
-    Path(ParseAtom),
-    Atom(ParseAtom),
+    Path(Result<Blob, ParseError>),
+    Atom(Result<Blob, ParseError>),
 }
 
-fn byte_at(input: &[u8], position: usize) -> First
-    ensures { result ≡ byte_at input.now position }
-{
-    if position < input.len() {
-        return First::Byte(input[position]);
-    }
-    First::End
-}
-
-// The bytes of the mark before the atom or path: one before the path of a reference.
-fn mark_width(first: First) -> usize
-    ensures { result ≡ mark_width first }
-{
-    match first {
-        First::Byte(b) => {
-            if b == BACK_REFERENCE {
-                return 1;
-            }
-            0
-        }
-        First::End => 0,
-    }
-}
-
-// What begins with this byte. Its atom or path stands at the place.
-fn parse_at(input: &[u8], position: usize, first: First) -> Head
-    ensures { there_of result ≡ parsed first input.now position }
-{
-    match first {
-        First::Byte(b) => {
-            if b == CONS_BOX_MARKER {
-                return Head::Pair;
-            }
-            let found = atom_decode::parse_atom(input, position);
-            if b == BACK_REFERENCE {
-                return Head::Path(found);
-            }
-            Head::Atom(found)
-        }
-        First::End => Head::End,
-    }
-}
-
-// The byte at the cursor, or that there is none.
-fn read_byte<'a>(c: Cursor<'a>) -> First
-    ensures { result ≡ byte_at c.entry.input.now c.entry.position }
-{
-    byte_at(c.input, c.position)
-}
-
-// The cursor that many bytes further on.
-fn advance<'a>(c: Cursor<'a>, count: usize) -> Cursor<'a>
-    requires { c.position + count < 2 ^ 64 }
-    ensures { (result.input ≡ c.entry.input) × (result.position ≡ c.entry.position + count) }
-{
-    Cursor {
-        input: c.input,
-        position: c.position + count,
-    }
-}
-
-// What begins with this byte, with its atom or path parsed at the cursor.
-fn parse<'a>(c: Cursor<'a>, first: First) -> Head
-    ensures { there_of result ≡ parsed first c.entry.input.now c.entry.position }
-{
-    parse_at(c.input, c.position, first)
-}
-
-// What stands at a place of the input. A reference's path is parsed after its mark.
-pub fn head_at(input: &[u8], position: usize) -> Head
+// What stands at a place of the input, if a byte does. A reference's path is parsed after its mark.
+pub fn head_at(input: &[u8], position: usize) -> Option<Head>
     ensures { there_of result ≡ head_at input.now position }
 {
     let c = Cursor { input, position };
-    let first = read_byte(c);
-    let n = mark_width(first);
-    let past = advance(c, n);
-    parse(past, first)
+    Some(match c.read_byte()? {
+        CONS_BOX_MARKER => Head::Pair,
+        BACK_REFERENCE => Head::Path(c.advance(1).parse_atom()),
+        _ => Head::Atom(c.parse_atom()),
+    })
 }
