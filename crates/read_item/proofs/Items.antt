@@ -1,5 +1,6 @@
 -- Laws of an item: its first byte says which kind it is, and each kind is read as the definition says.
 -- Assumes nothing.
+use Rattle.std.specs.Prelude.{Result, Ok, Err}
 use Prim.Native.Nat.{ℕ, suc, ◌+◌, ◌*◌, ◌≤◌, ◌<◌}
 use mathlib.Core.Path.{◌≡◌, refl, sym, ap, subst, ◌∙◌}
 use mathlib.Core.List.{List, ◌∷◌}
@@ -19,6 +20,8 @@ use Rattle.read_store.specs.Layout.{ops_of, PushedPair}
 use Rattle.read_item.specs.declared.settle.Reader.{Reader}
 use Rattle.read_item.specs.declared.settle.Item.{Item}
 use Rattle.read_item.specs.declared.settle.Item.TheVariants as item
+use Rattle.read_item.specs.declared.read_error.ReadError.{ReadError}
+use Rattle.read_item.specs.declared.read_error.ReadError.TheVariants as read_error
 use Rattle.read_item.specs.State.{stored_with}
 use Rattle.read_item.specs.Whole.{stored_of, reader_at, Lent, Stands}
 use Rattle.read_item.specs.Values.{SteppedAtom, BeforePath, path_there, SteppedPath, path_settled, path_refused}
@@ -38,7 +41,7 @@ module _ (input w p a b : List ℕ) (r : Reader) where
   step_is = refl
 
   -- No byte is left.
-  pub end_stepped : length input ≤ r.position → Stepped input w p a b r w p a b (item.Refused 14)
+  pub end_stepped : length input ≤ r.position → Stepped input w p a b r w p a b (Err read_error.SerializationError)
   end_stepped h =
       record { same = step_is ∙ ap (λ (l : List ℕ). next_item store_values l ops stored) (drop_of_length-le input {i = r.position} h); stands = tt }
 
@@ -68,10 +71,10 @@ module _ (input w p a b : List ℕ) (r : Reader) where
       pub pair_room : (WORK ≤ length w) × (r.ops + 2 ≤ 131072) × (r.position ≤ 65535)
       pair_room = (k.lent.work, omega (arith, k.sound.ops_bound, length_ops w r.ops, k.lent.short), omega (arith, k.lent.short))
 
-      pub pair_stepped : (w' : List ℕ) → length w' ≡ length w → PushedPair w w' r.ops → get_or input r.position 0 ≡ 0xff → (i : Item) → i ≡ item.Go (pair_begun r)
-          → Stepped input w p a b r w' p a b i
-      pair_stepped w' lw q e i ei =
-          subst (λ (x : Item). Stepped input w p a b r w' p a b x) (sym ei)
+      pub pair_stepped : (w' : List ℕ) → length w' ≡ length w → PushedPair w w' r.ops → get_or input r.position 0 ≡ 0xff → (r' : Reader) → r' ≡ pair_begun r
+          → Stepped input w p a b r w' p a b (Ok (item.Go r'))
+      pair_stepped w' lw q e r' er =
+          subst (λ (x : Reader). Stepped input w p a b r w' p a b (Ok (item.Go x))) (sym er)
           (record {
             same = step_pair e ∙ ap (λ (o : List ParseOp). go (record { rest = drop (r.position + 1) input; ops = o; values = stored })) (sym q.ops)
                 ∙ ap (λ (s : Stored). go (record { rest = drop (r.position + 1) input; ops = ops_of w' (r.ops + 2); values = s })) same_stored;
@@ -90,7 +93,7 @@ module _ (input w p a b : List ℕ) (r : Reader) where
 
       -- ---- an atom
 
-      pub atom_stepped : (w' p' a' b' : List ℕ) (i : Item) → (get_or input r.position 0 ≡ 0xff → ⊥) → (get_or input r.position 0 ≡ 0xfe → ⊥)
+      pub atom_stepped : (w' p' a' b' : List ℕ) (i : Result Item ReadError) → (get_or input r.position 0 ≡ 0xff → ⊥) → (get_or input r.position 0 ≡ 0xfe → ⊥)
           → SteppedAtom input w p a b r w' p' a' b' i → Stepped input w p a b r w' p' a' b' i
       atom_stepped w' p' a' b' i d e s = record { same = step_atom d e ∙ s.same; stands = s.stands }
 
@@ -110,9 +113,9 @@ module _ (input w p a b : List ℕ) (r : Reader) where
             lists = k.lists;
           }
 
-      pub path_stepped : (w'' p'' : List ℕ) (i : Item) → get_or input r.position 0 ≡ 0xfe → SteppedPath input w p r w'' p'' i → Stepped input w p a b r w'' p'' a b i
+      pub path_stepped : (w'' p'' : List ℕ) (i : Result Item ReadError) → get_or input r.position 0 ≡ 0xfe → SteppedPath input w p r w'' p'' i → Stepped input w p a b r w'' p'' a b i
       path_stepped w'' p'' i e (path_refused n ei f) =
-          subst (λ (x : Item). Stepped input w p a b r w'' p'' a b x) (sym ei) (record { same = step_path e ∙ f (take (2 * r.atoms) a) (take r.bytes b); stands = tt })
+          subst (λ (x : Result Item ReadError). Stepped input w p a b r w'' p'' a b x) (sym ei) (record { same = step_path e ∙ f (take (2 * r.atoms) a) (take r.bytes b); stands = tt })
       path_stepped w'' p'' i e (path_settled w' p' s q lw lp n) =
           record {
             same =

@@ -1,3 +1,3 @@
 pub mod Lending
-mod Atoms
-mod Paths
+pub mod Atoms
+pub mod Paths

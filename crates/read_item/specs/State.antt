@@ -1,5 +1,5 @@
 -- What the reader's counts, its stacks and the pairs stand for, and what the joins leave.
-use Rattle.std.specs.Prelude.{ℕ, ◌*◌, ◌≤◌, ◌≡◌, List, [], ◌∷◌, length, take, drop}
+use Rattle.std.specs.Prelude.{ℕ, ◌*◌, ◌≤◌, ◌≡◌, List, [], ◌∷◌, length, take, drop, Result, Ok, Err}
 use Rattle.words.specs.Words.{WORK}
 use Rattle.spec_reading.specs.Format.{ParseOp, SExp, Cons, Step, go, whole, stop, settle}
 use Rattle.spec_reading.specs.Store.{Stored, store_values}
@@ -9,6 +9,8 @@ use Rattle.read_store.specs.Layout.{ops_of, values_of}
 use Rattle.read_item.specs.declared.settle.Reader.{Reader}
 use Rattle.read_item.specs.declared.settle.Item.{Item}
 use Rattle.read_item.specs.declared.settle.Item.TheVariants as item
+use Rattle.read_item.specs.declared.read_error.ReadError.{ReadError}
+use Rattle.read_item.specs.Refusals.{number}
 
 -- The values and the store, with these listed atoms and atom bytes.
 abbrev pub stored_with : (w p atoms bytes : List ℕ) → Reader → Stored
@@ -57,20 +59,20 @@ pub record Settled (w p : List ℕ) (r : Reader) (w' p' : List ℕ) (r' : Reader
 -- ---- after a value: what comes next
 
 -- The item's answer, with these listed atoms and atom bytes.
-abbrev pub item_with : (input w p atoms bytes : List ℕ) → Item → Step Stored
-item_with input w p a b (item.Go r) = go (record { rest = drop r.position input; ops = ops_of w r.ops; values = stored_with w p a b r })
-item_with input w p a b (item.Whole r) = whole (stored_with w p a b r)
-item_with input w p a b (item.Refused n) = stop n
+abbrev pub item_with : (input w p atoms bytes : List ℕ) → Result Item ReadError → Step Stored
+item_with input w p a b (Ok (item.Go r)) = go (record { rest = drop r.position input; ops = ops_of w r.ops; values = stored_with w p a b r })
+item_with input w p a b (Ok (item.Whole r)) = whole (stored_with w p a b r)
+item_with input w p a b (Err e) = stop (number e)
 
-abbrev pub FollowsItem : (w p : List ℕ) → Reader → (w' p' : List ℕ) → Item → Type 0
-FollowsItem w p r w' p' (item.Go r') =
+abbrev pub FollowsItem : (w p : List ℕ) → Reader → (w' p' : List ℕ) → Result Item ReadError → Type 0
+FollowsItem w p r w' p' (Ok (item.Go r')) =
     Follows p r p' r' × ((a b : List ℕ) → Sound r.position (ops_of w r.ops) (stored_with w p a b r) → Sound r.position (SExp ∷ ops_of w' r'.ops) (stored_with w' p' a b r'))
     × HaveLists w' r'.listed r'.values
-FollowsItem w p r w' p' (item.Whole r') =
+FollowsItem w p r w' p' (Ok (item.Whole r')) =
     Follows p r p' r' × ((a b : List ℕ) → Sound r.position (ops_of w r.ops) (stored_with w p a b r) → Sound r.position [] (stored_with w' p' a b r'))
-FollowsItem w p r w' p' (item.Refused n) = Unit {0}
+FollowsItem w p r w' p' (Err e) = Unit {0}
 
 -- The value is settled as the definition says.
-pub record Next (input w p : List ℕ) (r : Reader) (w' p' : List ℕ) (i : Item) : Type 0 where
+pub record Next (input w p : List ℕ) (r : Reader) (w' p' : List ℕ) (i : Result Item ReadError) : Type 0 where
   pub same : (a b : List ℕ) → settle store_values (drop r.position input) (ops_of w r.ops) (stored_with w p a b r) ≡ item_with input w' p' a b i
   pub follows : FollowsItem w p r w' p' i

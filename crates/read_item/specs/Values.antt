@@ -1,19 +1,23 @@
 -- An atom or a reference: what is asked before it is read, and what reading it leaves.
-use Rattle.std.specs.Prelude.{ℕ, ◌+◌, ◌*◌, ◌^◌, ◌≤◌, ◌<◌, ◌≡◌, List, ◌∷◌, length, drop}
+use Rattle.std.specs.Prelude.{ℕ, ◌+◌, ◌*◌, ◌^◌, ◌≤◌, ◌<◌, ◌≡◌, List, ◌∷◌, length, drop, Result, Err}
 use Rattle.words.specs.Words.{WORK}
 use Rattle.spec_reading.specs.Format.{SExp, Step, stop, settle, atom_item, path_item}
 use Rattle.spec_reading.specs.Store.{Stored, store_values}
 use Rattle.spec_reading.specs.Sound.{Sound}
-use Rattle.atom.specs.Parse.{Parse, blob, parse, parse_at}
-use Rattle.read_path.specs.declared.stack_list.Built.{Built}
+use Rattle.atom.specs.Parse.{parse}
 use Rattle.read_path.specs.Lists.{HaveLists}
 use Rattle.read_store.specs.Atoms.{AtomStored}
 use Rattle.read_store.specs.Layout.{ops_of, PushedValue}
 use Rattle.read_item.specs.State.{stored_with, Next}
 use Rattle.read_item.specs.declared.settle.Reader.{Reader}
 use Rattle.read_item.specs.declared.settle.Item.{Item}
-use Rattle.read_item.specs.declared.settle.Item.TheVariants as item
+use Rattle.read_item.specs.declared.read_error.ReadError.{ReadError}
+use Rattle.read_item.specs.Refusals.{number}
 use Rattle.read_item.specs.Whole.{stored_of, item_of, StandsItem}
+
+-- A node is pushed; what was read ends at `end`.
+abbrev pub node_pushed : Reader → ℕ → Reader
+node_pushed r end = record { position = end; ops = r.ops; values = r.values + 1; listed = r.listed; pairs = r.pairs; atoms = r.atoms; bytes = r.bytes; ghosts = r.ghosts + 1 }
 
 -- ---- an atom
 
@@ -39,15 +43,11 @@ pub record AtomPushed (w a b : List ℕ) (r : Reader) (blob : List ℕ) (end : �
   pub ghosts : r'.ghosts ≡ r.ghosts + 1
 
 -- The atom at the place was read as the definition says.
-pub record SteppedAtom (input w p a b : List ℕ) (r : Reader) (w' p' a' b' : List ℕ) (i : Item) : Type 0 where
+pub record SteppedAtom (input w p a b : List ℕ) (r : Reader) (w' p' a' b' : List ℕ) (i : Result Item ReadError) : Type 0 where
   pub same : atom_item store_values (parse (drop r.position input)) (drop r.position input) (ops_of w r.ops) (stored_of w p a b r) ≡ item_of input w' p' a' b' i
   pub stands : StandsItem input w' p' a' b' i
 
 -- ---- a reference
-
--- The node that a path led to is pushed; the path ends at `end`.
-abbrev pub node_pushed : Reader → Built → ℕ → Reader
-node_pushed r b end = record { position = end; ops = r.ops; values = r.values + 1; listed = b.listed; pairs = b.pairs; atoms = r.atoms; bytes = r.bytes; ghosts = b.ghosts + 1 }
 
 -- The reader stands before a reference. A path knows the values and the pairs alone.
 pub record BeforePath (input w p : List ℕ) (r : Reader) : Type 0 where
@@ -60,12 +60,6 @@ pub record BeforePath (input w p : List ℕ) (r : Reader) : Type 0 where
   pub pairs_in : 2 * r.pairs ≤ length p
   pub sound : Sound r.position (SExp ∷ ops_of w r.ops) (stored_with w p atoms bytes r)
   pub lists : HaveLists w r.listed r.values
-
--- The path's atom was found, and ends at `end`.
-pub record PathFound (input : List ℕ) (r : Reader) (z : Parse) (end : ℕ) : Type 0 where
-  pub start : ℕ
-  pub there : z ≡ parse_at input (r.position + 1)
-  pub found : z ≡ blob start end
 
 -- What the definition does with the path at the place.
 abbrev pub path_there : (input w p a b : List ℕ) → Reader → Step Stored
@@ -85,7 +79,7 @@ pub record PathPushed (input w p : List ℕ) (r : Reader) (w' p' : List ℕ) (r'
   pub bytes_same : r'.bytes ≡ r.bytes
 
 -- The reference was read as the definition says: its node is pushed and settled, or it is refused.
-pub data SteppedPath (input w p : List ℕ) (r : Reader) (w'' p'' : List ℕ) (i : Item) : Type 0 where
+pub data SteppedPath (input w p : List ℕ) (r : Reader) (w'' p'' : List ℕ) (i : Result Item ReadError) : Type 0 where
   path_settled : (w' p' : List ℕ) (r' : Reader) → PathPushed input w p r w' p' r' → length w'' ≡ length w' → length p'' ≡ length p' → Next input w' p' r' w'' p'' i
       → SteppedPath input w p r w'' p'' i
-  path_refused : (n : ℕ) → i ≡ item.Refused n → ((a b : List ℕ) → path_there input w p a b r ≡ stop n) → SteppedPath input w p r w'' p'' i
+  path_refused : (e : ReadError) → i ≡ Err e → ((a b : List ℕ) → path_there input w p a b r ≡ stop (number e)) → SteppedPath input w p r w'' p'' i

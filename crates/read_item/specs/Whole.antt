@@ -1,5 +1,5 @@
 -- The whole reader: what its counts and the lent slices stand for, and what holds before and after an item.
-use Rattle.std.specs.Prelude.{ℕ, ◌-◌, ◌*◌, ◌≤◌, ◌≡◌, List, [], ◌∷◌, length, take, drop, replicate}
+use Rattle.std.specs.Prelude.{ℕ, ◌-◌, ◌*◌, ◌≤◌, ◌≡◌, List, [], ◌∷◌, length, take, drop, replicate, Result, Ok, Err}
 use Rattle.words.specs.Words.{WORK}
 use Rattle.spec_reading.specs.Format.{SExp, At, Step, go, whole, stop}
 use Rattle.spec_reading.specs.Store.{Stored}
@@ -10,6 +10,8 @@ use Rattle.read_item.specs.State.{stored_with}
 use Rattle.read_item.specs.declared.settle.Reader.{Reader}
 use Rattle.read_item.specs.declared.settle.Item.{Item}
 use Rattle.read_item.specs.declared.settle.Item.TheVariants as item
+use Rattle.read_item.specs.declared.read_error.ReadError.{ReadError}
+use Rattle.read_item.specs.Refusals.{number}
 
 abbrev pub stored_of : (w p a b : List ℕ) → Reader → Stored
 stored_of w p a b r = stored_with w p (take (2 * r.atoms) a) (take r.bytes b) r
@@ -46,12 +48,12 @@ pub record Ends (input w p a b : List ℕ) (r : Reader) : Type 0 where
   pub lent : Lent input w p a b r
   pub sound : Sound r.position [] (stored_of w p a b r)
 
-abbrev pub item_of : (input w p a b : List ℕ) → Item → Step Stored
-item_of input w p a b (item.Go r) = go (reader_at input w p a b r)
-item_of input w p a b (item.Whole r) = whole (stored_of w p a b r)
-item_of input w p a b (item.Refused n) = stop n
+abbrev pub item_of : (input w p a b : List ℕ) → Result Item ReadError → Step Stored
+item_of input w p a b (Ok (item.Go r)) = go (reader_at input w p a b r)
+item_of input w p a b (Ok (item.Whole r)) = whole (stored_of w p a b r)
+item_of input w p a b (Err e) = stop (number e)
 
-abbrev pub StandsItem : (input w p a b : List ℕ) → Item → Type 0
-StandsItem input w p a b (item.Go r) = Stands input w p a b r
-StandsItem input w p a b (item.Whole r) = Ends input w p a b r
-StandsItem input w p a b (item.Refused n) = Unit {0}
+abbrev pub StandsItem : (input w p a b : List ℕ) → Result Item ReadError → Type 0
+StandsItem input w p a b (Ok (item.Go r)) = Stands input w p a b r
+StandsItem input w p a b (Ok (item.Whole r)) = Ends input w p a b r
+StandsItem input w p a b (Err e) = Unit {0}

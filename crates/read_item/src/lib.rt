@@ -1,6 +1,7 @@
 // One item of a serialized tree: a pair's mark, an atom, or a reference.
 #![tactic(auto)]
 
+mod read_error;
 mod read_value;
 mod settle;
 
@@ -12,17 +13,18 @@ ghost use Rattle.read_item.specs.Step.{Stepped, pair_begun};
 
 use read_cursor::Head;
 use read_store::reader_stacks;
+pub use read_error::ReadError;
 pub use settle::{Item, Reader};
 
-fn pair_item(work: &mut [u32], r: Reader) -> Item
+fn pair_item(work: &mut [u32], r: Reader) -> Reader
     requires { (WORK ≤ length work.old) × (r.ops + 2 ≤ 131072) × (r.position ≤ 65535) }
-    ensures { (PushedPair work.old work.new r.ops) × (result ≡ Item.Go (pair_begun r)) }
+    ensures { (PushedPair work.old work.new r.ops) × (result ≡ pair_begun r) }
 {
     reader_stacks::push_pair(work, r.ops);
     let mut next = r;
     next.position += 1;
     next.ops += 2;
-    Item::Go(next)
+    next
 }
 
 // The next item.
@@ -33,15 +35,17 @@ pub fn next_item(
     atoms: &mut [u32],
     bytes: &mut [u8],
     r: Reader,
-) -> Item
+) -> Result<Item, ReadError>
     requires { Stands input.now work.old pairs.old atoms.old bytes.old r }
     ensures { Stepped input.now work.old pairs.old atoms.old bytes.old
         r work.new pairs.new atoms.new bytes.new result }
 {
-    match read_cursor::head_at(input, r.position) {
-        Head::End => Item::Refused(14),
-        Head::Pair => pair_item(work, r),
-        Head::Path(found) => read_value::path_item(input, work, pairs, r, found),
-        Head::Atom(found) => read_value::atom_item(input, work, pairs, atoms, bytes, r, found),
+    let Some(head) = read_cursor::head_at(input, r.position) else {
+        return Err(ReadError::SerializationError);
+    };
+    match head {
+        Head::Pair => Ok(Item::Go(pair_item(work, r))),
+        Head::Path(found) => read_value::path_item(input, work, pairs, r, found?),
+        Head::Atom(found) => read_value::atom_item(input, work, pairs, atoms, bytes, r, found?),
     }
 }

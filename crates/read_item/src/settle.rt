@@ -4,12 +4,12 @@ ghost use Rattle.spec_reading.specs.Format.{Cons};
 ghost use Rattle.read_store.specs.Layout.{ops_of};
 ghost use Rattle.read_item.specs.State.{Ready, Onward, Settled, Next};
 
-use read_path::stack_list;
+use crate::read_error::ReadError;
 use read_store::join_values;
 use read_store::reader_stacks::OPS;
 
 // Where the reader stands: the next byte, and how much of each stack and of the store is in use. The lowest `listed` values are known to have a list.
-#[derive(Clone, Copy)]
+#[derive(Clone, Copy, Debug, PartialEq, Eq)]
 pub struct Reader {
     pub position: usize,
     pub ops: usize,
@@ -21,12 +21,11 @@ pub struct Reader {
     pub ghosts: usize,
 }
 
-// After an item: read on, everything is read, or a refusal with its number.
-#[derive(Clone, Copy)]
+// After an item: read on, or everything is read.
+#[derive(Clone, Copy, Debug, PartialEq, Eq)]
 pub enum Item {
     Go(Reader),
     Whole(Reader),
-    Refused(u32),
 }
 
 // The topmost operation, a join, is done. The lists of the two values go with them, and the pair has none.
@@ -34,7 +33,7 @@ fn join_top(work: &mut [u32], pairs: &mut [u32], r: Reader) -> Reader
     requires { (Ready work.old pairs.old r) × (0 < r.ops) × (ops_of work.old r.ops ≡ Cons ∷ ops_of work.old (r.ops - 1)) }
     ensures { (Onward work.old pairs.old r work.new pairs.new result) × (result.ops ≡ r.ops - 1) }
 {
-    let listed = stack_list::listed_among(r.listed, r.values - 2);
+    let listed = r.listed.min(r.values - 2);
     join_values::join(work, pairs, r.values, r.pairs);
     let mut next = r;
     next.ops -= 1;
@@ -62,17 +61,22 @@ fn join_all(work: &mut [u32], pairs: &mut [u32], reader: Reader) -> Reader
 }
 
 // A value is on top: join what there is to join, and see what comes next.
-pub fn settle(input: &[u8], work: &mut [u32], pairs: &mut [u32], reader: Reader) -> Item
+pub fn settle(
+    input: &[u8],
+    work: &mut [u32],
+    pairs: &mut [u32],
+    reader: Reader,
+) -> Result<Item, ReadError>
     requires { (Ready work.old pairs.old reader) × (reader.position ≤ length input.now) }
     ensures { Next input.now work.old pairs.old reader work.new pairs.new result }
 {
     let mut r = join_all(work, pairs, reader);
     if r.ops == 0 {
         if r.position == input.len() {
-            return Item::Whole(r);
+            return Ok(Item::Whole(r));
         }
-        return Item::Refused(14);
+        return Err(ReadError::SerializationError);
     }
     r.ops -= 1;
-    Item::Go(r)
+    Ok(Item::Go(r))
 }

@@ -1,5 +1,6 @@
 -- Laws of an atom: what the parser found is what the definition reads, and what was pushed is what the definition pushes.
 -- Assumes nothing.
+use Rattle.std.specs.Prelude.{Result, Err}
 use Prim.Native.Nat.{ℕ, ◌+◌, ◌-◌, ◌*◌, ◌≤◌}
 use mathlib.Core.Path.{◌≡◌, refl, sym, ap, subst, ◌∙◌}
 use mathlib.Core.List.{List, ◌∷◌}
@@ -19,7 +20,8 @@ use Rattle.spec_reading.proofs.Blobs.{Within, blob_within, length_blob}
 use Rattle.read_store.specs.Layout.{ops_of, values_of}
 use Rattle.read_item.specs.declared.settle.Reader.{Reader}
 use Rattle.read_item.specs.declared.settle.Item.{Item}
-use Rattle.read_item.specs.declared.settle.Item.TheVariants as item
+use Rattle.read_item.specs.declared.read_error.ReadError.{ReadError}
+use Rattle.read_item.specs.Refusals.{number}
 use Rattle.read_item.specs.State.{Ready, Next}
 use Rattle.read_item.specs.Whole.{stored_of, Lent, Stands}
 use Rattle.read_item.specs.Values.{AtomRoom, AtomPushed, SteppedAtom}
@@ -161,7 +163,7 @@ module _ (input w p a b : List ℕ) (r : Reader) (h : Stands input w p a b r) (s
       lent_pushed.inside,
     )
 
-    pub atom_stepped : (w'' p'' : List ℕ) (i : Item) → length w'' ≡ length w' → length p'' ≡ length p → Next input w' p r' w'' p'' i → SteppedAtom input w p a b r w'' p'' a' b' i
+    pub atom_stepped : (w'' p'' : List ℕ) (i : Result Item ReadError) → length w'' ≡ length w' → length p'' ≡ length p → Next input w' p r' w'' p'' i → SteppedAtom input w p a b r w'' p'' a' b' i
     atom_stepped w'' p'' i lw' lp n =
         record {
           same =
@@ -178,9 +180,10 @@ module _ (input w p a b : List ℕ) (r : Reader) (h : Stands input w p a b r) (s
         rest_is = drop-drop f.size r.position input ∙ ap (λ (n : ℕ). drop n input) (sym (k.position ∙ f.end_is))
 
 -- The parser's refusal is the definition's.
-pub atom_refused : (input w p a b : List ℕ) (r : Reader) (n : ℕ) → refused n ≡ parse_at input r.position → SteppedAtom input w p a b r w p a b (item.Refused n)
-atom_refused input w p a b r n e =
+pub atom_refused : (input w p a b : List ℕ) (r : Reader) (why : ReadError) → refused (number why) ≡ parse_at input r.position
+    → SteppedAtom input w p a b r w p a b (Err why)
+atom_refused input w p a b r why e =
     record {
-      same = ap (λ (z : Parse). atom_item store_values z (drop r.position input) (ops_of w r.ops) (stored_of w p a b r)) (refused_at input r.position n e);
+      same = ap (λ (z : Parse). atom_item store_values z (drop r.position input) (ops_of w r.ops) (stored_of w p a b r)) (refused_at input r.position (number why) e);
       stands = tt;
     }

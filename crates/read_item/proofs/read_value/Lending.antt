@@ -1,5 +1,6 @@
 -- Laws of the lent slices: what is not in use stays zero, and the counts keep within.
 -- Assumes nothing.
+use Rattle.std.specs.Prelude.{Result, Ok, Err}
 use Prim.Native.Nat.{ℕ, zero, suc, ◌+◌, ◌-◌, ◌*◌, ◌/◌, ◌≤◌}
 use mathlib.Core.Path.{◌≡◌, refl, sym, ap, subst, ◌∙◌}
 use mathlib.Core.List.{List, [], ◌∷◌}
@@ -15,6 +16,7 @@ use Rattle.read_store.proofs.Stored.{half}
 use Rattle.read_item.specs.declared.settle.Reader.{Reader}
 use Rattle.read_item.specs.declared.settle.Item.{Item}
 use Rattle.read_item.specs.declared.settle.Item.TheVariants as item
+use Rattle.read_item.specs.declared.read_error.ReadError.{ReadError}
 use Rattle.read_item.specs.State.{stored_with, Follows, item_with, FollowsItem}
 use Rattle.read_item.specs.Whole.{stored_of, zeros_from, item_of, Lent, StandsItem}
 
@@ -100,23 +102,23 @@ module _ (input w p : List ℕ) (r : Reader) (a b : List ℕ) (w' p' : List ℕ)
       lent_after input w p a b r w' p' a b s lent lw lp refl refl (omega (arith, f.position, lent.inside)) f.pairs_in f.more f.pairs_rest
       (omega (arith, f.atoms, lent.atoms_in)) (omega (arith, f.atoms)) refl (omega (arith, f.bytes, lent.bytes_in)) (omega (arith, f.bytes)) refl
 
-  pub item_same : (i : Item) → FollowsItem w p r w' p' i → item_with input w' p' (take (2 * r.atoms) a) (take r.bytes b) i ≡ item_of input w' p' a b i
-  item_same (item.Go s) f = ap (λ (x : Stored). go (record { rest = drop s.position input; ops = ops_of w' s.ops; values = x })) (stored_same s f.0)
-  item_same (item.Whole s) f = ap {B = Step Stored} whole (stored_same s f.0)
-  item_same (item.Refused n) f = refl
+  pub item_same : (i : Result Item ReadError) → FollowsItem w p r w' p' i → item_with input w' p' (take (2 * r.atoms) a) (take r.bytes b) i ≡ item_of input w' p' a b i
+  item_same (Ok (item.Go s)) f = ap (λ (x : Stored). go (record { rest = drop s.position input; ops = ops_of w' s.ops; values = x })) (stored_same s f.0)
+  item_same (Ok (item.Whole s)) f = ap {B = Step Stored} whole (stored_same s f.0)
+  item_same (Err e) f = refl
 
-  pub item_stands : (i : Item) → FollowsItem w p r w' p' i → StandsItem input w' p' a b i
-  item_stands (item.Go s) f =
+  pub item_stands : (i : Result Item ReadError) → FollowsItem w p r w' p' i → StandsItem input w' p' a b i
+  item_stands (Ok (item.Go s)) f =
       record {
         lent = lent_same s f.0;
         sound = subst (λ (n : ℕ). Sound n (SExp ∷ ops_of w' s.ops) (stored_of w' p' a b s)) (sym f.0.position)
             (subst (Sound r.position (SExp ∷ ops_of w' s.ops)) (stored_same s f.0) (f.1 (take (2 * r.atoms) a) (take r.bytes b) sound));
         lists = f.2;
       }
-  item_stands (item.Whole s) f =
+  item_stands (Ok (item.Whole s)) f =
       record {
         lent = lent_same s f.0;
         sound = subst (λ (n : ℕ). Sound n [] (stored_of w' p' a b s)) (sym f.0.position)
             (subst (Sound r.position []) (stored_same s f.0) (f.1 (take (2 * r.atoms) a) (take r.bytes b) sound));
       }
-  item_stands (item.Refused n) f = tt
+  item_stands (Err e) f = tt

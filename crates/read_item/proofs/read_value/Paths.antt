@@ -1,5 +1,6 @@
 -- Laws of a reference: the walk in the slices is the definition's, and what was pushed is what the definition pushes.
 -- Assumes nothing.
+use Rattle.std.specs.Prelude.{Result, Ok, Err}
 use Prim.Native.Nat.{ℕ, zero, suc, ◌+◌, ◌*◌, ◌/◌, ◌≤◌, ◌<◌}
 use mathlib.Core.Path.{◌≡◌, refl, sym, ap, subst, ◌∙◌}
 use mathlib.Core.Bool.{Bool, true, false}
@@ -27,12 +28,12 @@ use Rattle.read_path.specs.Answers as walk_law
 use Rattle.read_path.specs.Lists.{HaveLists}
 use Rattle.read_path.specs.Leads as leads
 use Rattle.read_path.specs.declared.stack_list.Built.{Built}
-use Rattle.read_path.specs.declared.Traversed.{Traversed}
-use Rattle.read_path.specs.declared.Traversed.TheVariants as traversed
+use Rattle.read_path.specs.declared.path_walk.PathIntoAtom.{PathIntoAtom}
 use Rattle.read_item.specs.declared.settle.Reader.{Reader}
-use Rattle.read_item.specs.declared.settle.Item.TheVariants as item
+use Rattle.read_item.specs.declared.read_error.ReadError.{ReadError}
+use Rattle.read_item.specs.Refusals.{number}
 use Rattle.read_item.specs.State.{stored_with, Ready}
-use Rattle.read_item.specs.Values.{node_pushed, BeforePath, PathFound, path_there, PathPushed, SteppedPath, path_refused}
+use Rattle.read_item.specs.Values.{BeforePath, path_there, PathPushed, SteppedPath, path_refused}
 use Rattle.read_item.proofs.settle.Joins.{length_ops, stored_is, Room, room}
 use Rattle.read_item.proofs.read_value.Atoms.{Found, found_at, refused_at}
 
@@ -80,6 +81,20 @@ values_known p a w (suc n) h k l = by_eq (ℕ_discrete k n) (λ m. values_known 
     by_eq (yes e) f = subst (λ (m : ℕ). KnownHandle p a (at w (VALUES + 2 * m))) (sym e) h.0.node_known
     by_eq (no d) f = f (omega arith)
 
+-- The reader after the node that a path led to was pushed; the path ends at `end`.
+abbrev pub led_reader : Reader → Built → ℕ → Reader
+led_reader r b end =
+    record {
+      position = end;
+      ops = r.ops;
+      values = r.values + 1;
+      listed = b.counts.listed;
+      pairs = b.counts.pairs;
+      atoms = r.atoms;
+      bytes = r.bytes;
+      ghosts = b.counts.ghosts + 1;
+    }
+
 module _ (input w p : List ℕ) (r : Reader) (h : BeforePath input w p r) where
   count : length (take (2 * r.pairs) p) / 2 ≡ r.pairs
   count = half p (take (2 * r.pairs) p) r.pairs h.pairs_in refl
@@ -115,20 +130,20 @@ module _ (input w p : List ℕ) (r : Reader) (h : BeforePath input w p r) where
   pub few_values : r.values < 131072
   few_values = omega (arith, has.values)
 
-  pub few_ghosts : (t : Traversed) (b : Built) → t ≡ traversed.Node b → leads.SameTotal r.pairs r.ghosts t → b.ghosts ≤ 131072
-  few_ghosts t b e n = omega (arith, has.pairs, (subst (leads.SameTotal r.pairs r.ghosts) e n).1)
+  pub few_ghosts : (b : Built) → leads.SameTotal r.pairs r.ghosts (Ok b) → b.counts.ghosts ≤ 131072
+  few_ghosts b n = omega (arith, has.pairs, n.1)
 
   -- ---- the path that was found
 
-  module _ (z : Parse) (end : ℕ) (f : PathFound input r z end) where
-    at_path : Found input (r.position + 1) f.start end
-    at_path = found_at input (r.position + 1) f.start end (omega (arith, h.inside)) (sym f.found ∙ f.there)
+  module _ (start end : ℕ) (f : blob start end ≡ parse_at input (r.position + 1)) where
+    at_path : Found input (r.position + 1) start end
+    at_path = found_at input (r.position + 1) start end (omega (arith, h.inside)) f
 
     abbrev pub path_bytes : List ℕ
-    path_bytes = blob_of input z
+    path_bytes = blob_of input (blob start end)
 
     bytes_there : path_bytes ≡ blob_of (drop (r.position + 1) input) (blob at_path.from at_path.size)
-    bytes_there = ap (blob_of input) f.found ∙ at_path.bytes_are
+    bytes_there = at_path.bytes_are
 
     end_inside : end ≤ length input
     end_inside = omega (arith, at_path.end_is, at_path.within.inside, length-drop (r.position + 1) input, h.inside)
@@ -155,24 +170,24 @@ module _ (input w p : List ℕ) (r : Reader) (h : BeforePath input w p r) where
 
     no_node_there : ((s : Store) → s.pairs ≡ take (2 * r.pairs) p → s.ghosts ≡ r.ghosts → (leads.led bits (values_of w r.values) s).node ≡ none) → (a b : List ℕ)
         → path_there input w p a b r ≡ stop 16
-    no_node_there no_Node a b =
+    no_node_there no_node a b =
         there_is a b
         ∙ ap (λ (o : Option Stored). pushed store_values o (drop end input) (ops_of w r.ops))
-        (push_path_is bits (stored_with w p a b r) ∙ ap (λ (o : Option ℕ). push_led o (led_with a b).stored) (no_Node (stored_with w p a b r).store refl refl))
+        (push_path_is bits (stored_with w p a b r) ∙ ap (λ (o : Option ℕ). push_led o (led_with a b).stored) (no_node (stored_with w p a b r).store refl refl))
 
     module _ (w₁ p₁ : List ℕ) (b₁ : Built) (lw : length w₁ ≡ length w) (lp : length p₁ ≡ length p)
         (l : (s : Store) → s.pairs ≡ take (2 * r.pairs) p → s.ghosts ≡ r.ghosts → leads.Leads w p r.values r.pairs (leads.led bits (values_of w r.values) s) w₁ p₁ b₁)
-        (more : r.pairs ≤ b₁.pairs) (total : b₁.pairs + b₁.ghosts ≡ r.pairs + r.ghosts)
+        (more : r.pairs ≤ b₁.counts.pairs) (total : b₁.counts.pairs + b₁.counts.ghosts ≡ r.pairs + r.ghosts)
         (w₂ : List ℕ) (lw₂ : length w₂ ≡ length w₁) (push : PushedValue w₁ w₂ r.values b₁.node.0) where
       ops_are : ops_of w₂ r.ops ≡ ops_of w r.ops
       ops_are =
           push.ops r.ops (omega (arith, has.ops))
           ∙ ops_same w w₁ r.ops (λ k q. (l (stored_with w p [] [] r).store refl refl).low k (omega (arith, has.ops)))
 
-      pushed_is : (a b : List ℕ) → store_values.push_path bits (stored_with w p a b r) ≡ some (stored_with w₂ p₁ a b (node_pushed r b₁ end))
+      pushed_is : (a b : List ℕ) → store_values.push_path bits (stored_with w p a b r) ≡ some (stored_with w₂ p₁ a b (led_reader r b₁ end))
       pushed_is a b =
           push_path_is bits (stored_with w p a b r) ∙ ap (λ (o : Option ℕ). push_led o (led_with a b).stored) k.node_is
-          ∙ ap {B = Option Stored} some (stored_is _ (values_of w₂ (r.values + 1)) (take (2 * b₁.pairs) p₁) a b (b₁.ghosts + 1)
+          ∙ ap {B = Option Stored} some (stored_is _ (values_of w₂ (r.values + 1)) (take (2 * b₁.counts.pairs) p₁) a b (b₁.counts.ghosts + 1)
           (ap (λ (vs : List Value). record { node = b₁.node.0; list = none } ∷ vs) (sym k.values_are) ∙ sym push.values) (sym k.pairs_are)
           (led_atoms bits (values_of w r.values) (stored_with w p a b r).store).0 (led_atoms bits (values_of w r.values) (stored_with w p a b r).store).1
           (ap (λ (n : ℕ). n + 1) (sym k.ghosts_are)))
@@ -180,17 +195,17 @@ module _ (input w p : List ℕ) (r : Reader) (h : BeforePath input w p r) where
           k : leads.Leads w p r.values r.pairs (led_with a b) w₁ p₁ b₁
           k = l (stored_with w p a b r).store refl refl
 
-      path_pushed : PathPushed input w p r w₂ p₁ (node_pushed r b₁ end)
+      path_pushed : PathPushed input w p r w₂ p₁ (led_reader r b₁ end)
       path_pushed =
           record {
             same = λ a b.
                 there_is a b ∙ ap (λ (o : Option Stored). pushed store_values o (drop end input) (ops_of w r.ops)) (pushed_is a b)
-                ∙ ap (λ (ops : List ParseOp). settle store_values (drop end input) ops (stored_with w₂ p₁ a b (node_pushed r b₁ end))) (sym ops_are);
+                ∙ ap (λ (ops : List ParseOp). settle store_values (drop end input) ops (stored_with w₂ p₁ a b (led_reader r b₁ end))) (sym ops_are);
             kept = λ a b s.
-                subst (λ (n : ℕ). Sound n (ops_of w₂ r.ops) (stored_with w₂ p₁ a b (node_pushed r b₁ end))) place
-                (subst (λ (ops : List ParseOp). Sound (r.position + (at_path.size + 1)) ops (stored_with w₂ p₁ a b (node_pushed r b₁ end))) (sym ops_are)
+                subst (λ (n : ℕ). Sound n (ops_of w₂ r.ops) (stored_with w₂ p₁ a b (led_reader r b₁ end))) place
+                (subst (λ (ops : List ParseOp). Sound (r.position + (at_path.size + 1)) ops (stored_with w₂ p₁ a b (led_reader r b₁ end))) (sym ops_are)
                 (sound_path_some r.position (at_path.size + 1) (ops_of w r.ops) (stored_with w p a b r) (omega arith) (omega (arith, end_inside, at_path.end_is, h.short)) s bits
-                (stored_with w₂ p₁ a b (node_pushed r b₁ end)) (pushed_is a b)));
+                (stored_with w₂ p₁ a b (led_reader r b₁ end)) (pushed_is a b)));
             long_work = lw₂ ∙ lw;
             long_pairs = lp;
             inside = end_inside;
@@ -204,10 +219,10 @@ module _ (input w p : List ℕ) (r : Reader) (h : BeforePath input w p r) where
           place : r.position + (at_path.size + 1) ≡ end
           place = omega (arith, at_path.end_is)
 
-      lists_led : HaveLists w₁ b₁.listed r.values
+      lists_led : HaveLists w₁ b₁.counts.listed r.values
       lists_led = (l (stored_with w p [] [] r).store refl refl).lists
 
-      path_ready : Ready w₂ p₁ (node_pushed r b₁ end)
+      path_ready : Ready w₂ p₁ (led_reader r b₁ end)
       path_ready =
           record {
             atoms = h.atoms;
@@ -217,36 +232,32 @@ module _ (input w p : List ℕ) (r : Reader) (h : BeforePath input w p r) where
             limit = omega (arith, end_inside, h.short);
             pairs_in = omega (arith, has.pairs, h.room);
             sound = path_pushed.kept h.atoms h.bytes h.sound;
-            lists = record { all = ap sound_law.unlisted (push.below b₁.listed lists_led.few) ∙ lists_led.all; few = omega (arith, lists_led.few) };
+            lists = record { all = ap sound_law.unlisted (push.below b₁.counts.listed lists_led.few) ∙ lists_led.all; few = omega (arith, lists_led.few) };
           }
 
     -- What the code's walk along the path's bytes gave.
-    module _ (path : List ℕ) (is : path ≡ path_bytes) (w₁ p₁ : List ℕ) (t : Traversed)
-        (l : (s : Store) → s.pairs ≡ take (2 * r.pairs) p → s.ghosts ≡ r.ghosts
-        → leads.LeadsTo w p r.values r.pairs (leads.led (read_path path) (values_of w r.values) s) w₁ p₁ t) where
-      led_there : (t' : Traversed) → t ≡ t' → (s : Store) → s.pairs ≡ take (2 * r.pairs) p → s.ghosts ≡ r.ghosts
-          → leads.LeadsTo w p r.values r.pairs (leads.led bits (values_of w r.values) s) w₁ p₁ t'
-      led_there t' e s f g =
-          subst (λ (x : Traversed). leads.LeadsTo w p r.values r.pairs (leads.led bits (values_of w r.values) s) w₁ p₁ x) e
-          (subst (λ (x : List ℕ). leads.LeadsTo w p r.values r.pairs (leads.led (read_path x) (values_of w r.values) s) w₁ p₁ t) is (l s f g))
+    module _ (path : List ℕ) (is : path ≡ path_bytes) (w₁ p₁ : List ℕ) where
+      -- The walk gave t.
+      abbrev pub Gave : List ℕ → Result Built PathIntoAtom → Type 0
+      Gave bytes t =
+          (s : Store) → s.pairs ≡ take (2 * r.pairs) p → s.ghosts ≡ r.ghosts → leads.LeadsTo w p r.values r.pairs (leads.led (read_path bytes) (values_of w r.values) s) w₁ p₁ t
 
-      pub path_into_atom : t ≡ traversed.IntoAtom → SteppedPath input w p r w₁ p₁ (item.Refused 16)
-      path_into_atom e = path_refused 16 refl (no_node_there (led_there traversed.IntoAtom e))
+      pub path_into_atom : (into : PathIntoAtom) → Gave path (Err into) → (why : ReadError) → number why ≡ 16 → SteppedPath input w p r w₁ p₁ (Err why)
+      path_into_atom into l why e = path_refused why refl (λ a b. no_node_there (rw is at l) a b ∙ ap (λ (n : ℕ). stop n) (sym e))
 
       -- The reader after the push: the slices are ready, and the node is on top.
-      pub node_on_top : (b₁ : Built) → t ≡ traversed.Node b₁ → leads.SameTotal r.pairs r.ghosts t → length w₁ ≡ length w → length p₁ ≡ length p
-          → (w₂ : List ℕ) → length w₂ ≡ length w₁ → PushedValue w₁ w₂ r.values b₁.node.0 → (r' : Reader) → r' ≡ node_pushed r b₁ end
+      pub node_on_top : (b₁ : Built) → Gave path (Ok b₁) → leads.SameTotal r.pairs r.ghosts (Ok b₁) → length w₁ ≡ length w → length p₁ ≡ length p
+          → (w₂ : List ℕ) → length w₂ ≡ length w₁ → PushedValue w₁ w₂ r.values b₁.node.0 → (r' : Reader) → r' ≡ led_reader r b₁ end
           → Ready w₂ p₁ r' × PathPushed input w p r w₂ p₁ r'
-      node_on_top b₁ e n lw lp w₂ lw₂ push r' f =
-          let m = subst (leads.SameTotal r.pairs r.ghosts) e n in
-          let k = led_there (traversed.Node b₁) e in
+      node_on_top b₁ l m lw lp w₂ lw₂ push r' f =
+          let k = rw is at l in
           subst (λ (x : Reader). Ready w₂ p₁ x × PathPushed input w p r w₂ p₁ x) (sym f)
           (path_ready w₁ p₁ b₁ lw lp k m.0 m.1 w₂ lw₂ push, path_pushed w₁ p₁ b₁ lw lp k m.0 m.1 w₂ lw₂ push)
 
 -- The parser's refusal is the definition's.
-pub path_turned_down : (input w p : List ℕ) (r : Reader) (n : ℕ) → refused n ≡ parse_at input (r.position + 1) → SteppedPath input w p r w p (item.Refused n)
-path_turned_down input w p r n e =
-    path_refused n refl
+pub path_turned_down : (input w p : List ℕ) (r : Reader) (why : ReadError) → refused (number why) ≡ parse_at input (r.position + 1) → SteppedPath input w p r w p (Err why)
+path_turned_down input w p r why e =
+    path_refused why refl
     (λ a b.
     ap (λ (y : Parse). path_item store_values y (drop (r.position + 1) input) (ops_of w r.ops) (stored_with w p a b r))
-    (refused_at input (r.position + 1) n e))
+    (refused_at input (r.position + 1) (number why) e))

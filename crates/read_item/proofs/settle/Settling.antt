@@ -1,5 +1,6 @@
 -- Laws of settling: what comes after the joins is what the definition says.
 -- Assumes nothing.
+use Rattle.std.specs.Prelude.{Ok, Err}
 use Prim.Native.Nat.{ℕ, ◌+◌, ◌-◌, ◌<◌}
 use mathlib.Core.Path.{◌≡◌, refl, sym, ap, subst, ◌∙◌}
 use mathlib.Core.List.{List, [], ◌∷◌}
@@ -13,6 +14,7 @@ use Rattle.words.specs.Words.{at}
 use Rattle.read_store.specs.Layout.{OPS, op_of, ops_of}
 use Rattle.read_item.specs.declared.settle.Reader.{Reader}
 use Rattle.read_item.specs.declared.settle.Item.TheVariants as item
+use Rattle.read_item.specs.declared.read_error.ReadError.TheVariants as read_error
 use Rattle.read_item.specs.State.{stored_with, Follows, NoJoin, Settled, Next}
 use Rattle.read_item.proofs.settle.Joins.{ops_top}
 
@@ -33,7 +35,7 @@ module _ (input w p : List ℕ) (r : Reader) (w' p' : List ℕ) (s : Reader) (h 
   same_place : s.position ≡ r.position
   same_place = h.onward.follows.position
 
-  pub settle_whole : s.ops ≡ 0 → s.position ≡ length input → Next input w p r w' p' (item.Whole s)
+  pub settle_whole : s.ops ≡ 0 → s.position ≡ length input → Next input w p r w' p' (Ok (item.Whole s))
   settle_whole e end =
       record {
         same = λ a b.
@@ -42,7 +44,7 @@ module _ (input w p : List ℕ) (r : Reader) (w' p' : List ℕ) (s : Reader) (h 
         follows = (h.onward.follows, λ a b q. subst (λ (ops : List ParseOp). Sound r.position ops (stored_with w' p' a b s)) (no_ops w' s.ops e) (h.onward.kept a b q));
       }
 
-  pub settle_left : s.ops ≡ 0 → s.position < length input → Next input w p r w' p' (item.Refused 14)
+  pub settle_left : s.ops ≡ 0 → s.position < length input → Next input w p r w' p' (Err read_error.SerializationError)
   settle_left e more =
       record {
         same = λ a b.
@@ -54,7 +56,7 @@ module _ (input w p : List ℕ) (r : Reader) (w' p' : List ℕ) (s : Reader) (h 
   abbrev pub next_reader : Reader
   next_reader = record { position = s.position; ops = s.ops - 1; values = s.values; listed = s.listed; pairs = s.pairs; atoms = s.atoms; bytes = s.bytes; ghosts = s.ghosts }
 
-  pub settle_go : 0 < s.ops → Next input w p r w' p' (item.Go next_reader)
+  pub settle_go : 0 < s.ops → Next input w p r w' p' (Ok (item.Go next_reader))
   settle_go more =
       record {
         same = λ a b.
