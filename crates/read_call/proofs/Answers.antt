@@ -1,5 +1,6 @@
 -- Laws of the reading call: cleared slices are a fresh store, and what was read gives the answer and the slices that the definition says.
 -- Assumes nothing.
+use Rattle.std.specs.Prelude.{Result, Ok, Err}
 use Prim.Native.Nat.{ℕ, ◌-◌, ◌*◌, ◌/◌, ◌≤◌, ◌<◌}
 use mathlib.Core.Path.{◌≡◌, refl, sym, ap, subst, ◌∙◌}
 use mathlib.Core.Bool.{Bool, true, false, cond, ◌&&◌}
@@ -16,14 +17,15 @@ use Rattle.words.specs.Lists.{Bytes}
 use Rattle.spec_reading.specs.Format.{Read}
 use Rattle.spec_reading.specs.Store.{Stored, read_stored}
 use Rattle.spec_reading.proofs.Bounds.{Bounds, sound_bounds}
-use Rattle.spec_reading.specs.Call.{Slices, Result, refusal, zeroed, filled, root_of, answer_of, after, long_enough, reading}
+use Rattle.spec_reading.specs.Call.{Slices, refusal, zeroed, filled, root_of, answer_of, after, long_enough, reading}
+use Rattle.spec_reading.specs.Call as call
 use Rattle.spec_reading.specs.Promise.{ReadsPlainly}
 use Rattle.spec_reading.proofs.Promise.{reads_plainly}
 use Rattle.read_store.specs.Layout.{VALUES, values_of}
 use Rattle.read_item.specs.Whole.{stored_of, Lent, Ends}
 use Rattle.read_item.specs.declared.settle.Reader.{Reader}
-use Rattle.read_call.specs.declared.read_items.Verdict.{Verdict}
-use Rattle.read_call.specs.declared.read_items.Verdict.TheVariants as verdict
+use Rattle.read_item.specs.declared.read_error.ReadError.{ReadError}
+use Rattle.read_item.specs.Refusals.{number}
 use Rattle.read_call.specs.read_items.Verdict.{start, ReadAll}
 use Rattle.read_answer.specs.declared.ReadAnswer.{ReadAnswer}
 use Rattle.read_answer.specs.Answer.{read_answer_of, Counts, read_answer_at, slices}
@@ -122,19 +124,19 @@ module _ (input w p a b : List ℕ) (r : Reader) (h : Ends input w p a b r) wher
       let na : r.atoms ≡ length (take (2 * r.atoms) a) / 2 = omega (arith, atoms_length) in
       λ i. record { number = 0; root = root i; pairs = np i; atoms = na i; bytes = sym bytes_length i; ghosts = r.ghosts }
 
-pub counted : (input w p a b : List ℕ) (o : Verdict) → ReadAll input w p a b (read_stored input) o → Counted w o
-counted input w p a b (verdict.Accepted r) t = counts input w p a b r t.ends
-counted input w p a b (verdict.Refused n) t = tt
+pub counted : (input w p a b : List ℕ) (o : Result Reader ReadError) → ReadAll input w p a b (read_stored input) o → Counted w o
+counted input w p a b (Ok r) t = counts input w p a b r t.ends
+counted input w p a b (Err e₀) t = tt
 
 zeroed_same : (l l₁ : List ℕ) → length l₁ ≡ length l → zeroed l₁ ≡ zeroed l
 zeroed_same l l₁ e = ap (λ (n : ℕ). replicate n 0) e
 
 -- What the outcome of all items leaves is what the definition says, where the slices are as long as at the call.
 module _ (input w p a b w₁ p₁ a₁ b₁ : List ℕ) where
-  pub ended_after : (o : Verdict) → ReadAll input w₁ p₁ a₁ b₁ (read_stored input) o
+  pub ended_after : (o : Result Reader ReadError) → ReadAll input w₁ p₁ a₁ b₁ (read_stored input) o
       → length w₁ ≡ length w → length p₁ ≡ length p → length a₁ ≡ length a → length b₁ ≡ length b
-      → (x : Result) → x ≡ ended o (slices w₁ p₁ a₁ b₁) → x ≡ after (read_stored input) (slices w p a b)
-  ended_after (verdict.Accepted r) t lw lp la lb x e =
+      → (x : call.Result) → x ≡ ended o (slices w₁ p₁ a₁ b₁) → x ≡ after (read_stored input) (slices w p a b)
+  ended_after (Ok r) t lw lp la lb x e =
       let l = t.ends.lent in
       e
       ∙ (λ i.
@@ -149,11 +151,11 @@ module _ (input w p a b w₁ p₁ a₁ b₁ : List ℕ) where
             };
       })
       ∙ ap (λ (d : Read Stored). after d (slices w p a b)) (sym t.same)
-  ended_after (verdict.Refused n) t lw lp la lb x e =
+  ended_after (Err e₀) t lw lp la lb x e =
       e
       ∙ (λ i.
       record {
-        answer = refusal n;
+        answer = refusal (number e₀);
         slices = slices (zeroed_same w w₁ lw i) (zeroed_same p p₁ lp i) (zeroed_same a a₁ la i) (zeroed_same b b₁ lb i);
       })
       ∙ ap (λ (d : Read Stored). after d (slices w p a b)) (sym t.same)
@@ -161,7 +163,7 @@ module _ (input w p a b w₁ p₁ a₁ b₁ : List ℕ) where
 -- ---- the questions
 
 -- The three cases of the call: long enough or not, within the limit or not.
-abbrev cases : List ℕ → Slices → Bool → Bool → Result
+abbrev cases : List ℕ → Slices → Bool → Bool → call.Result
 cases input l x y = cond x (cond y (after (read_stored input) l) (record { answer = refusal 2; slices = l })) (record { answer = refusal 1; slices = l })
 
 module _ (input w p a b : List ℕ) (t : Bool) (test : t ≡ long_enough (slices w p a b)) where
@@ -178,11 +180,11 @@ module _ (input w p a b : List ℕ) (t : Bool) (test : t ≡ long_enough (slices
   pub too_long : t ≡ true → 65535 < length input → (r : ReadAnswer) → read_answer_of r ≡ refusal 2 → read_result_of r w p a b ≡ reading input (slices w p a b)
   too_long e l r h = untouched 2 r h ∙ reading_cases true false e (lt-leb _ _ l)
 
-  pub within : t ≡ true → length input ≤ 65535 → (x : Result) → x ≡ after (read_stored input) (slices w p a b) → x ≡ reading input (slices w p a b)
+  pub within : t ≡ true → length input ≤ 65535 → (x : call.Result) → x ≡ after (read_stored input) (slices w p a b) → x ≡ reading input (slices w p a b)
   within e l x h = h ∙ reading_cases true true e (le-leb _ _ l)
 
 -- ---- the promise
 
 -- What is the definition's result reads plainly.
-pub promised : (input : List ℕ) → Bytes input → (l : Slices) (x : Result) → x ≡ reading input l → (x ≡ reading input l) × ReadsPlainly input x
+pub promised : (input : List ℕ) → Bytes input → (l : Slices) (x : call.Result) → x ≡ reading input l → (x ≡ reading input l) × ReadsPlainly input x
 promised input bytes l x e = (e, subst (ReadsPlainly input) (sym e) (reads_plainly input bytes l))

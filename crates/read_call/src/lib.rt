@@ -11,7 +11,7 @@ ghost use Rattle.read_answer.specs.Answer.{slices};
 ghost use Rattle.read_call.specs.Outcome.{read_result_of, Counted, ended};
 
 use read_answer::{ReadAnswer, clear_slices};
-use read_items::Verdict;
+use read_item::{ReadError, Reader};
 use words::slices;
 
 // The answer after the items: the store stays as it was read, or everything is cleared.
@@ -20,21 +20,21 @@ fn ended(
     pairs: &mut [u32],
     atoms: &mut [u32],
     bytes: &mut [u8],
-    outcome: Verdict,
+    outcome: Result<Reader, ReadError>,
 ) -> ReadAnswer
     requires { Counted work.old outcome }
     ensures { read_result_of result work.new pairs.new atoms.new bytes.new
         ≡ ended outcome (slices work.old pairs.old atoms.old bytes.old) }
 {
     match outcome {
-        Verdict::Accepted(r) => {
+        Ok(r) => {
             let a = read_answer::answer(work, r);
             slices::clear(work);
             a
         }
-        Verdict::Refused(n) => {
+        Err(error) => {
             clear_slices::clear_all(work, pairs, atoms, bytes);
-            read_answer::refusal(n)
+            read_answer::refusal(u32::from(error))
         }
     }
 }

@@ -3,23 +3,16 @@ ghost use Rattle.spec_reading.specs.Store.{read_stored};
 ghost use Rattle.read_item.specs.Whole.{Lent};
 ghost use Rattle.read_call.specs.read_items.Verdict.{start, ReadAll};
 
-use read_item::{Item, Reader};
+use read_item::{Item, ReadError, Reader};
 
-// What reading gives.
-#[derive(Clone, Copy)]
-pub enum Verdict {
-    Accepted(Reader),
-    Refused(u32),
-}
-
-// All items.
+// All items: where the reader stands after them.
 pub fn read_all(
     input: &[u8],
     work: &mut [u32],
     pairs: &mut [u32],
     atoms: &mut [u32],
     bytes: &mut [u8],
-) -> Verdict
+) -> Result<Reader, ReadError>
     requires { Lent input.now work.old pairs.old atoms.old bytes.old start }
     ensures { ReadAll input.now work.new pairs.new atoms.new bytes.new
         (read_stored input.now) result }
@@ -35,20 +28,11 @@ pub fn read_all(
         ghosts: 0,
     };
     // As many turns as there are bytes are enough: each item takes one at least. Where they do not end the reading, the input ends too early.
-    let mut left = input.len();
-    while 0 < left {
-        match read_item::next_item(input, work, pairs, atoms, bytes, r) {
-            Item::Go(next) => {
-                r = next;
-            }
-            Item::Whole(last) => {
-                return Verdict::Accepted(last);
-            }
-            Item::Refused(n) => {
-                return Verdict::Refused(n);
-            }
+    for _ in 0..input.len() {
+        match read_item::next_item(input, work, pairs, atoms, bytes, r)? {
+            Item::Go(next) => r = next,
+            Item::Whole(last) => return Ok(last),
         }
-        left -= 1;
     }
-    Verdict::Refused(14)
+    Err(ReadError::SerializationError)
 }

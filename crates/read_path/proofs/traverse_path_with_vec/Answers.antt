@@ -60,7 +60,7 @@ overflow_sub-values c =
     let lists : HaveLists c.args.work.now c.args.counts.listed c.args.values = lists_of c.requires.1 in
     let within : (c.stack_steps-steps.result ≤ c.in-Bits.count) × (c.stack_steps-steps.result ≤ c.args.values) =
     steps_within _ _ c.args.pairs.now _ _ c.args.counts.pairs c.args.counts.ghosts lists _ bits _ steps_are in
-    within.1
+    omega (arith, within.1)
 
 pub build_list-requires : goal.build_list-requires
 build_list-requires c =

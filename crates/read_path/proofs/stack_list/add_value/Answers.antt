@@ -24,7 +24,8 @@ overflow_add-work c =
 pub overflow_sub-counts : goal.overflow_sub-counts
 overflow_sub-counts c =
     let a = c.args in
-    bare_ghost a.work.now a.i a.below.counts.ghosts c.if-list-ne0.false c.requires.ghost
+    let ghost : 1 ≤ a.below.counts.ghosts = bare_ghost a.work.now a.i a.below.counts.ghosts c.if-list-ne0.false c.requires.ghost in
+    omega (arith, ghost)
 
 pub returns : goal.returns
 returns c =
