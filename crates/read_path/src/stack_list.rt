@@ -9,7 +9,7 @@ use allocator::NodePtr;
 use read_store::reader_stacks::VALUES;
 
 // How many of the lowest values are known to have a list, and how many pairs and ghost pairs there are.
-#[derive(Clone, Copy)]
+#[derive(Clone, Copy, Debug, PartialEq, Eq)]
 pub struct Counts {
     pub listed: usize,
     pub pairs: usize,
@@ -17,7 +17,7 @@ pub struct Counts {
 }
 
 // A list of the stack, or a node of the store, and the counts then.
-#[derive(Clone, Copy)]
+#[derive(Clone, Copy, Debug, PartialEq, Eq)]
 pub struct Built {
     pub node: NodePtr,
     pub counts: Counts,

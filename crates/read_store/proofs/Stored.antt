@@ -8,10 +8,8 @@ use native.Mathlib.Omega.{arith}
 use native.Mathlib.Numerals.{add-one}
 use lib.ListN.{length, take, drop, set}
 use lib.Seq.{paste, take-paste, drop-paste, sets-eq, length-take-le, take-length}
-use Rattle.words.specs.Choice.{clash}
 use Rattle.allocator.specs.Handle.{handle_of, listed_atom, small_atom}
-use Rattle.allocator.specs.SmallAtom.{fits_in_small_atom, fits_answer}
-use Rattle.allocator.specs.declared.FitsInSmallAtom.TheVariants.{Small, Listed}
+use Rattle.allocator.specs.SmallAtom.{fits_in_small_atom}
 use Rattle.spec_reading.specs.Store.{Store, Made, new_listed, new_atom, small_or_listed}
 use Rattle.read_store.specs.Atoms.{ListedAppended, AtomStored}
 
@@ -38,15 +36,6 @@ half d l n h e =
     omega arith
 
 -- ---- atoms
-
--- the option that an answer stands for
-pub answered_small : (o : Option ℕ) (v : ℕ) → fits_answer o ≡ Small v → o ≡ some v
-answered_small (some u) v e = let f : u ≡ v = cc in ap some f
-answered_small none v e = clash cc
-
-pub answered_listed : (o : Option ℕ) → fits_answer o ≡ Listed → o ≡ none
-answered_listed (some u) e = clash cc
-answered_listed none e = refl
 
 pub small_stored : (a b : List ℕ) (n m : ℕ) (blob : List ℕ) (v node : ℕ) → fits_in_small_atom blob ≡ some v → node ≡ handle_of (small_atom v)
     → AtomStored a b n m blob a b node n m

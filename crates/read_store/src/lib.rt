@@ -9,7 +9,7 @@ ghost use Rattle.std.proofs.Math.Seq.{paste};
 ghost use Rattle.allocator.specs.Handle.{handle_of, pair};
 ghost use Rattle.read_store.specs.Atoms.{ListedAppended, AtomStored};
 
-use allocator::{FitsInSmallAtom, NodePtr, fits_in_small_atom};
+use allocator::{NodePtr, fits_in_small_atom};
 use words::slices;
 
 // A pair is appended after the `used` ones that are there.
@@ -23,7 +23,7 @@ pub fn new_pair(pairs: &mut [u32], used: usize, left: NodePtr, right: NodePtr) -
 }
 
 // An atom's node, and how many listed atoms and atom bytes there are then.
-#[derive(Clone, Copy)]
+#[derive(Clone, Copy, Debug, PartialEq, Eq)]
 pub struct NewAtom {
     pub node: NodePtr,
     pub atoms: usize,
@@ -66,11 +66,11 @@ pub fn new_atom(
         bytes.new result.node.0 result.atoms result.bytes }
 {
     match fits_in_small_atom::fits_in_small_atom(blob) {
-        FitsInSmallAtom::Small(value) => NewAtom {
+        Some(value) => NewAtom {
             node: NodePtr::small_atom(value),
             atoms: used,
             bytes: size,
         },
-        FitsInSmallAtom::Listed => new_listed(atoms, bytes, used, size, blob),
+        None => new_listed(atoms, bytes, used, size, blob),
     }
 }
