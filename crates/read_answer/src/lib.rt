@@ -45,7 +45,10 @@ pub const BYTES: usize = 65536;
 pub fn long_enough(work: &[u32], pairs: &[u32], atoms: &[u32], bytes: &[u8]) -> bool
     ensures { result ≡ long_enough (slices work.now pairs.now atoms.now bytes.now) }
 {
-    words::WORK <= work.len() && PAIRS <= pairs.len() && ATOMS <= atoms.len() && BYTES <= bytes.len()
+    words::WORK <= work.len()
+        && PAIRS <= pairs.len()
+        && ATOMS <= atoms.len()
+        && BYTES <= bytes.len()
 }
 
 // What was read: the one value's node, and the counts.

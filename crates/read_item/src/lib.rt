@@ -12,8 +12,8 @@ ghost use Rattle.read_item.specs.Whole.{Stands};
 ghost use Rattle.read_item.specs.Step.{Stepped, pair_begun};
 
 use read_cursor::Head;
-use read_store::reader_stacks;
 pub use read_error::ReadError;
+use read_store::reader_stacks;
 pub use settle::{Item, Reader};
 
 fn pair_item(work: &mut [u32], r: Reader) -> Reader

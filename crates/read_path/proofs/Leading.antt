@@ -18,7 +18,6 @@ use Rattle.allocator.specs.HandleLaws.{handle_of_node_of, node_of_nil}
 use Rattle.spec_reading.specs.Store.{Store, Value, Listed, Led, walk, node_handle, led_to, list_of, above, lead}
 use Rattle.read_store.specs.Layout.{VALUES, cached_list, value_at, values_of}
 use Rattle.read_store.proofs.reader_stacks.Stacks.{length_values, drop_values}
-use Rattle.path.specs.declared.path_bits.PathBits.TheVariants as path_bits
 use Rattle.path.specs.Answers.{counted}
 use Rattle.path.proofs.path_bits.Bits.{lowest}
 use Rattle.read_path.specs.declared.path_walk.PathIntoAtom.{PathIntoAtom}
@@ -39,14 +38,14 @@ pub record Counted (path : List ℕ) (count : ℕ) : Type 0 where
   pub is : read_path path ≡ some bits
   pub long : count ≡ length bits
 
-pub counted_some : (path : List ℕ) (count : ℕ) → path_bits.Bits count ≡ counted (read_path path) → Counted path count
+pub counted_some : (path : List ℕ) (count : ℕ) → some count ≡ counted (read_path path) → Counted path count
 counted_some path count e = go (read_path path) refl e
   where
-    go : (o : Option (List Bool)) → read_path path ≡ o → path_bits.Bits count ≡ counted o → Counted path count
+    go : (o : Option (List Bool)) → read_path path ≡ o → some count ≡ counted o → Counted path count
     go none q f = clash cc
     go (some bits) q f = let l : count ≡ length bits = cc in record { bits = bits; is = q; long = l }
 
-pub counted_none : (o : Option (List Bool)) → path_bits.Nil ≡ counted o → o ≡ none
+pub counted_none : (o : Option (List Bool)) → none ≡ counted o → o ≡ none
 counted_none none e = refl
 counted_none (some bits) e = clash cc
 

@@ -11,9 +11,9 @@ ghost use Rattle.read_store.specs.Layout.{values_of};
 ghost use Rattle.read_path.specs.Leads.{led, Walkable, LeadsTo, SameTotal};
 
 use allocator::NodePtr;
-use path::{PathBits, path_bits};
-use read_store::reader_stacks::VALUES;
+use path::path_bits;
 pub use path_walk::PathIntoAtom;
+use read_store::reader_stacks::VALUES;
 pub use stack_list::{Built, Counts};
 
 // What a path leads to from the stack of `values` values, through the pairs: a node, with the counts then.
@@ -32,8 +32,11 @@ pub fn traverse_path_with_vec(
         pairs.new result }
     ensures same_total { SameTotal counts.pairs counts.ghosts result }
 {
-    let PathBits::Bits(count) = path_bits::path_bits(path) else {
-        return Ok(Built { node: NodePtr::NIL, counts });
+    let Some(count) = path_bits::path_bits(path) else {
+        return Ok(Built {
+            node: NodePtr::NIL,
+            counts,
+        });
     };
     let steps = path_walk::stack_steps(path, count, values);
     if steps == values {

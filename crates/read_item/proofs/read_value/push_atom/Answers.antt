@@ -1,6 +1,6 @@
 -- `read_item::read_value::push_atom` meets its contract.
 -- Assumes nothing.
-use mathlib.Core.Path.{refl, ap}
+use mathlib.Core.Path.{ap}
 use native.Mathlib.Omega.{arith}
 use lib.ListN.{length}
 use Rattle.read_item.specs.declared.settle.Reader.{Reader}
