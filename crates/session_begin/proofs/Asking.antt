@@ -16,7 +16,10 @@ use Rattle.spec_session.specs.Places.{StepsAt}
 use Rattle.file_parts.specs.Loaded.{forgets}
 use Rattle.file_parts.specs.Checked.{Passed, Checks}
 use Rattle.file_parts.specs.CheckedLaws.{Accepted, accepted, rejected}
+use Rattle.std.specs.Prelude.{Ok, Err}
+use Rattle.file_parts.specs.Answers.{number_of}
 use Rattle.file_parts.specs.declared.session_file.Checked.{Checked}
+use Rattle.file_parts.specs.declared.session_file.FileError.{FileError}
 use Rattle.session_state.specs.State.{contents_of, the_file}
 use Rattle.session_begin.specs.Lengths.{are_long}
 use Rattle.session_begin.specs.declared.Begun.{Begun}
@@ -61,15 +64,15 @@ module _ (measure : Measure) (input w : List ℕ) (ws cs : ℕ) where
       → Begins measure input w ws cs w b (asked input n ws cs)
   begin_short z q = refuses 1 (asked_short z) q
 
-  module _ (is-long : are_long n ws cs ≡ true) (c : Checked) (checks : Checks input c (file version_1 input)) where
+  module _ (is-long : are_long n ws cs ≡ true) where
     -- The file is turned down.
-    pub begin_refused : (c.number ≡ 0 → ⊥) → {b : Begun} → b ≡ record { start = refused_with measure c.number; records = 0 }
+    pub begin_refused : (e : FileError) → Checks input (Err e) (file version_1 input) → {b : Begun} → b ≡ record { start = refused_with measure (number_of e); records = 0 }
         → Begins measure input w ws cs w b (asked input n ws cs)
-    begin_refused z q = refuses c.number (asked_file is-long ∙ rejected input c (file version_1 input) checks z) q
+    begin_refused e checks q = refuses (number_of e) (asked_file is-long ∙ rejected input e (file version_1 input) checks) q
 
-    module _ (z : c.number ≡ 0) where
+    module _ (c : Checked) (checks : Checks input (Ok c) (file version_1 input)) where
       accepted_file : Accepted input c (file version_1 input)
-      accepted_file = accepted input c (file version_1 input) checks z
+      accepted_file = accepted input c (file version_1 input) checks
 
       is_file : the_file input ≡ accepted_file.file
       unfolding the_file

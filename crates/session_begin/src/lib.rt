@@ -14,10 +14,10 @@ ghost use Rattle.session_begin.specs.Begins.{asked, refused_with, Begins};
 use file_parts::Checked;
 use path::Measure;
 use session_state::progress::Progress;
-use words::slices;
+use write_counts::Counts;
 
 // Where the run starts, and how many checkpoint records are to be cleared after it. With 1 to 8 the run is over before it starts, and no record is cleared.
-#[derive(Clone, Copy)]
+#[derive(Clone, Copy, Debug, PartialEq, Eq)]
 pub struct Begun {
     pub start: Progress,
     pub records: usize,
@@ -28,7 +28,7 @@ fn clear_part(work: &mut [u32], from: usize, to: usize)
     requires { (from ≤ to) × (to ≤ length work.old) }
     ensures { PartClear work.old work.new from to }
 {
-    slices::clear(&mut work[from..to]);
+    work[from..to].fill(0);
 }
 
 // What is read before it is written becomes zero.
@@ -75,14 +75,13 @@ fn open(file: &[u8], work: &mut [u32], checked: Checked)
 fn start_at(measure: Measure, at: usize, forgets: bool) -> Progress
     ensures { result ≡ start_at measure at forgets }
 {
-    let counts = write_counts::none();
     Progress {
         at,
         steps: 0,
         adds: 0,
         opens: 0,
         depth: 0,
-        counts,
+        counts: Counts::default(),
         finished: false,
         number: 0,
         done: false,
@@ -96,9 +95,11 @@ fn start_at(measure: Measure, at: usize, forgets: bool) -> Progress
 fn refused(measure: Measure, number: u32) -> Begun
     ensures { result ≡ record { start = refused_with measure number; records = 0 } }
 {
-    let mut start = start_at(measure, 0, false);
-    start.number = number;
-    start.done = true;
+    let start = Progress {
+        number,
+        done: true,
+        ..start_at(measure, 0, false)
+    };
     Begun { start, records: 0 }
 }
 
@@ -106,8 +107,10 @@ fn refused(measure: Measure, number: u32) -> Begun
 fn started(measure: Measure, at: usize, forgets: bool, records: usize) -> Begun
     ensures { result ≡ record { start = start_at measure at forgets; records = records } }
 {
-    let start = start_at(measure, at, forgets);
-    Begun { start, records }
+    Begun {
+        start: start_at(measure, at, forgets),
+        records,
+    }
 }
 
 // Questions 1 to 8, of so many words and checkpoint records. Where all get yes, the tables of the file are loaded.
@@ -119,10 +122,10 @@ pub fn begin(file: &[u8], work: &mut [u32], words: usize, records: usize, measur
     if !session_lengths::long_enough(work.len(), words, records) {
         return refused(measure, 1);
     }
-    let checked = file_check::check(file);
-    if checked.number != 0 {
-        return refused(measure, checked.number);
-    }
+    let checked = match file_check::check(file) {
+        Ok(checked) => checked,
+        Err(error) => return refused(measure, u32::from(error)),
+    };
     open(file, work, checked);
     let forgets = file_parts::has_forget(file, checked.steps_at);
     started(measure, checked.steps_at, forgets, records)

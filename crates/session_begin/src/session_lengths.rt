@@ -6,11 +6,5 @@ ghost use Rattle.session_begin.specs.Lengths.{are_long};
 pub fn long_enough(work: usize, words: usize, records: usize) -> bool
     ensures { result ≡ are_long work words records }
 {
-    if work < words::WORK {
-        return false;
-    }
-    if words < 3072 {
-        return false;
-    }
-    16 <= records
+    words::WORK <= work && 3072 <= words && 16 <= records
 }

@@ -4,7 +4,6 @@ use Prim.Native.Nat.{◌-◌}
 use mathlib.Core.Path.{◌≡◌, ◌∙◌}
 use native.Mathlib.Omega.{arith}
 use lib.ListN.{length}
-use borrow.Author.Rules.{rules}
 use Rattle.words.specs.Words.{part}
 use Rattle.words.proofs.Words.{part_length}
 use Rattle.session_begin.proofs.Opening.{part_clear}
@@ -14,9 +13,9 @@ pub returns : goal.returns
 unfolding part
 returns c =
     let s = c in
-    let r = c.clear in
+    let r = c.fill in
     let w = s.args.work.now in
     let a = s.args.from in
     let b = s.args.to in
     let len : length (part w a (b - a)) ≡ b - a = part_length w a (b - a) (omega (arith, s.requires)) in
-    part_clear w r.new.words a b s.requires.0 s.requires.1 (r.auto.words ∙ len) (r.ensures ∙ rw len)
+    part_clear w r.new.self a b s.requires.0 s.requires.1 (r.ensures.len ∙ len) (r.ensures.after (λ y e. e) ∙ rw len)

@@ -2,7 +2,6 @@
 -- Assumes nothing.
 use mathlib.Core.Path.{sym}
 use native.Mathlib.Omega.{arith}
-use borrow.Author.Rules.{rules}
 use Rattle.words.proofs.Words.{part_length}
 use Rattle.words.specs.Words.{part}
 use Rattle.file_parts.specs.CheckedLaws.{atoms_to_load, pairs_to_load}
