@@ -11,7 +11,7 @@ use Rattle.words.specs.Words.{at, WORK}
 use Rattle.words.proofs.Words.{Store, stores, miss, hits}
 use Rattle.work_layout.specs.Layout.{STACK, BELOW, TOPS, WRITTEN, ENTRIES, DEPTH}
 use Rattle.work_layout.specs.Rows.{prev, stack_of, Tops}
-use Rattle.cache_stack.specs.Effects.{Stacked, StackOnly, Pushed}
+use Rattle.cache_stack.specs.Effects.{Stacked, Pushed}
 use Rattle.work_layout.specs.Prev.{prev_le, prev_same, prev_here, prev_past, prev_holds, prev_above}
 
 -- What the search asks of TOPS.
@@ -120,11 +120,3 @@ module _ (w : List ℕ) (d e : ℕ) (long : WORK ≤ length w) (s : Stacked w d)
           high = λ k l. push_other k (omega arith) (omega arith) (omega arith);
         };
       }
-
--- ---- several
-
-pub only_same : (w : List ℕ) → StackOnly w w
-only_same w = record { low = λ k l. refl; high = λ k l. refl }
-
-pub only_both : (u v w : List ℕ) → StackOnly u v → StackOnly v w → StackOnly u w
-only_both u v w a b = record { low = λ k l. b.low k l ∙ a.low k l; high = λ k l. b.high k l ∙ a.high k l }
