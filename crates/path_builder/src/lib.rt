@@ -32,6 +32,7 @@ impl From<ChildPos> for u8 {
     }
 }
 
+// No heap: the bytes stand in a lent store, which is passed beside the builder, and `Sound` says of the two what no field of the builder alone can.
 #[derive(Clone, Copy, Debug, PartialEq, Eq)]
 pub struct PathBuilder {
     pub in_use: u32,

@@ -6,7 +6,7 @@ ghost use Rattle.path_builder.specs.Measured.{documented_bytes, measured_bytes};
 use path::Measure;
 
 // The number of bytes that the atom of a path of so many bytes is counted at; `full` says that the bits fill a single byte, which is not small.
-// The ranges are the Rust's.
+// The ranges are the Rust's. `full` is a fact of the path, as its length is, and chooses no step: an enum of two would be no plainer.
 pub fn counted_bytes(bytes: u32, full: bool) -> u32
     requires { bytes + 5 < 2 ^ 32 }
     ensures { result ≡ counted_bytes full bytes }
