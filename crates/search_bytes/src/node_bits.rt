@@ -8,13 +8,12 @@ ghost use Rattle.search_bytes.specs.Built.{Taken, Holds, Fits};
 
 use crate::push_number::push_number;
 use path_builder::PathBuilder;
-use words::wide;
 
 // The latest bits of a node as a number, the first of them lowest, and the node that has those before them.
 #[derive(Clone, Copy)]
-pub struct TakenBits {
-    pub number: u64,
-    pub before: usize,
+struct TakenBits {
+    number: u64,
+    before: usize,
 }
 
 // The latest `count` bits of node a.
@@ -24,14 +23,12 @@ fn take_bits(work: &[u32], a: usize, count: usize) -> TakenBits
 {
     let mut number = 0;
     let mut node = a;
-    let mut taken = 0;
-    while taken < count {
-        number = number * 2 + (work[work_layout::NODES + node] % 2) as u64;
-        node = wide(work[work_layout::PREVS + node]);
-        taken += 1;
+    for _ in 0..count {
+        number = number * 2 + u64::from(work[work_layout::NODES + node] % 2);
+        node = work[work_layout::PREVS + node] as usize;
     }
     TakenBits {
-        number: number,
+        number,
         before: node,
     }
 }

@@ -28,11 +28,9 @@ pub fn push_number(store: &mut [u8], builder: PathBuilder, number: u64, count: u
         bit_pos: builder.bit_pos,
     };
     let mut rest = number;
-    let mut left = count;
-    while 0 < left {
+    for _ in 0..count {
         longer = longer.push(store, lowest_step(rest));
-        rest = rest / 2;
-        left -= 1;
+        rest /= 2;
     }
     longer
 }

@@ -15,10 +15,9 @@ fn push_eight(store: &mut [u8], builder: PathBuilder) -> PathBuilder
     requires { (Sound store.old builder) × (Fits store.old (8 + length (built store.old builder))) }
     ensures { Holds store.new result (trues 8 (built store.old builder)) }
 {
-    let in_use = builder.in_use;
     if builder.bit_pos == 7 {
         let begun = PathBuilder {
-            in_use: in_use,
+            in_use: builder.in_use,
             bit_pos: 7,
         };
         return push_number(store, begun, ONES, 8);
@@ -32,10 +31,8 @@ fn push_bytes(store: &mut [u8], builder: PathBuilder, bytes: usize) -> PathBuild
     ensures { Holds store.new result (trues (8 * bytes) (built store.old builder)) }
 {
     let mut longer = builder;
-    let mut left = bytes;
-    while 0 < left {
+    for _ in 0..bytes {
         longer = push_eight(store, longer);
-        left -= 1;
     }
     longer
 }
@@ -48,7 +45,7 @@ fn push_ones(store: &mut [u8], builder: PathBuilder, ones: usize) -> PathBuilder
     if ones < 8 {
         return push_number(store, builder, ONES, ones);
     }
-    let first = ((builder.bit_pos + 1) % 8) as usize;
+    let first = usize::from((builder.bit_pos + 1) % 8);
     let filled = push_number(store, builder, ONES, first);
     let rest = ones - first;
     let whole = push_bytes(store, filled, rest / 8);

@@ -15,7 +15,6 @@ ghost use Rattle.search_find.specs.Effects.{LengthOf, FindsIn};
 use allocator::NodePtr;
 use cache_entries::table;
 use cache_stack::marks;
-pub use find_path::Path;
 use path::Measure;
 use work_layout::EntryIndex;
 
@@ -38,33 +37,40 @@ pub fn length_at(work: &[u32], e: EntryIndex) -> u64
     table::length_of(work, e)
 }
 
-// The path that is written for a node of entry e that is not nil, over a stack of `depth` entries: none for an entry that is not marked written, and for a
-// short one.
-fn find_marked(work: &mut [u32], e: EntryIndex, depth: usize, measure: Measure) -> Path
+// The slot of the path that is written for a node of entry e that is not nil, over a stack of `depth` entries: none for an entry that is not marked
+// written, and for a short one.
+fn find_marked(work: &mut [u32], e: EntryIndex, depth: usize, measure: Measure) -> Option<usize>
     requires { (Whole work.old) × (Stacked work.old depth) × (all_counts work.old ENTRIES ≤ 2048) × (e.0 < ENTRIES) }
     ensures { (h : ℕ) → eqb h (handle_of nil) ≡ false → FindsIn measure work.old work.new depth h e.0 result }
 {
     if !marks::is_marked(work, e) {
-        return Path::NoPath;
+        return None;
     }
     let len = length_at(work, e);
     if len < cache_stack::MIN_SERIALIZED_LENGTH {
-        return Path::NoPath;
+        return None;
     }
     find_path::find_path(work, e, len, depth, measure)
 }
 
-// The path that is written for a node of entry e, over a stack of `depth` entries: none for nil, for an entry that is not marked written, and for a short one.
+// The slot of the path that is written for a node of entry e, over a stack of `depth` entries: none for nil, for an entry that is not marked written,
+// and for a short one.
 // The search has two callers here, so that it stays a function of its own: its loop needs the registers.
-pub fn find(work: &mut [u32], node: NodePtr, e: EntryIndex, depth: usize, measure: Measure) -> Path
+pub fn find(
+    work: &mut [u32],
+    node: NodePtr,
+    e: EntryIndex,
+    depth: usize,
+    measure: Measure,
+) -> Option<usize>
     requires { (Whole work.old) × (Stacked work.old depth) × (all_counts work.old ENTRIES ≤ 2048) × (e.0 < ENTRIES) }
     ensures { FindsIn measure work.old work.new depth node.0 e.0 result }
 {
     if node.is_pair() {
         return find_marked(work, e, depth, measure);
     }
-    if node.same(NodePtr::NIL) {
-        return Path::NoPath;
+    if node == NodePtr::NIL {
+        return None;
     }
     find_marked(work, e, depth, measure)
 }

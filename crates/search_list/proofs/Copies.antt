@@ -12,7 +12,9 @@ use Rattle.spec_search.specs.Search.{Trail, member, upward, sideward, distance, 
 use Rattle.words.specs.Choice.{cond_true, cond_false}
 use Rattle.words.specs.Words.{at, WORK}
 use Rattle.work_layout.specs.Layout.{USED, COUNTS, PREVS, NODES, LENS, PATHS, COPIES, DEPTH, ENTRIES, TOPS}
-use Rattle.search_list.specs.Steps.{copies, stacked, from_top, Links, Nodes, PathsOK, Stored, Relisted, Marked, Visited, FirstUnseen}
+use Rattle.search_list.specs.Steps.{copies, stacked, from_top, Links, Nodes, PathsOK, Stored, Relisted, Marked, Visited, UnseenOf}
+use Rattle.search_list.specs.declared.search_moves.Unseen.{Unseen}
+use Rattle.std.specs.Prelude.{Some, None}
 use Rattle.search_list.specs.State.{seen_of, node_bits, trail, trails_of, node_at, place_at, seen_at, count_at, MOST_PATHS}
 use Rattle.work_layout.specs.Rows.{link_at, parent_of, parents_of, stack_of, Tops}
 use Rattle.words.proofs.Words.{Store, stores, miss, hits}
@@ -166,15 +168,16 @@ seeking_more w e i k l t = record { within = omega arith; passed = λ j q. go j 
     go j q (yes p) = subst (λ (z : ℕ). seen_at w (link_at w e z / 2) ≡ true) (sym p) t
     go j q (no p) = k.passed j (omega arith)
 
-module _ (w : List ℕ) (e i v n : ℕ) (all : n ≡ count_at w e) (k : Seeking w e i) where
-  pub seeking_found : seen_at w (link_at w e i / 2) ≡ false → v ≡ link_at w e i → FirstUnseen w e i v n
-  seeking_found t p = record { all = all; within = omega (arith, k.within); passed = k.passed; stands = λ l. t; parent = λ l. p }
+pub seeking_found : (w : List ℕ) (e : ℕ) (k : Unseen) → k.all ≡ count_at w e → Seeking w e k.place → k.place < k.all
+    → seen_at w (link_at w e k.place / 2) ≡ false → k.parent.0 ≡ link_at w e k.place → UnseenOf w e (Some k)
+seeking_found w e k all s l t p =
+    (record { all = all; within = omega (arith, s.within); passed = s.passed; stands = λ q. t; parent = λ q. p }, l)
 
-  pub seeking_none : n ≤ i → FirstUnseen w e i v n
-  seeking_none t = record {
-    all = all;
-    within = omega (arith, k.within);
-    passed = k.passed;
-    stands = λ l. absurd (omega arith);
-    parent = λ l. absurd (omega arith);
-  }
+pub seeking_none : (w : List ℕ) (e i : ℕ) → Seeking w e i → count_at w e ≤ i → UnseenOf w e None
+seeking_none w e i s l = record {
+  all = refl;
+  within = omega arith;
+  passed = λ j q. s.passed j (omega arith);
+  stands = λ q. absurd (omega arith);
+  parent = λ q. absurd (omega arith);
+}

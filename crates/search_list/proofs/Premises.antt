@@ -3,7 +3,6 @@
 use mathlib.Core.Path.{◌≡◌, refl, ap}
 use mathlib.Core.List.{List, []}
 use Prim.Native.Nat.{ℕ, zero, suc, ◌+◌}
-use native.Mathlib.Omega.{arith}
 use Rattle.words.specs.Words.{at}
 use Rattle.work_layout.specs.Layout.{COUNTS}
 use Rattle.work_layout.specs.Rows.{Sound, all_counts}

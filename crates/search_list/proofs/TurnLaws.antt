@@ -14,11 +14,11 @@ use Rattle.spec_search.specs.Lists.{size}
 use Rattle.spec_search.specs.Flat.{swap_remove, init, last}
 use Rattle.search_list.specs.Cursor.{goes, Mid, ahead}
 use Rattle.search_list.proofs.CursorLaws.{Facing, over, over_mid, over_less, is_result, is_capped, stays_goes, stays_mid, stays_less, dropped_goes, dropped_mid, dropped_less}
-use Rattle.search_list.specs.declared.Turned.TheVariants.{On, Result, Capped}
+use Rattle.std.proofs.Common.{Some, None, Break}
 use Rattle.work_layout.specs.Layout.{USED, COUNTS, PATHS, DEPTH, ENTRIES}
 use Rattle.work_layout.specs.Rows.{link_at, parents_of, stack_of, Tops}
 use Rattle.search_list.specs.State.{parents_of_all, seen_of, node_bits, trail, trail_of, trails_of, node_at, place_at, extra_at, seen_at, count_at, Readable, MOST_PATHS}
-use Rattle.search_list.specs.Steps.{copies, stacked, search_of, unseen, Links, Nodes, PathOK, PathsOK, Working, Kept, Stored, Relisted, Visited, FirstUnseen, Turns, Steps}
+use Rattle.search_list.specs.Steps.{copies, stacked, search_of, on, unseen, Links, Nodes, PathOK, PathsOK, Working, Kept, Stored, Relisted, Visited, FirstUnseen, Turns, Steps}
 use Rattle.path.specs.Bytes.{odd}
 use Rattle.words.specs.Words.{at}
 use Rattle.words.proofs.Words.{tabulate_same}
@@ -49,7 +49,7 @@ module _ {w : List ℕ} {d c n m : ℕ} (here : Here w d c n m) where
   facing : {L : ℕ} → Mid L (trails_of w n) c → Facing L (trails_of w n) c (trail_of w c)
   facing mid = record { inside = rw length_trails here.slot; is = at_trails w n c (trail_of w c) here.slot; mid = mid }
 
-  pub turned_over : (L : ℕ) → Mid L (trails_of w n) c → L < size (trail_of w c) → Turns w w d L c n m (On (c + 1) (search_of n m d))
+  pub turned_over : (L : ℕ) → Mid L (trails_of w n) c → L < size (trail_of w c) → Turns w w d L c n m (on (c + 1) (search_of n m d))
   turned_over L mid l = record {
     same = over (facing mid) (parents_of_all w) (stack_of w d) (seen_of w m) l;
     fine = (here.ok, over_mid (facing mid) l, over_less (facing mid) l, refl);
@@ -73,14 +73,14 @@ module _ {w : List ℕ} {d c n m : ℕ} (here : Here w d c n m) where
       go zero h = omega arith
       go (suc x) h = omega (arith, h (omega arith))
 
-  pub turned_result : step (parents_of_all w) (stack_of w d) (seen_of w m) (trail_of w c) ≡ result (trail_bits (trail_of w c)) → Steps w w d c n m (Result c)
+  pub turned_result : step (parents_of_all w) (stack_of w d) (seen_of w m) (trail_of w c) ≡ result (trail_bits (trail_of w c)) → Steps w w d c n m (Break (Some c))
   turned_result s L mid l = record {
     same = is_result (facing mid) (parents_of_all w) (stack_of w d) (seen_of w m) l s;
     fine = readable;
     kept = kept_none w;
   }
 
-  pub turned_capped : step (parents_of_all w) (stack_of w d) (seen_of w m) (trail_of w c) ≡ capped → Steps w w d c n m Capped
+  pub turned_capped : step (parents_of_all w) (stack_of w d) (seen_of w m) (trail_of w c) ≡ capped → Steps w w d c n m (Break None)
   turned_capped s L mid l = record {
     same = is_capped (facing mid) (parents_of_all w) (stack_of w d) (seen_of w m) l s;
     fine = tt;
@@ -96,7 +96,7 @@ module _ {w : List ℕ} {d c n m : ℕ} (here : Here w d c n m) where
 
     pub turned_stays : {q : Trail} {added : List Trail} {seen' : List ℕ}
         → step (parents_of_all w) (stack_of w d) (seen_of w m) (trail_of w c) ≡ stays q added seen'
-        → trails_of y n' ≡ set (trails_of w n) c q ++ added → seen_of y m' ≡ seen' → Steps w y d c n m (On (c + 1) (search_of n' m' d))
+        → trails_of y n' ≡ set (trails_of w n) c q ++ added → seen_of y m' ≡ seen' → Steps w y d c n m (on (c + 1) (search_of n' m' d))
     turned_stays {q} {added} s t e L mid l =
         let b : length (set (trails_of w n) c q ++ added) < 4096 = omega (arith, few ok', length_trails y n', ap length t) in
         record {
@@ -112,7 +112,7 @@ module _ {w : List ℕ} {d c n m : ℕ} (here : Here w d c n m) where
         }
 
     pub turned_dropped : {added : List Trail} {seen' : List ℕ} → step (parents_of_all w) (stack_of w d) (seen_of w m) (trail_of w c) ≡ dropped added seen'
-        → trails_of y n' ≡ swap_remove (trails_of w n ++ added) c (trail_of w c) → seen_of y m' ≡ seen' → Steps w y d c n m (On c (search_of n' m' d))
+        → trails_of y n' ≡ swap_remove (trails_of w n ++ added) c (trail_of w c) → seen_of y m' ≡ seen' → Steps w y d c n m (on c (search_of n' m' d))
     turned_dropped {added} s t e L mid l =
         let b : length (swap_remove (trails_of w n ++ added) c (trail_of w c)) < 4096 = omega (arith, few ok', length_trails y n', ap length t) in
         record {
@@ -162,13 +162,13 @@ module _ (P : Parents) (S seen : List ℕ) (B : List Bool) where
       rw (e, f)
 
 module _ {w : List ℕ} {d c n m : ℕ} (here : Here w d c n m) (hx : 0 < extra_at w c) where
-  pub stack_result : place_at w c ≡ 0 → Steps w w d c n m (Result c)
+  pub stack_result : place_at w c ≡ 0 → Steps w w d c n m (Break (Some c))
   unfolding trail_of
   stack_result z =
       turned_result here (at_top (parents_of_all w) (stack_of w d) (seen_of w m) (node_bits w (node_at w c)) (extra_at w c) (place_at w c) hx z)
 
   pub stack_nearer : {y : List ℕ} → (place_at w c ≡ 0 → ⊥) → length y ≡ length w → Stored w y c (node_at w c) (place_at w c - 1) (extra_at w c + 1)
-      → Steps w y d c n m (On (c + 1) (search_of n m d))
+      → Steps w y d c n m (on (c + 1) (search_of n m d))
   unfolding trail_of
   stack_nearer {y} z len s =
       let q : PathOK w m c = here.ok.paths c here.slot in
@@ -195,6 +195,9 @@ pub record At_entry (w : List ℕ) (d c n m e : ℕ) : Type 0 where
   pub here : Here w d c n m
   pub none : extra_at w c ≡ 0
   pub is : e ≡ place_at w c / 2
+
+pub at_entry_of : {w : List ℕ} {d c n m e : ℕ} → Working w d n m × (c < n) × (extra_at w c ≡ 0) → e ≡ place_at w c / 2 → At_entry w d c n m e
+at_entry_of p is = record { here = record { ok = p.0; slot = p.1 }; none = p.2; is = is }
 
 module _ {w : List ℕ} {d c n m e : ℕ} (a : At_entry w d c n m e) where
   P : Parents
@@ -232,7 +235,7 @@ module _ {w : List ℕ} {d c n m e : ℕ} (a : At_entry w d c n m e) where
   step_at = ap (step P S seen) is_trail ∙ ap stepped (sym a.is)
 
   pub entry_seen : {y : List ℕ} → true ≡ seen_at w e → length y ≡ length w
-      → Relisted w y m (n - 1) (swap_remove (trails_of w (n - 1 + 1)) c (trail_of w c)) → Steps w y d c n m (On c (search_of (n - 1) m d))
+      → Relisted w y m (n - 1) (swap_remove (trails_of w (n - 1 + 1)) c (trail_of w c)) → Steps w y d c n m (on c (search_of (n - 1) m d))
   unfolding P S seen stepped
   entry_seen t len r =
       let ok = a.here.ok in
@@ -248,7 +251,7 @@ module _ {w : List ℕ} {d c n m e : ℕ} (a : At_entry w d c n m e) where
     not_member : member e seen ≡ false
     not_member = sym is_member ∙ sym un
 
-    pub entry_capped : m ≡ most_visits → Steps w w d c n m Capped
+    pub entry_capped : m ≡ most_visits → Steps w w d c n m (Break None)
     unfolding P S seen stepped
     entry_capped h =
         turned_capped a.here
@@ -261,6 +264,17 @@ pub record Visiting (w x : List ℕ) (d c n m e : ℕ) : Type 0 where
   pub more : m < most_visits
   pub made : Visited w x c m
   pub len : length x ≡ length w
+
+pub visiting_of : {w x : List ℕ} {d c n m e : ℕ}
+    → Working w d n m × (c < n) × (extra_at w c ≡ 0) × (false ≡ seen_at w (place_at w c / 2)) × (m < most_visits)
+    → e ≡ place_at w c / 2 → Visited w x c m → length x ≡ length w → Visiting w x d c n m e
+visiting_of {w} p is made len = record {
+  from = at_entry_of (p.0, p.1, p.2) is;
+  new = p.3 ∙ ap (seen_at w) (sym is);
+  more = p.4;
+  made = made;
+  len = len;
+}
 
 module _ {w x : List ℕ} {d c n m e : ℕ} (u : Visiting w x d c n m e) where
   here : Here w d c n m
@@ -362,7 +376,7 @@ module _ {w x : List ℕ} {d c n m e : ℕ} (u : Visiting w x d c n m e) where
       pub visit_up : k < a
           → Relisted x y (m + 1) n'
           (set (trails_of x n) c (trail 0 (node_bits x (m + 1)) (link_at x e k)) ++ (copies x (m + 1) e (k + 1) ++ stacked x (m + 1) e d))
-          → Steps w y d c n m (On (c + 1) (search_of n' (m + 1) d))
+          → Steps w y d c n m (on (c + 1) (search_of n' (m + 1) d))
       unfolding S' B'
       visit_up h r =
           let l : k < count_at x e = omega (arith, f.all) in
@@ -390,7 +404,7 @@ module _ {w x : List ℕ} {d c n m e : ℕ} (u : Visiting w x d c n m e) where
           (low_seen x y (m + 1) v.nodes r.low)
 
       pub visit_off : a ≤ k → Relisted x y (m + 1) n' (swap_remove (trails_of x n ++ stacked x (m + 1) e d) c (trail_of x c))
-          → Steps w y d c n m (On c (search_of n' (m + 1) d))
+          → Steps w y d c n m (on c (search_of n' (m + 1) d))
       unfolding S' B'
       visit_off h r =
           let side : List Trail = stacked x (m + 1) e d in

@@ -1,6 +1,10 @@
 -- When the words of a search are sound, and what each step leaves.
 -- Assumes nothing.
 use Rattle.std.specs.Prelude.{◌≡◌, true, false, cond, List, ◌∷◌, ℕ, zero, suc, ◌+◌, ◌*◌, ◌/◌, ◌-◌, ◌≤◌, ◌<◌, length, drop}
+use Rattle.std.specs.declared.ops.ControlFlow.{ControlFlow}
+use Rattle.std.specs.declared.ops.ControlFlow.TheVariants.{Continue, Break}
+use Rattle.std.specs.Prelude.{Some, None}
+use Rattle.std.specs.Prelude as code
 use Rattle.std.proofs.Math.Option.{Option, none, some}
 use Rattle.words.specs.Words.{at, WORK}
 use Rattle.path.specs.Bytes.{odd}
@@ -9,8 +13,8 @@ use Rattle.spec_search.specs.Lists.{size}
 use Rattle.work_layout.specs.Layout.{USED, COUNTS, SEEN, PREVS, LENS, PATHS, COPIES, ENTRIES, DEPTH, MAX_PARENTS}
 use Rattle.work_layout.specs.Rows.{link_at, parents_of, stack_of, Tops}
 use Rattle.search_list.specs.declared.Search.{Search}
-use Rattle.search_list.specs.declared.Turned.{Turned}
-use Rattle.search_list.specs.declared.Turned.TheVariants.{On, Result, Capped}
+use Rattle.search_list.specs.declared.Cursor.{Cursor}
+use Rattle.search_list.specs.declared.search_moves.Unseen.{Unseen}
 use Rattle.search_list.specs.State.{parents_of_all, count_at, seen_of, seen_at, node_bits, node_at, place_at, extra_at, trail_of, path_at, trails_of, Readable}
 use Rattle.search_list.specs.Cursor.{goes, Mid, ahead}
 
@@ -119,6 +123,11 @@ pub record FirstUnseen (w : List ℕ) (e i v n : ℕ) : Type 0 where
   pub stands : i < n → seen_at w (link_at w e i / 2) ≡ false
   pub parent : i < n → v ≡ link_at w e i
 
+-- The first parent of entry e that is not seen, or that each is seen.
+abbrev pub UnseenOf : List ℕ → ℕ → code.Option Unseen → Type 0
+UnseenOf w e (Some k) = FirstUnseen w e k.place k.parent.0 k.all × (k.place < k.all)
+UnseenOf w e None = FirstUnseen w e (count_at w e) 0 (count_at w e)
+
 -- The distance from the top, on a stack of d entries, by a word of TOPS.
 abbrev pub from_top : ℕ → ℕ → Option ℕ
 from_top d zero = none
@@ -130,18 +139,30 @@ from_top d (suc t) = some (d - suc t)
 abbrev pub search_of : (n m d : ℕ) → Search
 search_of n m d = record { paths = n; nodes = m; depth = d }
 
+-- What a turn gives, as in the code.
+abbrev pub Turned : Type 0
+Turned = ControlFlow (code.Option ℕ) Cursor
+
+-- The pass goes on at path c.
+abbrev pub on : (c : ℕ) → Search → Turned
+on c s = Continue (record { slot = c; search = s })
+
 -- What a state stands for: how the pass will end.
 abbrev pub meaning : List ℕ → ℕ → Turned → Passed
-meaning w L (On c s) = goes (parents_of_all w) (stack_of w s.depth) L (trails_of w s.paths) c (seen_of w s.nodes)
-meaning w L (Result i) = found (path_at w i)
-meaning w L Capped = gone
+meaning w L (Continue k) =
+    goes (parents_of_all w) (stack_of w k.search.depth) L (trails_of w k.search.paths) k.slot (seen_of w k.search.nodes)
+meaning w L (Break (Some i)) = found (path_at w i)
+meaning w L (Break None) = gone
 
 -- The words are sound for it, the stack has d entries as before, and less than b is ahead.
 abbrev pub Fine : List ℕ → ℕ → ℕ → ℕ → Turned → Type 0
-Fine w d L b (On c s) =
-    Working w s.depth s.paths s.nodes × Mid L (trails_of w s.paths) c × (ahead L (trails_of w s.paths) c < b) × (s.depth ≡ d)
-Fine w d L b (Result i) = Readable w i
-Fine w d L b Capped = Unit {0}
+Fine w d L b (Continue k) =
+    Working w k.search.depth k.search.paths k.search.nodes
+    × Mid L (trails_of w k.search.paths) k.slot
+    × (ahead L (trails_of w k.search.paths) k.slot < b)
+    × (k.search.depth ≡ d)
+Fine w d L b (Break (Some i)) = Readable w i
+Fine w d L b (Break None) = Unit {0}
 
 -- A turn of pass L at path c.
 pub record Turns (w w' : List ℕ) (d L c n m : ℕ) (r : Turned) : Type 0 where

@@ -12,32 +12,34 @@ ghost use Rattle.work_layout.specs.Layout.{ENTRIES, TOPS, LENS};
 ghost use Rattle.search_list.specs.State.{node_at, place_at, extra_at, seen_at, MOST_PATHS};
 ghost use Rattle.search_list.specs.Steps.{Stored, Marked};
 
-use words::wide;
+use std::ops::ControlFlow;
 use work_layout::parents::Parent;
 use work_layout::{EntryIndex, PREVS, SEEN};
 
 // A search under way: how many paths there are, how many nodes, and how many entries on the stack.
-#[derive(Clone, Copy)]
+#[derive(Clone, Copy, Debug, PartialEq, Eq)]
 pub struct Search {
     pub paths: usize,
     pub nodes: usize,
     pub depth: usize,
 }
 
-// After a turn: the slot of the next path, and the search; the slot of the path that is the result; visit 1,025.
-#[derive(Clone, Copy)]
-pub enum Turned {
-    On(usize, Search),
-    Result(usize),
-    Capped,
+// A pass under way: the slot of the path that is next, and the search.
+#[derive(Clone, Copy, Debug, PartialEq, Eq)]
+pub struct Cursor {
+    pub slot: usize,
+    pub search: Search,
 }
+
+// After a turn: the pass goes on, or the search ends, with the slot of the path that is its result, or with none at visit 1,025.
+pub type Turned = ControlFlow<Option<usize>, Cursor>;
 
 // One more than the highest place of entry e on the stack, or 0.
 pub fn top_of(work: &[u32], e: EntryIndex) -> usize
     requires { (WORK ≤ length work.now) × (e.0 < ENTRIES) }
     ensures { result ≡ at work.now (TOPS + e.0) }
 {
-    wide(work[work_layout::TOPS + e.0 as usize])
+    work[work_layout::TOPS + e.0 as usize] as usize
 }
 
 // The node whose bits path i has.
@@ -94,7 +96,7 @@ pub fn len_of(work: &[u32], k: usize) -> usize
     requires { (WORK ≤ length work.now) × (k ≤ most_visits) }
     ensures { result ≡ at work.now (LENS + k) }
 {
-    wide(work[work_layout::LENS + k])
+    work[work_layout::LENS + k] as usize
 }
 
 // How many bits path i has.
@@ -102,10 +104,7 @@ pub fn size_of(work: &[u32], i: usize) -> usize
     requires { (WORK ≤ length work.now) × (i < MOST_PATHS) × (node_at work.now i ≤ most_visits) }
     ensures { result ≡ at work.now (LENS + node_at work.now i) + extra_at work.now i }
 {
-    let a = wide(node_of(work, i));
-    let b = wide(work[work_layout::LENS + a]);
-    let x = wide(extra_of(work, i));
-    b + x
+    len_of(work, node_of(work, i) as usize) + extra_of(work, i) as usize
 }
 
 // Whether entry e is seen.

@@ -18,7 +18,7 @@ pub fn add_node(work: &mut [u32], slot: usize, nodes: usize)
 {
     let a = crate::node_of(work, slot);
     let p = crate::parent_of(work, slot);
-    let l = crate::len_of(work, words::wide(a));
+    let l = crate::len_of(work, a as usize);
     let k = nodes + 1;
     work[work_layout::PREVS + k] = a;
     work[work_layout::NODES + k] = p.0;
@@ -51,10 +51,8 @@ pub fn add_copies(work: &mut [u32], e: EntryIndex, first: usize, all: usize, s: 
         (trails_of work.old s.paths ++ copies work.old s.nodes e.0 first) }
 {
     let mut paths = s.paths;
-    let mut i = first;
-    while i < all {
+    for i in first..all {
         paths = add_copy(work, e, i, paths, s.nodes);
-        i += 1;
     }
     paths
 }

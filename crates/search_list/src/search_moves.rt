@@ -4,16 +4,15 @@ ghost use Rattle.words.specs.Words.{WORK};
 ghost use Rattle.work_layout.specs.Layout.{ENTRIES};
 ghost use Rattle.work_layout.specs.Rows.{link_at, Tops};
 ghost use Rattle.spec_search.specs.Flat.{swap_remove};
-ghost use Rattle.search_list.specs.Steps.{PathsOK, copies, stacked, Links, Nodes, Relisted, FirstUnseen};
+ghost use Rattle.search_list.specs.Steps.{PathsOK, copies, stacked, Links, Nodes, Relisted, UnseenOf};
 ghost use Rattle.search_list.specs.State.{node_bits, trail_of, trails_of, trail, count_at, MOST_PATHS};
 
 use crate::{Search, search_copies};
 use work_layout::parents::Parent;
 use work_layout::{EntryIndex, parents};
 
-// The first parent of an entry that is not seen: its place in the list, the parent, and how many the list has. Where each is seen the place is that
-// number.
-#[derive(Clone, Copy)]
+// The first parent of an entry that is not seen: its place in the list, the parent, and how many the list has.
+#[derive(Clone, Copy, Debug, PartialEq, Eq)]
 pub struct Unseen {
     pub place: usize,
     pub parent: Parent,
@@ -21,28 +20,22 @@ pub struct Unseen {
 }
 
 // The first parent of entry e that is not seen.
-pub fn first_unseen(work: &[u32], e: EntryIndex) -> Unseen
+pub fn first_unseen(work: &[u32], e: EntryIndex) -> Option<Unseen>
     requires { (Links work.now) × (e.0 < ENTRIES) }
-    ensures { FirstUnseen work.now e.0 result.place result.parent.0 result.all }
+    ensures { UnseenOf work.now e.0 result }
 {
     let all = parents::count_of(work, e);
-    let mut i = 0;
-    while i < all {
+    for i in 0..all {
         let p = parents::parent_at(work, e, i);
         if !crate::is_seen(work, p.entry()) {
-            return Unseen {
+            return Some(Unseen {
                 place: i,
                 parent: p,
                 all,
-            };
+            });
         }
-        i += 1;
     }
-    Unseen {
-        place: i,
-        parent: Parent(0),
-        all,
-    }
+    None
 }
 
 // The last path takes the slot.

@@ -19,10 +19,9 @@ use Rattle.words.specs.Words.{at, tabulate, WORK}
 use Rattle.search_list.specs.Cursor.{goes, Mid}
 use Rattle.search_list.proofs.CursorLaws.{at_end, all_longer}
 use Rattle.search_list.specs.declared.Search.{Search}
-use Rattle.search_list.specs.declared.Turned.TheVariants.{On, Result, Capped}
-use Rattle.search_passes.specs.declared.Passing.TheVariants.{Ended, Over, Next}
-use Rattle.search_passes.specs.declared.Way.{Way}
-use Rattle.search_passes.specs.declared.Way.TheVariants.{By, Nothing}
+use Rattle.search_list.specs.declared.Cursor.{Cursor}
+use Rattle.std.proofs.Common.{Some, None, Continue, Break}
+use Rattle.std.specs.Prelude as code
 use Rattle.work_layout.specs.Layout.{USED, SEEN, LENS, COUNTS, ENTRIES, DEPTH}
 use Rattle.path.specs.Bytes.{odd}
 use Rattle.search_list.specs.State.{seen_at, chain, node_bits, trail_of, trails_of, parents_of_all, seen_of, count_at}
@@ -42,51 +41,51 @@ kept_more w x y a b = record { low = λ k l. b.low k l ∙ a.low k l; high = λ 
 
 -- ---- a pass
 
-pub record Walking (w₀ w : List ℕ) (L : ℕ) (s₀ : Search) (c : ℕ) (s : Search) : Type 0 where
-  pub sound : Working w s.depth s.paths s.nodes
-  pub mid : Mid L (trails_of w s.paths) c
-  pub same : goes (parents_of_all w₀) (stack_of w₀ s₀.depth) L (trails_of w₀ s₀.paths) 0 (seen_of w₀ s₀.nodes) ≡ meaning w L (On c s)
-  pub deep : s.depth ≡ s₀.depth
+pub record Walking (w₀ w : List ℕ) (L : ℕ) (s₀ : Search) (k : Cursor) : Type 0 where
+  pub sound : Working w k.search.depth k.search.paths k.search.nodes
+  pub mid : Mid L (trails_of w k.search.paths) k.slot
+  pub same : goes (parents_of_all w₀) (stack_of w₀ s₀.depth) L (trails_of w₀ s₀.paths) 0 (seen_of w₀ s₀.nodes) ≡ meaning w L (Continue k)
+  pub deep : k.search.depth ≡ s₀.depth
   pub kept : Kept w₀ w
   pub len : length w ≡ length w₀
 
-pub walking_start : (w : List ℕ) (L : ℕ) (s : Search) → Working w s.depth s.paths s.nodes → Mid L (trails_of w s.paths) 0 → Walking w w L s 0 s
+pub walking_start : (w : List ℕ) (L : ℕ) (s : Search) → Working w s.depth s.paths s.nodes → Mid L (trails_of w s.paths) 0
+    → Walking w w L s (record { slot = 0; search = s })
 walking_start w L s ok mid = record { sound = ok; mid = mid; same = refl; deep = refl; kept = kept_none w; len = refl }
 
-module _ {w₀ w : List ℕ} {L : ℕ} {s₀ : Search} {c : ℕ} {s : Search} (k : Walking w₀ w L s₀ c s) where
+module _ {w₀ w : List ℕ} {L : ℕ} {s₀ : Search} {k : Cursor} (a : Walking w₀ w L s₀ k) where
   module _ {y : List ℕ} (ly : length y ≡ length w) where
-    pub walking_more : {c' : ℕ} {s' : Search} → Turns w y s.depth L c s.paths s.nodes (On c' s') → Walking w₀ y L s₀ c' s'
+    pub walking_more : {k' : Cursor} → Turns w y k.search.depth L k.slot k.search.paths k.search.nodes (Continue k') → Walking w₀ y L s₀ k'
     walking_more t = record {
       sound = t.fine.0;
       mid = t.fine.1;
-      same = k.same ∙ t.same;
-      deep = t.fine.3 ∙ k.deep;
-      kept = kept_more w₀ w y k.kept t.kept;
-      len = ly ∙ k.len;
+      same = a.same ∙ t.same;
+      deep = t.fine.3 ∙ a.deep;
+      kept = kept_more w₀ w y a.kept t.kept;
+      len = ly ∙ a.len;
     }
 
-    pub walking_result : {i : ℕ} → Turns w y s.depth L c s.paths s.nodes (Result i) → Passes w₀ y L s₀ (Ended i)
-    walking_result t = record { same = k.same ∙ t.same; fine = t.fine; kept = kept_more w₀ w y k.kept t.kept }
+    pub walking_ended : (r : code.Option ℕ) → Turns w y k.search.depth L k.slot k.search.paths k.search.nodes (Break r) → Passes w₀ y L s₀ (Break r)
+    walking_ended (Some i) t = record { same = a.same ∙ t.same; fine = t.fine; kept = kept_more w₀ w y a.kept t.kept }
+    walking_ended None t = record { same = a.same ∙ t.same; fine = tt; kept = kept_more w₀ w y a.kept t.kept }
 
-    pub walking_capped : Turns w y s.depth L c s.paths s.nodes Capped → Passes w₀ y L s₀ Over
-    walking_capped t = record { same = k.same ∙ t.same; fine = tt; kept = kept_more w₀ w y k.kept t.kept }
-
-  pub walking_end : s.paths ≤ c → Passes w₀ w L s₀ (Next s)
+  pub walking_end : k.search.paths ≤ k.slot → Passes w₀ w L s₀ (Continue k.search)
   walking_end h =
-      let b : c ≡ length (trails_of w s.paths) = omega (arith, k.mid.within, length_trails w s.paths) in
+      let list = trails_of w k.search.paths in
+      let b : k.slot ≡ length list = omega (arith, a.mid.within, length_trails w k.search.paths) in
       record {
-        same = k.same ∙ at_end (parents_of_all w) (stack_of w s.depth) L (trails_of w s.paths) c (seen_of w s.nodes) b;
+        same = a.same ∙ at_end (parents_of_all w) (stack_of w k.search.depth) L list k.slot (seen_of w k.search.nodes) b;
         fine = (
-          k.sound,
+          a.sound,
           record {
             within = omega arith;
             longer = tt;
             least =
-                subst (λ (j : ℕ). All (AtLeast j) (trails_of w s.paths)) (sym (add-one L)) (all_longer b k.mid);
+                subst (λ (j : ℕ). All (AtLeast j) list) (sym (add-one L)) (all_longer b a.mid);
           },
-          k.deep,
+          a.deep,
         );
-        kept = k.kept;
+        kept = a.kept;
       }
 
 -- ---- the start
@@ -148,6 +147,10 @@ pub record Begun (w y : List ℕ) (d e : ℕ) : Type 0 where
   pub started : Started w y e
   pub len : length y ≡ length w
 
+pub begun_of : {w y : List ℕ} {d e : ℕ} → Links w × Tops w d × (unseen (count_at w) [] ENTRIES ≤ 2048) × (e < at w USED)
+    → Started w y e → length y ≡ length w → Begun w y d e
+begun_of p started len = record { links = p.0; tops = p.1; few = p.2; started = started; len = len }
+
 -- The passes from l on give what all passes give.
 pub record Searching (w₀ w : List ℕ) (d limit l : ℕ) (s : Search) : Type 0 where
   pub sound : Working w s.depth s.paths s.nodes
@@ -206,7 +209,7 @@ module _ {w y : List ℕ} {d e : ℕ} (b : Begun w y d e) where
     all = passes (parents_of_all y) (stack_of y d) (suc limit) 0 (trails_of y 1) []
 
     -- What the passes give is what the search of the words before the start gives.
-    finds : {v : List ℕ} {len : ℕ} {r : Way} → Limit len limit → all ≡ way_of v r → Usable v r → Kept z v → Finds w v d len e r
+    finds : {v : List ℕ} {len : ℕ} {r : code.Option ℕ} → Limit len limit → all ≡ way_of v r → Usable v r → Kept z v → Finds w v d len e r
     unfolding all
     finds {v} {len} lim a u q = record {
       answer =
@@ -218,7 +221,7 @@ module _ {w y : List ℕ} {d e : ℕ} (b : Begun w y d e) where
     }
 
     module _ {len : ℕ} (lim : Limit len limit) where
-      pub search_end : limit < l → Finds w z d len e Nothing
+      pub search_end : limit < l → Finds w z d len e None
       unfolding all
       search_end h =
           let o : suc limit - l ≡ 0 = omega arith in
@@ -227,7 +230,7 @@ module _ {w y : List ℕ} {d e : ℕ} (b : Begun w y d e) where
           ∙ no_passes (parents_of_all y) (stack_of y d) l (trails_of z s.paths) (seen_of z s.nodes))
           tt (kept_none z)
 
-      pub search_empty : s.paths ≡ 0 → Finds w z d len e Nothing
+      pub search_empty : s.paths ≡ 0 → Finds w z d len e None
       unfolding all trails_of tabulate
       search_empty h =
           finds lim
@@ -248,7 +251,7 @@ module _ {w y : List ℕ} {d e : ℕ} (b : Begun w y d e) where
           (ap₂ {C = Passed} (λ P S. goes P S l (trails_of z s.paths) 0 (seen_of z s.nodes)) (sym (low_parents y z links_y k.kept.low))
           (sym (stack_same y z d k.kept.low tops_y.deep) ∙ ap (stack_of z) (sym k.deep)) ∙ q)
 
-      pub search_more : {v : List ℕ} {s' : Search} → length v ≡ length z → Passes z v l s (Next s') → Searching y v d limit (l + 1) s'
+      pub search_more : {v : List ℕ} {s' : Search} → length v ≡ length z → Passes z v l s (Continue s') → Searching y v d limit (l + 1) s'
       unfolding all
       search_more {v} lv p =
           let o : suc limit - (l + 1) ≡ limit - l = omega arith in
@@ -262,8 +265,6 @@ module _ {w y : List ℕ} {d e : ℕ} (b : Begun w y d e) where
             len = lv ∙ k.len;
           }
 
-      pub search_found : {v : List ℕ} {len i : ℕ} → Limit len limit → Passes z v l s (Ended i) → Finds w v d len e (By i)
-      search_found lim p = finds lim (turned _ p.same) p.fine p.kept
-
-      pub search_over : {v : List ℕ} {len : ℕ} → Limit len limit → Passes z v l s Over → Finds w v d len e Nothing
-      search_over lim p = finds lim (turned _ p.same) tt p.kept
+      pub search_ended : {v : List ℕ} {len : ℕ} (r : code.Option ℕ) → Limit len limit → Passes z v l s (Break r) → Finds w v d len e r
+      search_ended (Some i) lim p = finds lim (turned _ p.same) p.fine p.kept
+      search_ended None lim p = finds lim (turned _ p.same) tt p.kept

@@ -15,41 +15,25 @@ ghost use Rattle.search_list.specs.Steps.{Links, Working, Cleared, unseen};
 ghost use Rattle.search_passes.specs.Passes.{Passes, Started};
 ghost use Rattle.search_passes.specs.Finds.{Finds};
 
-use search_list::{Search, Turned};
+use search_list::{Cursor, Search};
+use std::ops::ControlFlow;
 use words::slices;
 use work_layout::parents::Parent;
 use work_layout::{EntryIndex, SEEN};
 
-// After a pass: the slot of the path that is the result; visit 1,025; the search for the next pass.
-#[derive(Clone, Copy)]
-pub enum Passing {
-    Ended(usize),
-    Over,
-    Next(Search),
-}
-
-// Pass l over the whole list.
-fn pass(work: &mut [u32], l: usize, first: Search) -> Passing
+// Pass l over the whole list: the search for the next pass, or what the search gives.
+fn pass(work: &mut [u32], l: usize, first: Search) -> ControlFlow<Option<usize>, Search>
     requires { (Working work.old first.depth first.paths first.nodes) × (Mid l (trails_of work.old first.paths) 0) }
     ensures { Passes work.old work.new l first result }
 {
-    let mut slot = 0;
-    let mut s = first;
-    while slot < s.paths {
-        match search_step::turn(work, l, slot, s) {
-            Turned::On(i, next) => {
-                slot = i;
-                s = next;
-            }
-            Turned::Result(i) => {
-                return Passing::Ended(i);
-            }
-            Turned::Capped => {
-                return Passing::Over;
-            }
-        }
+    let mut at = Cursor {
+        slot: 0,
+        search: first,
+    };
+    while at.slot < at.search.paths {
+        at = search_step::turn(work, l, at)?;
     }
-    Passing::Next(s)
+    ControlFlow::Continue(at.search)
 }
 
 // No entry in use is seen.
@@ -57,7 +41,7 @@ fn clear_seen(work: &mut [u32])
     requires { (WORK ≤ length work.old) × (at work.old USED ≤ ENTRIES) }
     ensures { Cleared work.old work.new }
 {
-    let used = words::wide(work[work_layout::USED]);
+    let used = work[work_layout::USED] as usize;
     let end = SEEN + (used + 31) / 32;
     slices::clear(&mut work[SEEN..end]);
 }
@@ -72,48 +56,32 @@ fn start(work: &mut [u32], e: EntryIndex)
     search_list::put_at_entry(work, 0, 0, Parent::new(e, true));
 }
 
-// The slot of the path that was found, or that there is none.
-#[derive(Clone, Copy)]
-pub enum Way {
-    By(usize),
-    Nothing,
-}
-
 // The passes 0, 1, .. up to the last one, from the start.
-fn all_passes(work: &mut [u32], e: EntryIndex, len: u64, depth: usize) -> Way
+fn all_passes(work: &mut [u32], e: EntryIndex, len: u64, depth: usize) -> Option<usize>
     requires { (Links work.old) × (Tops work.old depth) × (unseen (count_at work.old) [] ENTRIES ≤ 2048) × (e.0 < at work.old USED) }
     ensures { Finds work.old work.new depth len e.0 result }
 {
     let limit = search_limit::limit_of(len);
     start(work, e);
-    let mut l = 0;
     let mut s = Search {
         paths: 1,
         nodes: 0,
         depth,
     };
-    while l <= limit {
+    for l in 0..=limit {
         if s.paths == 0 {
-            return Way::Nothing;
+            return None;
         }
         match pass(work, l, s) {
-            Passing::Next(next) => {
-                s = next;
-            }
-            Passing::Ended(i) => {
-                return Way::By(i);
-            }
-            Passing::Over => {
-                return Way::Nothing;
-            }
+            ControlFlow::Continue(next) => s = next,
+            ControlFlow::Break(path) => return path,
         }
-        l += 1;
     }
-    Way::Nothing
+    None
 }
 
-// The path to entry e, of length len, from a stack of `depth` entries.
-pub fn search(work: &mut [u32], e: EntryIndex, len: u64, depth: usize) -> Way
+// The slot of the path to entry e, of length len, from a stack of `depth` entries, if there is one.
+pub fn search(work: &mut [u32], e: EntryIndex, len: u64, depth: usize) -> Option<usize>
     requires { (Sound work.old) × (Tops work.old depth) × (all_counts work.old ENTRIES ≤ 2048) × (e.0 < at work.old USED) }
     ensures { Finds work.old work.new depth len e.0 result }
 {

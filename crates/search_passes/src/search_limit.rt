@@ -5,11 +5,5 @@ ghost use Rattle.search_passes.specs.Limit.{Limit};
 pub fn limit_of(len: u64) -> usize
     ensures { Limit len result }
 {
-    if len == 0 {
-        return 0;
-    }
-    if len > 1025 {
-        return 8192;
-    }
-    ((len - 1) * 8) as usize
+    len.saturating_sub(1).saturating_mul(8).min(8192) as usize
 }

@@ -1,10 +1,9 @@
 -- `search_find::find` meets its contract: a pair, nil, and then another atom.
 -- Assumes nothing.
 use Prim.Native.Nat.{ℕ}
-use mathlib.Core.Path.{◌≡◌, sym, subst, ◌∙◌}
+use mathlib.Core.Path.{◌≡◌, sym, subst}
 use mathlib.Core.Bool.{true, false}
 use lib.Dec.{eqb}
-use borrow.Author.Rules.{rules}
 use borrow.Author.Tests.{ne_eqb}
 use Rattle.words.specs.Choice.{clash}
 use Rattle.allocator.specs.Handle.{nil, is_pair, node_of, handle_of}
@@ -17,18 +16,12 @@ unfolding handle_of node_of
 no-nil h p = ne_eqb h (handle_of nil) (λ q. let r : is_pair (node_of (handle_of nil)) ≡ true = subst (λ (x : ℕ). is_pair (node_of x) ≡ true) q p in clash cc)
 
 pub returns-then-is_pair : goal.returns-then-is_pair
-returns-then-is_pair c =
-    let x = c in
-    let yes = x in
-    x.find_marked.ensures _ (no-nil _ (sym yes.is_pair.ensures ∙ yes.if-is_pair.true))
+returns-then-is_pair c = c.find_marked.ensures _ (no-nil _ (sym c.if-is_pair.ensures))
 
-pub returns-then-same : goal.returns-then-same
+pub returns-then-eq : goal.returns-then-eq
 unfolding handle_of
-returns-then-same c = finds_nil (sym c.same.ensures ∙ c.if-same.true)
+returns-then-eq c = finds_nil (sym c.if-eq.ensures)
 
 pub returns : goal.returns
 unfolding handle_of
-returns c =
-    let x = c in
-    let no = x in
-    x.find_marked-2.ensures _ (sym no.same.ensures ∙ no.if-same.false)
+returns c = c.find_marked-2.ensures _ (sym c.if-eq.ensures)

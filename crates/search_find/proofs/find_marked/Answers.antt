@@ -6,8 +6,6 @@ use Rattle.cache_stack.specs.marks.Effects.{marked_at}
 use Rattle.cache_stack.proofs.Stacks.{stacked_tops}
 use Rattle.search_find.proofs.Finding.{finds_unmarked, finds_short, finds_path}
 use native.Mathlib.Omega.{arith}
-use borrow.Author.Rules.{rules}
-use borrow.Author.Tests.{not-true, not-false}
 use Rattle.search_find.proofs.find_marked.Goals as goal
 
 pub returns-then-not-is_marked : goal.returns-then-not-is_marked

@@ -20,8 +20,7 @@ use Rattle.path.specs.Measure.{counted, counted_bytes, documented, measure_of}
 use Rattle.path.specs.MeasureLaws.{documented_prefix}
 use Rattle.path.proofs.MeasureLaws.{counted_is, documented_is}
 use Rattle.path_builder.specs.Measured.{documented_bytes, measured_bytes}
-use Rattle.search_passes.specs.declared.Way.TheVariants.{By, Nothing}
-use Rattle.search_find.specs.declared.find_path.Path.TheVariants.{At, NoPath}
+use Rattle.std.specs.Prelude.{Some, None}
 use Rattle.search_list.specs.State.{parents_of_all, path_at}
 use Rattle.search_passes.specs.Finds.{Finds}
 use Rattle.search_find.specs.Answers.{FoundPath}
@@ -63,15 +62,15 @@ measured_is Documented bits h few = documented_same bits h few
 -- ---- the whole
 
 module _ {w w' : List ℕ} {d len e : ℕ} where
-  pub path_none : {m : Measure} → Finds w w' d len e Nothing → FoundPath m w w' d len e NoPath
+  pub path_none : {m : Measure} → Finds w w' d len e None → FoundPath m w w' d len e None
   path_none {m} f = record { answer = ap (used (measure_of m) len) f.answer; usable = tt; kept = f.kept }
 
-  module _ {i : ℕ} (f : Finds w w' d len e (By i)) where
+  module _ {i : ℕ} (f : Finds w w' d len e (Some i)) where
     pub path_ends : Ends (path_at w' i)
     path_ends = search_ends (parents_of_all w) (stack_of w d) len e (path_at w' i) f.answer
 
     module _ {m : Measure} {c : ℕ} (is : c ≡ measure_of m (path_at w' i)) where
-      pub path_long : len ≤ c → FoundPath m w w' d len e NoPath
+      pub path_long : len ≤ c → FoundPath m w w' d len e None
       path_long h =
           record {
             answer = ap (used (measure_of m) len) f.answer ∙ cond_false _ _ _ (ap (λ (q : ℕ). ltb q len) (sym is) ∙ le-ltb c len h);
@@ -79,7 +78,7 @@ module _ {w w' : List ℕ} {d len e : ℕ} where
             kept = f.kept;
           }
 
-      pub path_used : c < len → FoundPath m w w' d len e (At i)
+      pub path_used : c < len → FoundPath m w w' d len e (Some i)
       path_used h =
           record {
             answer = ap (used (measure_of m) len) f.answer ∙ cond_true _ _ _ (ap (λ (q : ℕ). ltb q len) (sym is) ∙ lt-ltb c len h);

@@ -2,7 +2,6 @@
 -- Assumes nothing.
 use native.Mathlib.Omega.{arith}
 use Rattle.search_find.proofs.Lookup.{length_here, length_past}
-use borrow.Author.Rules.{rules}
 use Rattle.search_find.proofs.length_at.Goals as goal
 
 pub returns-then-e-used_of : goal.returns-then-e-used_of

@@ -3,7 +3,6 @@
 use mathlib.Core.Path.{◌∙◌}
 use Rattle.words.specs.Words.{part}
 use Rattle.search_list.proofs.Marks.{seen_length, marked}
-use borrow.Author.Rules.{rules}
 use Rattle.search_list.proofs.mark_seen.Goals as goal
 
 pub returns : goal.returns

@@ -3,7 +3,6 @@
 use Rattle.search_list.proofs.Trails.{stored}
 use lib.ListN.{length-set}
 use native.Mathlib.Omega.{arith}
-use borrow.Author.Rules.{rules}
 use Rattle.search_list.proofs.put_path.Goals as goal
 
 pub bounds-work-i-2 : goal.bounds-work-i-2

@@ -3,7 +3,6 @@
 use native.Mathlib.Omega.{arith}
 use Rattle.work_layout.specs.Layout.{ENTRIES}
 use Rattle.search_list.proofs.Premises.{sound_links, unseen_all}
-use borrow.Author.Rules.{rules}
 use Rattle.search_passes.proofs.search.Goals as goal
 
 pub all_passes-requires : goal.all_passes-requires

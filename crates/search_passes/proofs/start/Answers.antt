@@ -4,7 +4,6 @@ use Rattle.search_passes.proofs.PassLaws.{started}
 use lib.ListN.{length-set}
 use mathlib.Core.Path.{◌∙◌}
 use native.Mathlib.Omega.{arith}
-use borrow.Author.Rules.{rules}
 use Rattle.search_passes.proofs.start.Goals as goal
 
 pub put_at_entry-requires : goal.put_at_entry-requires

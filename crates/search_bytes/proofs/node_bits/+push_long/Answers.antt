@@ -1,13 +1,12 @@
 -- `search_bytes::node_bits::push_long` meets its contract. The measure: the number of bits.
 -- Assumes nothing.
-use Prim.Native.Nat.{ℕ, ◌-◌, ◌%◌, ◌+◌, ◌≤◌, ◌<◌}
-use mathlib.Core.Path.{◌≡◌, sym, subst, ◌∙◌}
+use Prim.Native.Nat.{ℕ, ◌-◌, ◌%◌, ◌+◌, ◌≤◌}
+use mathlib.Core.Path.{◌≡◌, subst}
 use native.Mathlib.Omega.{arith}
 use lib.ListN.{length}
-use borrow.Author.Rules.{rules}
 use Rattle.search_list.specs.State.{node_bits}
 use Rattle.search_bytes.specs.Built.{Fits}
-use Rattle.search_bytes.proofs.Pushing.{no_bits, before_size, fits_fewer, taken_fits, node_more}
+use Rattle.search_bytes.proofs.Pushing.{before_size, fits_fewer, taken_fits}
 use Rattle.search_bytes.proofs.node_bits.+push_long.Goals as goal
 
 -- The latest bits are some of them, and not all 65.

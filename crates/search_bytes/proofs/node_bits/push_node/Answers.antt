@@ -2,7 +2,6 @@
 -- Assumes nothing.
 use mathlib.Core.Path.{refl}
 use native.Mathlib.Omega.{arith}
-use borrow.Author.Rules.{rules}
 use Rattle.search_list.specs.State.{node_bits}
 use Rattle.search_bytes.specs.Built.{Holds}
 use Rattle.search_bytes.proofs.Pushing.{no_bits, before_size, taken_fits, node_more}

@@ -1,6 +1,5 @@
 -- `search_bytes::stack_bits::push_eight` meets its contract: ones that begin a byte are ones like others.
 -- Assumes nothing.
-use borrow.Author.Rules.{rules}
 use Rattle.search_bytes.proofs.Pushing.{byte_asks, byte_done}
 use Rattle.search_bytes.proofs.stack_bits.push_eight.Goals as goal
 

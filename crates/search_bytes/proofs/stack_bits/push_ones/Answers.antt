@@ -5,7 +5,6 @@ use mathlib.Core.Bool.{Bool}
 use mathlib.Core.List.{List}
 use mathlib.Core.Path.{refl, ◌∙◌}
 use native.Mathlib.Omega.{arith}
-use borrow.Author.Rules.{rules}
 use Rattle.path_builder.specs.Builder.{built}
 use Rattle.search_list.specs.State.{trues}
 use Rattle.search_bytes.specs.Built.{Holds}
@@ -20,16 +19,15 @@ returns-then-ones-lt8 c =
 
 pub push_bytes-whole-requires : goal.push_bytes-whole-requires
 push_bytes-whole-requires c =
-    let first : ℕ =
-    (c.args.builder.bit_pos + 1) % 8 in
+    let first : ℕ = c.from-first.result in
     let bits : List Bool =
     built c.args.store.now c.args.builder in
     let full : ℕ =
     8 * ((c.args.ones - first) / 8) in
     let ones_first : Holds c.push_number-filled.new.store c.push_number-filled.result (trues first bits) =
-    ones_hold first bits (omega arith) c.push_number-filled.ensures in
+    ones_hold first bits (omega (arith, c.from-first.ensures)) c.push_number-filled.ensures in
     let few : first ≤ c.args.ones =
-    omega (arith, c.if-ones-lt8.false) in
+    omega (arith, c.from-first.ensures, c.if-ones-lt8.false) in
     let x = c in
     let s = x in
     let f = x.push_number-filled in (
@@ -39,19 +37,18 @@ push_bytes-whole-requires c =
 
 pub push_number-requires-2 : goal.push_number-requires-2
 push_number-requires-2 c =
-    let first : ℕ =
-    (c.args.builder.bit_pos + 1) % 8 in
+    let first : ℕ = c.from-first.result in
     let bits : List Bool =
     built c.args.store.now c.args.builder in
     let full : ℕ =
     8 * ((c.args.ones - first) / 8) in
     let ones_first : Holds c.push_number-filled.new.store c.push_number-filled.result (trues first bits) =
-    ones_hold first bits (omega arith) c.push_number-filled.ensures in
+    ones_hold first bits (omega (arith, c.from-first.ensures)) c.push_number-filled.ensures in
     let whole : Holds c.push_bytes-whole.new.store c.push_bytes-whole.result (trues (full + first) bits) =
     let f = c in
     ones_more bits first full (full + first) ones_first c.push_bytes-whole.ensures refl in
     let few : first ≤ c.args.ones =
-    omega (arith, c.if-ones-lt8.false) in
+    omega (arith, c.from-first.ensures, c.if-ones-lt8.false) in
     let w = c in
     let x = w in
     let s = x in
@@ -63,19 +60,18 @@ push_number-requires-2 c =
 
 pub returns : goal.returns
 returns c =
-    let first : ℕ =
-    (c.args.builder.bit_pos + 1) % 8 in
+    let first : ℕ = c.from-first.result in
     let bits : List Bool =
     built c.args.store.now c.args.builder in
     let full : ℕ =
     8 * ((c.args.ones - first) / 8) in
     let ones_first : Holds c.push_number-filled.new.store c.push_number-filled.result (trues first bits) =
-    ones_hold first bits (omega arith) c.push_number-filled.ensures in
+    ones_hold first bits (omega (arith, c.from-first.ensures)) c.push_number-filled.ensures in
     let whole : Holds c.push_bytes-whole.new.store c.push_bytes-whole.result (trues (full + first) bits) =
     let f = c in
     ones_more bits first full (full + first) ones_first c.push_bytes-whole.ensures refl in
     let few : first ≤ c.args.ones =
-    omega (arith, c.if-ones-lt8.false) in
+    omega (arith, c.from-first.ensures, c.if-ones-lt8.false) in
     let w = c in
     let x = w in
     let n = x.args.ones in

@@ -1,6 +1,5 @@
 -- `search_bytes::stack_bits::push_stack` meets its contract: nothing, or a 0 and then ones.
 -- Assumes nothing.
-use borrow.Author.Rules.{rules}
 use Rattle.search_bytes.proofs.Pushing.{stack_none, stack_fits, stack_more}
 use Rattle.search_bytes.proofs.stack_bits.push_stack.Goals as goal
 

@@ -1,7 +1,7 @@
 -- `search_list::search_copies::add_copies` meets its contract: after i parents the list has a path for each unseen one among them.
 -- Assumes nothing.
-use Rattle.search_list.proofs.Copies.{copying_asks, Copying, copying_start, copying_more, copying_end}
-use Prim.Native.Nat.{◌-◌, ◌<◌}
+use Rattle.search_list.proofs.Copies.{copying_asks, copying_start, copying_more, copying_end}
+use Prim.Native.Nat.{◌<◌}
 use native.Mathlib.Omega.{arith}
 use Rattle.search_list.specs.State.{count_at}
 use Rattle.search_list.proofs.search_copies.add_copies.Goals as goal

@@ -1,13 +1,7 @@
 -- `search_list::search_copies::add_copies` meets its contract: after i parents the list has a path for each unseen one among them.
 -- Assumes nothing.
-use Rattle.search_list.proofs.Copies.{copying_asks, Copying, copying_start, copying_more, copying_end}
-use Prim.Native.Nat.{◌-◌, ◌<◌}
-use native.Mathlib.Omega.{arith}
-use Rattle.search_list.specs.State.{count_at}
+use Rattle.search_list.proofs.Copies.{Copying}
 use Rattle.search_list.proofs.search_copies.add_copies.Given as goal
 
 abbrev pub invariant-loop-i : goal.invariant-loop-i
 invariant-loop-i l = Copying l.initial.work l.work l.e.0 l.s.nodes l.first l.s.paths l.paths l.i
-
-abbrev pub decreases-loop-i : goal.decreases-loop-i
-decreases-loop-i l = l.all - l.i

@@ -7,7 +7,6 @@ use Rattle.words.specs.Words.{at}
 use Rattle.work_layout.specs.Layout.{USED}
 use mathlib.Core.Path.{◌≡◌, ap, sym, ◌∙◌}
 use native.Mathlib.Omega.{arith}
-use borrow.Author.Rules.{rules}
 use Rattle.search_list.proofs.search_copies.add_copy.Goals as goal
 
 pub parent_at-p-requires : goal.parent_at-p-requires

@@ -2,13 +2,10 @@
 -- Assumes nothing.
 use Rattle.spec_search.specs.Search.{most_visits}
 use Rattle.search_list.proofs.Copies.{node_added}
-use Rattle.words.specs.Words.{at}
 use lib.ListN.{length-set}
-use Prim.Native.Nat.{ℕ, ◌+◌, ◌≤◌}
-use mathlib.Core.Path.{ap, ◌∙◌}
+use Prim.Native.Nat.{◌≤◌}
+use mathlib.Core.Path.{◌∙◌}
 use native.Mathlib.Omega.{arith}
-use borrow.Author.Rules.{rules}
-use Rattle.work_layout.specs.Layout.{LENS}
 use Rattle.search_list.proofs.search_copies.add_node.Goals as goal
 
 pub bounds-work-k-2 : goal.bounds-work-k-2
@@ -17,19 +14,17 @@ bounds-work-k-2 c = simp length-set (omega arith)
 pub overflow_add-work-3 : goal.overflow_add-work-3
 overflow_add-work-3 c =
     let short : c.len_of-l.result ≤ most_visits =
-    let s = c in
-    let a = c.node_of-a.ensures in
-    let l = c.wide in
-    omega (arith, s.requires.in_bounds.1.short l.result (omega (arith, a, s.requires.slot_bound.0, l.ensures)), c.len_of-l.ensures, l.ensures, a, s.requires.slot_bound.0, s.requires.in_bounds.2) in
+    let a = c.node_of-a in
+    let q = c.requires in
+    omega (arith, q.in_bounds.1.short a.result (omega (arith, a.ensures, q.slot_bound.0)), c.len_of-l.ensures, a.ensures, q.slot_bound.0, q.in_bounds.2) in
     omega (arith, short)
 
 pub overflow_cast-work : goal.overflow_cast-work
 overflow_cast-work c =
     let short : c.len_of-l.result ≤ most_visits =
-    let s = c in
-    let a = c.node_of-a.ensures in
-    let l = c.wide in
-    omega (arith, s.requires.in_bounds.1.short l.result (omega (arith, a, s.requires.slot_bound.0, l.ensures)), c.len_of-l.ensures, l.ensures, a, s.requires.slot_bound.0, s.requires.in_bounds.2) in
+    let a = c.node_of-a in
+    let q = c.requires in
+    omega (arith, q.in_bounds.1.short a.result (omega (arith, a.ensures, q.slot_bound.0)), c.len_of-l.ensures, a.ensures, q.slot_bound.0, q.in_bounds.2) in
     omega (arith, short)
 
 pub bounds-work-k-3 : goal.bounds-work-k-3
@@ -53,5 +48,5 @@ returns c =
     let k = c.mark_seen in
     node_added s.args.work.now k.new.work s.args.slot s.args.nodes n.result p.result.0 l.len_of-l.result
     s.requires.in_bounds.0 s.requires.in_bounds.1 s.requires.in_bounds.2 s.requires.slot_bound.0 s.requires.slot_bound.1 n.ensures p.ensures
-    (l.len_of-l.ensures ∙ ap (λ (k : ℕ). at s.args.work.now (LENS + k)) l.wide.ensures)
+    l.len_of-l.ensures
     (rw c.entry.ensures at k.ensures)

@@ -2,7 +2,6 @@
 -- Assumes nothing.
 use Rattle.search_list.proofs.Copies.{off_stack, on_stack}
 use native.Mathlib.Omega.{arith}
-use borrow.Author.Rules.{rules}
 use Rattle.search_list.proofs.search_copies.add_stacked.Goals as goal
 
 pub returns-then-t-eq0 : goal.returns-then-t-eq0

@@ -2,7 +2,6 @@
 -- Assumes nothing.
 use Rattle.search_list.proofs.Trails.{path_dropped}
 use native.Mathlib.Omega.{arith}
-use borrow.Author.Rules.{rules}
 use Rattle.search_list.proofs.search_moves.drop_path.Goals as goal
 
 pub returns : goal.returns

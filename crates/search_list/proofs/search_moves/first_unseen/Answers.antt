@@ -1,12 +1,10 @@
 -- `search_list::search_moves::first_unseen` meets its contract: every parent before it is seen.
 -- Assumes nothing.
-use Rattle.search_list.proofs.Copies.{Seeking, seeking_start, seeking_more, seeking_found, seeking_none}
+use Rattle.search_list.proofs.Copies.{seeking_start, seeking_more, seeking_found, seeking_none}
 use Rattle.work_layout.specs.Rows.{link_at}
 use Rattle.search_list.specs.State.{seen_at, count_at}
-use Prim.Native.Nat.{ℕ, ◌-◌, ◌/◌, ◌<◌}
+use Prim.Native.Nat.{ℕ, ◌/◌, ◌<◌}
 use mathlib.Core.Path.{◌≡◌, ap, sym, ◌∙◌}
-use borrow.Author.Tests.{not-true, not-false}
-use borrow.Author.Rules.{rules}
 use native.Mathlib.Omega.{arith}
 use Rattle.search_list.proofs.search_moves.first_unseen.Goals as goal
 
@@ -34,12 +32,9 @@ returns-then-not-is_seen c =
     let seen : seen_at c.args.work.now (link_at c.args.work.now c.args.e.0 c.loop-i.i / 2) ≡ c.is_seen.result =
     ap (seen_at c.args.work.now) (sym (c.entry.ensures ∙ ap (λ (z : ℕ). z / 2) c.parent_at-p.ensures))
     ∙ sym c.is_seen.ensures in
-    let s = c in
-    let p = c in
-    let k = p.loop-i in
-    let n = p.count_of-all in
-    seeking_found s.args.work.now s.args.e.0 k.i p.parent_at-p.result.0 n.result n.ensures.0 k.invariant
-    (seen ∙ c.if-not-is_seen.true) p.parent_at-p.ensures
+    seeking_found c.args.work.now c.args.e.0
+    (record { place = c.loop-i.i; parent = c.parent_at-p.result; all = c.count_of-all.result })
+    c.count_of-all.ensures.0 c.loop-i.invariant c.loop-i-test.true (seen ∙ c.if-not-is_seen.true) c.parent_at-p.ensures
 
 pub loop-i-preserved : goal.loop-i-preserved
 loop-i-preserved c =
@@ -55,6 +50,5 @@ loop-i-preserved c =
 
 pub returns : goal.returns
 returns c =
-    let s = c in
-    let n = c.count_of-all in
-    seeking_none s.args.work.now s.args.e.0 c.loop-i.i 0 n.result n.ensures.0 c.loop-i.invariant (omega arith)
+    seeking_none c.args.work.now c.args.e.0 c.loop-i.i c.loop-i.invariant
+    (omega (arith, c.loop-i-test.false, c.count_of-all.ensures.0))

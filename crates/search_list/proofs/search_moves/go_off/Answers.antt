@@ -3,7 +3,6 @@
 use Rattle.search_list.proofs.Kept.{Off, off_count, off_asks, off_done}
 use mathlib.Core.Path.{◌∙◌}
 use native.Mathlib.Omega.{arith}
-use borrow.Author.Rules.{rules}
 use Rattle.search_list.proofs.search_moves.go_off.Goals as goal
 
 pub overflow_sub-last : goal.overflow_sub-last

@@ -2,7 +2,6 @@
 -- Assumes nothing.
 use Rattle.search_list.proofs.Kept.{Up, up_asks, up_asks_2, up_done}
 use mathlib.Core.Path.{◌∙◌}
-use borrow.Author.Rules.{rules}
 use Rattle.search_list.proofs.search_moves.go_up.Goals as goal
 
 pub add_copies-requires : goal.add_copies-requires
