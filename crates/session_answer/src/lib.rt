@@ -5,11 +5,10 @@ ghost use Rattle.std.specs.Prelude.{◌≡◌, ◌*◌, ◌≤◌, length};
 ghost use Rattle.session_answer.specs.Answer.{answer_of, answer_at, Cleared};
 
 use session_state::progress::Progress;
-use words::slices;
 
 // The number, 0 for none; the count of finished steps; and the bytes written.
 #[repr(C)]
-#[derive(Clone, Copy)]
+#[derive(Clone, Copy, Debug, PartialEq, Eq)]
 pub struct SessionAnswer {
     pub number: u32,
     pub steps: u32,
@@ -25,11 +24,9 @@ fn clear_rest(work: &mut [u32], words: &mut [u32], output: &mut [u8], refused: b
     if refused {
         return;
     }
-    let told = 3 * p.steps;
-    let size = p.counts.size;
-    slices::clear(work);
-    slices::clear(&mut words[told..]);
-    slices::clear_bytes(&mut output[size..]);
+    work.fill(0);
+    words[3 * p.steps..].fill(0);
+    output[p.counts.size..].fill(0);
 }
 
 // The answer, after what is left is cleared.

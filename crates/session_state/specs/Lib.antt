@@ -1,4 +1,5 @@
 pub mod Records
+pub mod Errors
 pub mod Moves
 pub mod Stored
 pub mod Questions

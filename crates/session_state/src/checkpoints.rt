@@ -5,7 +5,7 @@ ghost use Rattle.session_state.specs.Records.{blank};
 // The state before an add: the open pairs, the depth of the stack, what was counted of the items written, and one more than the sentinel's entry, or 0: the
 // word of work, since the caller lends these records.
 #[repr(C)]
-#[derive(Clone, Copy)]
+#[derive(Clone, Copy, Debug, PartialEq, Eq)]
 pub struct Checkpoint {
     pub opens: u32,
     pub depth: u32,
@@ -15,22 +15,20 @@ pub struct Checkpoint {
     pub sentinel: u32,
 }
 
+// The record whose words are zero.
+const BLANK: Checkpoint = Checkpoint {
+    opens: 0,
+    depth: 0,
+    size: 0,
+    references: 0,
+    prefix_bytes: 0,
+    sentinel: 0,
+};
+
 // The first n records become zero.
 pub fn clear_first(checkpoints: &mut [Checkpoint], n: usize)
     requires { n ≤ length checkpoints.old }
     ensures { checkpoints.new ≡ replicate n blank ++ drop n checkpoints.old }
 {
-    let zero = Checkpoint {
-        opens: 0,
-        depth: 0,
-        size: 0,
-        references: 0,
-        prefix_bytes: 0,
-        sentinel: 0,
-    };
-    let mut i = 0;
-    while i < n {
-        checkpoints[i] = zero;
-        i = i + 1;
-    }
+    checkpoints[..n].fill(BLANK);
 }

@@ -3,6 +3,7 @@
 
 pub mod checkpoints;
 pub mod progress;
+pub mod step_error;
 pub mod step_records;
 
 ghost use Rattle.std.specs.Prelude.{◌≡◌, List, ◌<◌};
@@ -14,6 +15,7 @@ pub use checkpoints::Checkpoint;
 use file_parts::NextStep;
 use progress::Progress;
 pub use progress::StepAnswer;
+pub use step_error::StepError;
 
 // The checkpoint record that the next step takes and stores; while a quote is open, that of its add.
 pub fn slot_of(file: &[u8], p: Progress) -> usize

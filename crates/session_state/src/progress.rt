@@ -1,10 +1,12 @@
 // Where a session stands between two steps, and how an add, an undo and a refusal move it.
 ghost use Rattle.std.specs.Prelude.{◌≡◌, ◌<◌};
+ghost use Rattle.session_state.specs.Errors.{number_in};
 ghost use Rattle.session_state.specs.Moves.{refused_at, moved_to, after_outcome, counts_in, undone_at, stopped_at, with_quote, refusal_of};
 
 use crate::checkpoints::Checkpoint;
+use crate::step_error;
+use crate::step_error::StepError;
 use path::Measure;
-use words::wide;
 use write_counts::Counts;
 use write_place::{Outcome, Place};
 
@@ -39,31 +41,27 @@ pub struct StepAnswer {
 fn refuse(p: Progress, number: u32) -> Progress
     ensures { result ≡ refused_at p number }
 {
-    let mut next = p;
-    next.number = number;
-    next.done = true;
-    next
+    Progress {
+        number,
+        done: true,
+        ..p
+    }
 }
 
 // Where the writer stands after an add.
 fn moved(p: Progress, q: Place, adds: usize, finished: bool) -> Progress
     ensures { result ≡ moved_to p q adds finished }
 {
-    let counts = q.counts;
-    let measure = p.measure;
     Progress {
-        at: p.at,
-        steps: p.steps,
         adds,
         opens: q.opens,
         depth: q.depth,
-        counts,
+        counts: q.counts,
         finished,
         number: 0,
         done: false,
-        forgets: p.forgets,
         quoted: false,
-        measure,
+        ..p
     }
 }
 
@@ -83,9 +81,7 @@ pub fn after_outcome(p: Progress, o: Outcome) -> Progress
 pub fn with_quote(p: Progress, quoted: bool) -> Progress
     ensures { result ≡ with_quote p quoted }
 {
-    let mut next = p;
-    next.quoted = quoted;
-    next
+    Progress { quoted, ..p }
 }
 
 // Where the session stands after a refused add q, or after a quote of it: then where it stood before.
@@ -103,9 +99,9 @@ fn counts_in(c: Checkpoint) -> Counts
     ensures { result ≡ counts_in c }
 {
     Counts {
-        size: wide(c.size),
-        references: wide(c.references),
-        prefix_bytes: wide(c.prefix_bytes),
+        size: c.size as usize,
+        references: c.references as usize,
+        prefix_bytes: c.prefix_bytes as usize,
     }
 }
 
@@ -113,21 +109,20 @@ fn counts_in(c: Checkpoint) -> Counts
 pub fn undone(p: Progress, number: usize, c: Checkpoint) -> Progress
     ensures { result ≡ undone_at p c number }
 {
-    let counts = counts_in(c);
     let place = Place {
-        opens: wide(c.opens),
-        depth: wide(c.depth),
-        counts,
+        opens: c.opens as usize,
+        depth: c.depth as usize,
+        counts: counts_in(c),
     };
     moved(p, place, number, false)
 }
 
-// The run ends with a number, and the checkpoint record stays.
-pub fn stop(p: Progress, number: u32, c: Checkpoint) -> StepAnswer
-    ensures { result ≡ stopped_at p number c }
+// The run ends, and the checkpoint record stays.
+pub fn stop(p: Progress, end: Result<(), StepError>, c: Checkpoint) -> StepAnswer
+    ensures { result ≡ stopped_at p (number_in end) c }
 {
     StepAnswer {
-        state: refuse(p, number),
+        state: refuse(p, step_error::number(end)),
         saved: c,
     }
 }

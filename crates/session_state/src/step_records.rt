@@ -2,6 +2,7 @@
 ghost use Rattle.std.specs.Prelude.{◌≡◌, ◌+◌, ◌-◌, ◌*◌, ◌^◌, ◌≤◌, ◌<◌, min, length};
 ghost use Rattle.std.proofs.Math.Seq.{paste};
 ghost use Rattle.words.specs.Words.{WORK};
+ghost use Rattle.session_state.specs.Errors.{number_in};
 ghost use Rattle.session_state.specs.Moves.{noted_at};
 ghost use Rattle.path.specs.Bytes.{bit};
 ghost use Rattle.write_counts.specs.Counts.{Bounded};
@@ -11,6 +12,7 @@ ghost use Rattle.session_state.specs.State.{low_slot};
 
 use crate::checkpoints::Checkpoint;
 use crate::progress::Progress;
+use crate::step_error::StepError;
 use write_counts::Counts;
 
 // The most adds on the present history.
@@ -23,20 +25,14 @@ const OUTPUT: usize = 65535;
 pub fn within(n: usize) -> usize
     ensures { (result < 16) × (result ≡ low_slot n) }
 {
-    if n < ADDS {
-        return n;
-    }
-    0
+    if n < ADDS { n } else { 0 }
 }
 
 // The checkpoint record of the last add.
 pub fn last(adds: usize) -> usize
     ensures { (result < 16) × (result ≡ low_slot (adds - 1)) }
 {
-    if adds == 0 {
-        return 0;
-    }
-    within(adds - 1)
+    within(adds.saturating_sub(1))
 }
 
 // The checkpoint record of the present state.
@@ -59,11 +55,7 @@ fn word_of(size: usize, finished: bool) -> u32
     requires { size ≤ 65535 }
     ensures { result ≡ size * 2 + bit finished }
 {
-    let twice = size as u32 * 2;
-    if finished {
-        return twice + 1;
-    }
-    twice
+    size as u32 * 2 + u32::from(finished)
 }
 
 // The words of a finished step are written.
@@ -81,13 +73,12 @@ pub fn note(words: &mut [u32], p: Progress, next: usize) -> Progress
     requires { Noting words.old p }
     ensures { (words.new ≡ noted_words words.old p) × (result ≡ noted_at p next) }
 {
-    let steps = p.steps;
-    let counts = p.counts;
-    tell(words, 3 * steps, counts, p.finished);
-    let mut noted = p;
-    noted.at = next;
-    noted.steps = steps + 1;
-    noted
+    tell(words, 3 * p.steps, p.counts, p.finished);
+    Progress {
+        at: next,
+        steps: p.steps + 1,
+        ..p
+    }
 }
 
 // A restore: the sentinel's entry of a checkpoint record. One that was not there stays as it is.
@@ -95,33 +86,27 @@ pub fn bring_entry(work: &mut [u32], c: Checkpoint)
     requires { WORK ≤ length work.old }
     ensures { work.new ≡ with_entry work.old c.sentinel }
 {
-    let entry = c.sentinel;
-    if entry != 0 {
-        work[work_layout::SENTINEL_ENTRY] = entry;
-        return;
+    if c.sentinel != 0 {
+        work[work_layout::SENTINEL_ENTRY] = c.sentinel;
     }
 }
 
-// The question that an add gets no for: 9 in a finished session, 10 after sixteen adds; or 0.
-pub fn question(ended: bool, adds: usize) -> u32
-    ensures { result ≡ question_of ended adds }
+// Questions 9 and 10 of an add: no in a finished session, and after sixteen adds.
+pub fn question(ended: bool, adds: usize) -> Result<(), StepError>
+    ensures { number_in result ≡ question_of ended adds }
 {
     if ended {
-        return 9;
+        Err(StepError::Finished)
+    } else if adds >= ADDS {
+        Err(StepError::TooManyAdds)
+    } else {
+        Ok(())
     }
-    if adds >= ADDS {
-        return 10;
-    }
-    0
 }
 
 // The bytes of output that are used.
 pub fn space_of(output: &[u8]) -> usize
     ensures { result ≡ min (length output.now) 65535 }
 {
-    let n = output.len();
-    if n < OUTPUT {
-        return n;
-    }
-    OUTPUT
+    output.len().min(OUTPUT)
 }

@@ -28,6 +28,9 @@ use Rattle.write_counts.specs.Counts.{Bounded}
 use Rattle.session_state.specs.Stored.{Noting, noted_words, record_of}
 use Rattle.session_state.specs.Moves.{noted_at, with_quote, after_outcome, refusal_of, stopped_at}
 use Rattle.session_state.specs.Questions.{question_of}
+use Rattle.session_state.specs.Errors.{number_of}
+use Rattle.session_state.specs.declared.step_error.StepError.{StepError}
+use Rattle.session_state.specs.declared.step_error.StepError.TheVariants.{Finished, TooManyAdds, NoSuchAdd, NoQuote}
 use Rattle.session_state.specs.State.{standing, waits, Underway, slot_for, add_of}
 use Rattle.session_state.specs.Steps.{Comes, Ready, Onward}
 use Rattle.session_steps.specs.Effects.{told_add, Adding, Added}
@@ -35,13 +38,20 @@ use Rattle.session_state.proofs.Runs.{run_ends, run_none_open, run_finished, run
 use Rattle.session_steps.proofs.Adding.{adding, added_on, added_off}
 use Rattle.session_state.proofs.Answers.{stands_on, stands_off, stops}
 
+-- No error has the number 0.
+not_0 : (error : StepError) → number_of error ≡ 0 → ⊥
+not_0 Finished e = omega (arith, e)
+not_0 TooManyAdds e = omega (arith, e)
+not_0 NoSuchAdd e = omega (arith, e)
+not_0 NoQuote e = omega (arith, e)
+
 pub bit_most : (b : Bool) → bit b ≤ 1
 bit_most true = omega arith
 bit_most false = omega arith
 
 -- Neither question gets no.
-pub not_asked : (p : Progress) {n : ℕ} → n ≡ question_of p.finished p.adds → n ≡ 0 → (p.finished ≡ false) × (p.adds < 16)
-not_asked p {n} e z = go p.finished refl (ltb p.adds 16) refl (sym z ∙ e)
+pub not_asked : (p : Progress) → ◌≡◌ {A = ℕ} 0 (question_of p.finished p.adds) → (p.finished ≡ false) × (p.adds < 16)
+not_asked p e = go p.finished refl (ltb p.adds 16) refl e
   where
     go : (b : Bool) → p.finished ≡ b → (d : Bool) → ltb p.adds 16 ≡ d → ◌≡◌ {A = ℕ} 0 (cond b 9 (cond d 0 10)) → (p.finished ≡ false) × (p.adds < 16)
     go true fin d m q = absurd (omega (arith, q))
@@ -91,13 +101,13 @@ module _ {input : List ℕ} {f : File} {w words out : List ℕ} {p : Progress} {
         (u.present.waiting ∙ ap (λ (b : Bool). waits b (todo_of f w p.opens)) fin) (omega (arith, u.history.long)))
 
     -- Both questions.
-    pub stops_asked : {n : ℕ} → n ≡ question_of p.finished p.adds → (n ≡ 0 → ⊥) → {a : StepAnswer} → a ≡ stopped_at p n c
+    pub stops_asked : (error : StepError) → number_of error ≡ question_of p.finished p.adds → {a : StepAnswer} → a ≡ stopped_at p (number_of error) c
         → Onward input f w words out p c w words out a
-    stops_asked {n} e nz {a} is = go p.finished refl (ltb p.adds 16) refl e
+    stops_asked error e {a} is = go p.finished refl (ltb p.adds 16) refl e
       where
-        go : (b : Bool) → p.finished ≡ b → (d : Bool) → ltb p.adds 16 ≡ d → n ≡ cond b 9 (cond d 0 10) → Onward input f w words out p c w words out a
+        go : (b : Bool) → p.finished ≡ b → (d : Bool) → ltb p.adds 16 ≡ d → number_of error ≡ cond b 9 (cond d 0 10) → Onward input f w words out p c w words out a
         go true fin d m q = stops_9 a (is ∙ ap (λ (x : ℕ). stopped_at p x c) q) fin
-        go false fin true m q = absurd (nz q)
+        go false fin true m q = absurd (not_0 error q)
         go false fin false m q = stops_10 a (is ∙ ap (λ (x : ℕ). stopped_at p x c) q) fin (ltb-false p.adds 16 m)
 
     module _ (free : (p.finished ≡ false) × (p.adds < 16)) where

@@ -15,7 +15,7 @@ use allocator::NodePtr;
 use cache_undo::{cache_copy, undo_state};
 use file_parts::NextStep;
 use session_state::progress::Progress;
-use session_state::{Checkpoint, StepAnswer, progress, step_records};
+use session_state::{Checkpoint, StepAnswer, StepError, progress, step_records};
 use write_place::Place;
 
 // The state before an add is saved: open pairs, stack and marks, and the tree cache where a step of the file forgets or quotes.
@@ -36,14 +36,12 @@ fn add(file: &[u8], work: &mut [u32], output: &mut [u8], p: Progress, node: Node
 {
     save_state(work, p);
     cache_update::update(work, node);
-    let counts = p.counts;
-    let measure = p.measure;
     let place = Place {
         opens: p.opens,
         depth: p.depth,
-        counts,
+        counts: p.counts,
     };
-    let o = write_loop::resume(work, file, output, place, node, measure);
+    let o = write_loop::resume(work, file, output, place, node, p.measure);
     progress::after_outcome(p, o)
 }
 
@@ -65,9 +63,8 @@ fn add_step(
     ensures { Onward file.now (the_file file.now) work.old words.old
         output.old p c work.new words.new output.new result }
 {
-    let number = step_records::question(p.finished, p.adds);
-    if number != 0 {
-        return progress::stop(p, number, c);
+    if let Err(error) = step_records::question(p.finished, p.adds) {
+        return progress::stop(p, Err(error), c);
     }
     let saved = step_records::record_of(work, p);
     let q = add(file, work, output, p, node);
@@ -112,8 +109,8 @@ pub fn core_step(
         NextStep::Quote { node, next } => {
             add_step(file, work, words, output, p, node, true, next, c)
         }
-        NextStep::Take { next: _ } => progress::stop(p, 17, c),
-        NextStep::End => progress::stop(p, 0, c),
+        NextStep::Take { next: _ } => progress::stop(p, Err(StepError::NoQuote), c),
+        NextStep::End => progress::stop(p, Ok(()), c),
     }
 }
 

@@ -7,7 +7,7 @@ ghost use Rattle.session_steps.specs.undo_step.Effects.{Brings, CacheBack, Undoi
 
 use cache_undo::cache_copy;
 use session_state::progress::Progress;
-use session_state::{Checkpoint, StepAnswer, progress, step_records};
+use session_state::{Checkpoint, StepAnswer, StepError, progress, step_records};
 
 // What an undo does to the tree cache: a forget puts back that of copy `number`, a restore the sentinel's entry alone. Entries are not freed by a restore.
 fn bring_cache(work: &mut [u32], number: usize, forgets: bool, c: Checkpoint)
@@ -50,7 +50,7 @@ pub fn undo_step(
 {
     let n = number as usize;
     if n >= p.adds {
-        return progress::stop(p, 11, c);
+        return progress::stop(p, Err(StepError::NoSuchAdd), c);
     }
     undo(work, p.depth, n, forgets, c);
     let q = progress::undone(p, n, c);

@@ -18,31 +18,3 @@ resume-o-requires c =
     let saved = updated in
     let sv = saved.save_state in
     resume_asks saved.requires sv.auto.work sv.ensures updated.update.ensures
-
-pub shape_of-work : goal.shape_of-work
-shape_of-work c =
-    let resumed = c in
-    let updated = resumed in
-    let saved = updated in
-    resumed.resume-o.auto.work ∙ updated.update.auto.work ∙ saved.save_state.auto.work
-
-pub returns : goal.returns
-returns c =
-    let resumed = c in
-    let updated = resumed in
-    let re = resumed.resume-o in
-    let up = updated.update in
-    let sv = updated.save_state in
-    record {
-      saved_words = sv.new.work;
-      updated_words = up.new.work;
-      outcome = re.result;
-      saved = sv.ensures;
-      saved_long = sv.auto.work;
-      updated = up.ensures;
-      updated_long = up.auto.work ∙ sv.auto.work;
-      resumed = re.ensures;
-      long = re.auto.work ∙ up.auto.work ∙ sv.auto.work;
-      out_long = re.auto.output;
-      is = c.after_outcome.ensures;
-    }

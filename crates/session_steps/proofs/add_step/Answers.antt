@@ -3,50 +3,23 @@
 use Prim.Native.Nat.{◌<◌}
 use mathlib.Core.Path.{◌≡◌}
 use mathlib.Core.Bool.{false}
-use borrow.Author.Rules.{rules}
 use Rattle.session_steps.proofs.Answers as answers
 use Rattle.session_steps.proofs.add_step.Goals as goal
 
-pub returns-then-number-ne0 : goal.returns-then-number-ne0
-returns-then-number-ne0 c =
-    let asked = c in
-    let s = asked in
-    answers.stops_asked s.requires.0 s.requires.1 s.args.quotes s.args.node s.args.next s.requires.2 asked.question-number.ensures c.if-number-ne0.true c.stop.ensures
-
-pub add-q-requires : goal.add-q-requires
-add-q-requires c =
-    let free : let p = c.args.p in (p.finished ≡ false) × (p.adds < 16) =
-    answers.not_asked c.args.p c.question-number.ensures c.if-number-ne0.false in
-    let test = c in
-    let s = test in
-    answers.add_asks s.requires.0 s.requires.1 s.args.quotes s.args.node s.args.next s.requires.2 free
+pub returns-in-Err : goal.returns-in-Err
+returns-in-Err c =
+    let a = c.args in
+    answers.stops_asked c.requires.0 c.requires.1 a.quotes a.node a.next c.requires.2 c.in-Err.error c.in-Err.ensures c.stop.ensures
 
 pub returns-then-q : goal.returns-then-q
 returns-then-q c =
-    let free : let p = c.args.p in (p.finished ≡ false) × (p.adds < 16) =
-    answers.not_asked c.args.p c.question-number.ensures c.if-number-ne0.false in
-    let added = c in
-    let s = added in
-    answers.adds_off s.requires.0 s.requires.1 s.args.quotes s.args.node s.args.next s.requires.2 free added.add-q.ensures _
-    c.if-q.true c.refusal_of-state.ensures
-
-pub note-requires : goal.note-requires
-note-requires c =
-    let free : let p = c.args.p in (p.finished ≡ false) × (p.adds < 16) =
-    answers.not_asked c.args.p c.question-number.ensures c.if-number-ne0.false in
-    let added = c in
-    let s = added in
-    answers.note_asks s.requires.0 s.requires.1 s.args.quotes s.args.node s.args.next s.requires.2 free added.add-q.ensures
-    c.if-q.false c.with_quote-kept.ensures
+    let a = c.args in
+    let free : (a.p.finished ≡ false) × (a.p.adds < 16) = answers.not_asked a.p c.in_default.ensures in
+    answers.adds_off c.requires.0 c.requires.1 a.quotes a.node a.next c.requires.2 free c.add-q.ensures _ c.if-q.true c.refusal_of-state.ensures
 
 pub returns : goal.returns
 returns c =
-    let free : let p = c.args.p in (p.finished ≡ false) × (p.adds < 16) =
-    answers.not_asked c.args.p c.question-number.ensures c.if-number-ne0.false in
-    let note = c.note in
-    let kept = c in
-    let on = kept in
-    let added = on in
-    let s = added in
-    answers.adds_on s.requires.0 s.requires.1 s.args.quotes s.args.node s.args.next s.requires.2 free added.add-q.ensures
-    added.record_of-saved.ensures on.if-q.false kept.with_quote-kept.ensures note.ensures.0 note.ensures.1
+    let a = c.args in
+    let free : (a.p.finished ≡ false) × (a.p.adds < 16) = answers.not_asked a.p c.in_default.ensures in
+    answers.adds_on c.requires.0 c.requires.1 a.quotes a.node a.next c.requires.2 free c.add-q.ensures
+    c.record_of-saved.ensures c.if-q.false c.with_quote-kept.ensures c.note.ensures.0 c.note.ensures.1

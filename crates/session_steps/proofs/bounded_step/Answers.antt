@@ -4,9 +4,6 @@ use borrow.Author.Rules.{rules}
 use Rattle.session_steps.proofs.Bounds.{used_many, used_ready, used_onward}
 use Rattle.session_steps.proofs.bounded_step.Goals as goal
 
-pub slice_bounds-core_step-end-2 : goal.slice_bounds-core_step-end-2
-slice_bounds-core_step-end-2 c = let known = c in used_many known.args.output.now known.space_of-space.ensures
-
 pub core_step-requires : goal.core_step-requires
 core_step-requires c =
     let known = c in

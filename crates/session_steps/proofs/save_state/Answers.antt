@@ -17,9 +17,3 @@ returns-then-p c =
     let sv = c in
     let s = sv in
     saved_both s.args.p s.requires.0 sv.save.auto.work sv.save.ensures c.save-then-p.ensures
-
-pub returns-else-p : goal.returns-else-p
-returns-else-p c =
-    let sv = c.save in
-    let s = c in
-    saved_one s.args.p s.requires.0 sv.auto.work sv.ensures c.if-p.false

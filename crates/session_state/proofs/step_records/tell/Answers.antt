@@ -15,23 +15,8 @@ stored l i a b c h =
     let two : i + 2 ≡ suc (suc i) = omega arith in
     (λ j. set (set (set l i a) (one j) b) (two j) c) ∙ sets-eq (a ∷ b ∷ c ∷ []) l i h
 
-pub bounds-words-at-2 : goal.bounds-words-at-2
-bounds-words-at-2 c =
-    let a = c.args in
-    omega (arith, length-set a.words.now a.at c.word_of.result)
-
-pub bounds-words-at-3 : goal.bounds-words-at-3
-bounds-words-at-3 c =
-    let a = c.args in
-    omega (
-      arith,
-      length-set (set a.words.now a.at c.word_of.result) (a.at + 1) a.counts.references,
-      length-set a.words.now a.at c.word_of.result,
-    )
-
 pub returns : goal.returns
 returns c =
-    let s = c in
-    let a = s.args in
+    let a = c.args in
     ap (λ (v : ℕ). set (set (set a.words.now a.at v) (a.at + 1) a.counts.references) (a.at + 2) a.counts.prefix_bytes) c.word_of.ensures
-    ∙ stored a.words.now a.at _ a.counts.references a.counts.prefix_bytes s.requires.0
+    ∙ stored a.words.now a.at _ a.counts.references a.counts.prefix_bytes c.requires.0

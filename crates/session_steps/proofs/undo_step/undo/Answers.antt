@@ -9,9 +9,3 @@ restore-requires c =
     let br = c in
     let s = br in
     restore_asks s.args.forgets s.requires br.bring_cache.auto.work br.bring_cache.ensures
-
-pub returns : goal.returns
-returns c =
-    let re = c.restore in
-    let br = c.bring_cache in
-    record { cache_words = br.new.work; cache_long = br.auto.work; cache = br.ensures; restored = re.ensures }
