@@ -1,43 +1,13 @@
--- The first step of those that are left, and the record that it takes; lists read by number.
+-- Lists read by number.
 -- Assumes nothing.
 use Prim.Native.Nat.{ℕ, zero, suc, ◌≤◌, ◌<◌}
-use mathlib.Core.Path.{◌≡◌, refl, sym, ap, ◌∙◌}
-use mathlib.Core.Bool.{Bool, false}
+use mathlib.Core.Path.{◌≡◌, refl}
 use mathlib.Core.List.{List, [], ◌∷◌}
 use mathlib.Core.Option.{none, some}
 use native.Mathlib.Omega.{arith}
 use lib.ListN.{length, take}
 use Rattle.words.specs.Choice.{clash}
-use Rattle.file_parts.specs.declared.session_file.NextStep.{NextStep}
-use Rattle.file_parts.specs.declared.session_file.NextStep.TheVariants as next_step
-use Rattle.spec_session.specs.File.{Step}
-use Rattle.file_parts.specs.Loaded.{FirstStep}
 use Rattle.spec_session.specs.Trees.{nth}
-use Rattle.session_state.specs.State.{low_slot, slot_for}
-
-abbrev pub slot_of_next : NextStep → ℕ → ℕ
-slot_of_next (next_step.Add node next) adds = low_slot adds
-slot_of_next (next_step.Restore number next) adds = low_slot number
-slot_of_next (next_step.Forget number next) adds = low_slot number
-slot_of_next (next_step.Quote node next) adds = low_slot adds
-slot_of_next (next_step.Take next) adds = 0
-slot_of_next next_step.End adds = 0
-
-pub slot_first : (input : List ℕ) (ss : List Step) (r : NextStep) (adds : ℕ) → FirstStep input ss r → slot_of_next r adds ≡ slot_for false ss adds
-slot_first input ss (next_step.Add node next) adds h = rw h.1 refl
-slot_first input ss (next_step.Restore number next) adds h = rw h.1 refl
-slot_first input ss (next_step.Forget number next) adds h = rw h.1 refl
-slot_first input ss (next_step.Quote node next) adds h = rw h.1 refl
-slot_first input ss (next_step.Take next) adds h = rw h.1 refl
-slot_first input ss next_step.End adds h = rw h refl
-
--- The record that the first step takes, from the answer that tells the step.
-pub slot_told : (input : List ℕ) (at adds k : ℕ) (r q : NextStep) (P : List Step → Type 0) → ((ss : List Step) → P ss → FirstStep input ss r) → r ≡ q
-    → k ≡ slot_of_next q adds → (b : Bool) → b ≡ false → (ss : List Step) → P ss → k ≡ slot_for b ss adds
-slot_told input at adds k r q P h e m b z ss s =
-    m ∙ ap (λ (x : NextStep). slot_of_next x adds) (sym e) ∙ slot_first input ss r adds (h ss s) ∙ ap (λ (x : Bool). slot_for x ss adds) (sym z)
-
--- ---- lists read by number
 
 pub nth_low : {A : Type 0} (xs : List A) (k : ℕ) (x : A) → nth xs k ≡ some x → k < length xs
 nth_low [] k x e = clash cc

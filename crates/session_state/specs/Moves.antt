@@ -1,10 +1,12 @@
 -- Where a session stands after each move: a refusal, a finished step, an add, a quote, an undo.
-use Rattle.std.specs.Prelude.{ℕ, ◌+◌, Bool, true, false}
+use Rattle.std.specs.Prelude.{ℕ, ◌+◌, Bool, true, false, Result, Ok, Err}
 use Rattle.session_state.specs.declared.checkpoints.Checkpoint.{Checkpoint}
 use Rattle.write_counts.specs.declared.Counts.{Counts}
 use Rattle.write_place.specs.declared.Place.{Place}
 use Rattle.write_place.specs.declared.Outcome.{Outcome}
 use Rattle.write_place.specs.declared.Outcome.TheVariants as outcome
+use Rattle.write_place.specs.declared.Refused.{Refused}
+use Rattle.write_place.specs.Numbers.{question_of}
 use Rattle.session_state.specs.declared.progress.Progress.{Progress}
 use Rattle.session_state.specs.declared.progress.StepAnswer.{StepAnswer}
 
@@ -81,10 +83,10 @@ with_quote p b =
     }
 
 -- The progress after an add.
-abbrev pub after_outcome : Progress → Outcome → Progress
-after_outcome p (outcome.Done q) = moved_to p q (p.adds + 1) true
-after_outcome p (outcome.Stopped q) = moved_to p q (p.adds + 1) false
-after_outcome p (outcome.Refused n q) = refused_at (moved_to p q p.adds false) n
+abbrev pub after_outcome : Progress → Result Outcome Refused → Progress
+after_outcome p (Ok (outcome.Done q)) = moved_to p q (p.adds + 1) true
+after_outcome p (Ok (outcome.Stopped q)) = moved_to p q (p.adds + 1) false
+after_outcome p (Err r) = refused_at (moved_to p r.place p.adds false) (question_of r.error)
 
 -- The progress p before an add that is refused, and q after it: a quote of it leaves the one before.
 abbrev pub refusal_of : (quotes : Bool) → (p q : Progress) → Progress

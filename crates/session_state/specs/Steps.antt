@@ -1,5 +1,5 @@
 -- What a step takes and leaves, in the terms of the states.
-use Rattle.std.specs.Prelude.{ℕ, ◌+◌, ◌*◌, ◌<◌, ◌≡◌, Bool, true, false, not, List, get_or, set}
+use Rattle.std.specs.Prelude.{ℕ, ◌+◌, ◌*◌, ◌<◌, ◌≡◌, Bool, true, false, not, List, get_or, set, Option, Some}
 use Rattle.session_state.specs.Records.{blank}
 use Rattle.session_state.specs.declared.checkpoints.Checkpoint.{Checkpoint}
 use Rattle.path.specs.declared.Measure.{Measure}
@@ -7,20 +7,20 @@ use Rattle.spec_session.specs.File.{File, Step}
 use Rattle.spec_session.specs.Places.{StepsAt}
 use Rattle.file_parts.specs.Loaded.{FirstStep}
 use Rattle.file_parts.specs.declared.session_file.NextStep.{NextStep}
-use Rattle.file_parts.specs.declared.session_file.NextStep.TheVariants as next_step
+use Rattle.file_parts.specs.declared.session_file.Step.TheVariants as code
 use Rattle.session_state.specs.declared.progress.Progress.{Progress}
 use Rattle.session_state.specs.declared.progress.StepAnswer.{StepAnswer}
 use Rattle.path.specs.Bytes.{bit}
 use Rattle.session_state.specs.State.{Underway, Stands, slot_for}
 
 -- The step at a place of the file.
-abbrev pub Comes : (input : List ℕ) (place : ℕ) → NextStep → Type 0
+abbrev pub Comes : (input : List ℕ) (place : ℕ) → Option NextStep → Type 0
 Comes input place r = (ss : List Step) → StepsAt input place ss → FirstStep input ss r
 
 -- An undo at a place of the file.
-abbrev pub told_undo : (forgets : Bool) → (number next : ℕ) → NextStep
-told_undo false n next = next_step.Restore n next
-told_undo true n next = next_step.Forget n next
+abbrev pub told_undo : (forgets : Bool) → (number next : ℕ) → Option NextStep
+told_undo false n next = Some (record { step = code.Restore n; next = next })
+told_undo true n next = Some (record { step = code.Forget n; next = next })
 
 -- A run under way, and the record that its next step takes.
 pub record Ready (input : List ℕ) (f : File) (w words out : List ℕ) (p : Progress) (c : Checkpoint) : Type 0 where

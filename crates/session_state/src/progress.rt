@@ -8,13 +8,13 @@ use crate::step_error;
 use crate::step_error::StepError;
 use path::Measure;
 use write_counts::Counts;
-use write_place::{Outcome, Place};
+use write_place::{Outcome, Place, Refused};
 
 // Where a session stands: the next step's place in the file, the finished steps, the adds on the present history, the open pairs, the depth of the stack,
 // what is counted of the items written, and whether the session is finished. The run is done at the end of the file, with number 0, or where a question
 // gets no. `forgets` says whether a step of the file is a forget or a quote: then each add saves the tree cache too. While a quote is open (`quoted`) its
 // add stands as the last one of the history, until it is taken or dropped. `measure` is that of the call, and stays.
-#[derive(Clone, Copy)]
+#[derive(Clone, Copy, Debug, PartialEq, Eq)]
 pub struct Progress {
     pub at: usize,
     pub steps: usize,
@@ -31,18 +31,18 @@ pub struct Progress {
 }
 
 // After a step: where the session stands, and the checkpoint record to store.
-#[derive(Clone, Copy)]
+#[derive(Clone, Copy, Debug, PartialEq, Eq)]
 pub struct StepAnswer {
     pub state: Progress,
     pub saved: Checkpoint,
 }
 
-// The run ends with a number, 0 for none.
-fn refuse(p: Progress, number: u32) -> Progress
-    ensures { result ≡ refused_at p number }
+// The run ends, at the end of the file or with an error.
+fn ended(p: Progress, end: Result<(), StepError>) -> Progress
+    ensures { result ≡ refused_at p (number_in end) }
 {
     Progress {
-        number,
+        number: step_error::number(end),
         done: true,
         ..p
     }
@@ -66,14 +66,14 @@ fn moved(p: Progress, q: Place, adds: usize, finished: bool) -> Progress
 }
 
 // Where the session stands after an add. A refused one counts the whole items that it wrote.
-pub fn after_outcome(p: Progress, o: Outcome) -> Progress
+pub fn after_outcome(p: Progress, o: Result<Outcome, Refused>) -> Progress
     requires { p.adds < 16 }
     ensures { result ≡ after_outcome p o }
 {
     match o {
-        Outcome::Done(q) => moved(p, q, p.adds + 1, true),
-        Outcome::Stopped(q) => moved(p, q, p.adds + 1, false),
-        Outcome::Refused(n, q) => refuse(moved(p, q, p.adds, false), n),
+        Ok(Outcome::Done(q)) => moved(p, q, p.adds + 1, true),
+        Ok(Outcome::Stopped(q)) => moved(p, q, p.adds + 1, false),
+        Err(r) => ended(moved(p, r.place, p.adds, false), Err(r.error.into())),
     }
 }
 
@@ -89,9 +89,14 @@ pub fn refusal_of(p: Progress, q: Progress, quotes: bool) -> Progress
     ensures { result ≡ refusal_of quotes p q }
 {
     if quotes {
-        return refuse(p, q.number);
+        Progress {
+            number: q.number,
+            done: true,
+            ..p
+        }
+    } else {
+        q
     }
-    q
 }
 
 // What was counted, as a checkpoint record has it.
@@ -122,7 +127,7 @@ pub fn stop(p: Progress, end: Result<(), StepError>, c: Checkpoint) -> StepAnswe
     ensures { result ≡ stopped_at p (number_in end) c }
 {
     StepAnswer {
-        state: refuse(p, step_error::number(end)),
+        state: ended(p, end),
         saved: c,
     }
 }

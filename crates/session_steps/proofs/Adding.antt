@@ -41,6 +41,9 @@ use Rattle.write_loop.specs.Effects.{place_of, Fine, goes_on, comes_to, Leads, T
 use Rattle.write_loop.proofs.write_turn.Frames.{todo_same, rights_same, pairs_few}
 use Rattle.write_place.specs.declared.Place.{Place}
 use Rattle.write_place.specs.declared.Outcome.{Outcome}
+use Rattle.write_place.specs.declared.Refused.{Refused}
+use Rattle.write_place.specs.Numbers.{question_of}
+use Rattle.std.specs.Prelude.{Result, Ok, Err}
 use Rattle.write_place.specs.declared.Outcome.TheVariants as outcome
 use Rattle.session_state.specs.declared.progress.Progress.{Progress}
 use Rattle.path.specs.Bytes.{bit}
@@ -219,8 +222,8 @@ module _ {measure : Measure} {input : List ℕ} {f : File} {w words : List ℕ} 
   atoms₂ = atoms_kept w w₂ (low₂ ad a.saved_long a.saved a.updated) few_atoms input f u.stocked.tables u.stocked.atoms_there
 
   -- What was written, by the measure of the run.
-  resumed : Turns measure input w₂ w' out out' (next_turn.Parse (place_at p) node) (ended a.outcome)
-  resumed = subst (λ (x : Measure). Turns x input w₂ w' out out' (next_turn.Parse (place_at p) node) (ended a.outcome)) u.measure_is a.resumed
+  resumed : Turns measure input w₂ w' out out' (Ok (next_turn.Parse (place_at p) node)) (ended a.outcome)
+  resumed = subst (λ (x : Measure). Turns x input w₂ w' out out' (Ok (next_turn.Parse (place_at p) node)) (ended a.outcome)) u.measure_is a.resumed
 
   meant : Leads measure f c₂ (length out) w' out' (ended a.outcome) (goes_on measure c₂ (length out) (writer.parse (unfolded f h) ∷ todo_of f w₂ p.opens) s.written)
   meant =
@@ -290,7 +293,7 @@ module _ {measure : Measure} {input : List ℕ} {f : File} {w words : List ℕ} 
       go true = refl
 
   -- What the definitions' add comes to.
-  abbrev outcome_of : Outcome → writer.Added
+  abbrev outcome_of : Result Outcome Refused → writer.Added
   outcome_of o = settle s c₂ (comes_to measure f c₂ (length out) w' (ended o) meant.last)
 
   adds : add_handle (measure_of measure) (length out') f h s ≡ outcome_of a.outcome
@@ -345,7 +348,7 @@ module _ {measure : Measure} {input : List ℕ} {f : File} {w words : List ℕ} 
   abbrev after : Option (List Todo) → Session
   after k = record { cache = c₂; waiting = k; written = meant.last }
 
-  abbrev WritesTo : Outcome → Type 0
+  abbrev WritesTo : Result Outcome Refused → Type 0
   WritesTo o = Writes f w' out' (place_of (ended o)).depth (place_of (ended o)).counts c₂ meant.last
 
   named_rest : All (StepNamed (length f.atoms) (length f.pairs)) rest
@@ -369,29 +372,29 @@ module _ {measure : Measure} {input : List ℕ} {f : File} {w words : List ℕ} 
       (tried_went measure (length out') f u.past s b h (after k) (λ y. run_steps (measure_of measure) (length out') f rest y)))
       ws u.measure_is
 
-  on : (o : Outcome) → Fine w' out' (ended o) → WritesTo o → p.counts.size ≤ (place_of (ended o)).counts.size → add_handle (measure_of measure) (length out') f h s ≡ outcome_of o
+  on : (o : Result Outcome Refused) → Fine w' out' (ended o) → WritesTo o → p.counts.size ≤ (place_of (ended o)).counts.size → add_handle (measure_of measure) (length out') f h s ≡ outcome_of o
       → (after_outcome p o).done ≡ false → (words' : List ℕ)
       → words' ≡ noted_words words (after_outcome p o)
       → Underway measure input f w' words' rows' out' (noted_at (with_quote (after_outcome p o) b) next)
-  on (outcome.Done pl) ends writes longer is d words' ws =
+  on (Ok (outcome.Done pl)) ends writes longer is d words' ws =
       going pl true none (record { running = ends.0; writes = writes; waiting = refl }) longer is words' ws
-  on (outcome.Stopped pl) ends writes longer is d words' ws =
+  on (Ok (outcome.Stopped pl)) ends writes longer is d words' ws =
       going pl false (some (todo_of f w' pl.opens)) (record { running = ends; writes = writes; waiting = refl }) longer is words' ws
-  on (outcome.Refused n pl) ends writes longer is d words' ws = clash cc
+  on (Err r) ends writes longer is d words' ws = clash cc
 
-  off : (o : Outcome) → WritesTo o → add_handle (measure_of measure) (length out') f h s ≡ outcome_of o → (after_outcome p o).done ≡ true
+  off : (o : Result Outcome Refused) → WritesTo o → add_handle (measure_of measure) (length out') f h s ≡ outcome_of o → (after_outcome p o).done ≡ true
       → Ended measure f words out' (refusal_of b p (after_outcome p o))
-  off (outcome.Done pl) writes is d = clash cc
-  off (outcome.Stopped pl) writes is d = clash cc
-  off (outcome.Refused n pl) writes is d = go b (run _ is)
+  off (Ok (outcome.Done pl)) writes is d = clash cc
+  off (Ok (outcome.Stopped pl)) writes is d = clash cc
+  off (Err r) writes is d = go b (run _ is)
     where
       t : Session
       t = after s.waiting
 
       go : (c : Bool) → whole_run measure f (length out')
-          ≡ after_words p.steps (take (3 * p.steps) words) (after_step (after_tried c h (writer.turned_down n t) (standing u.past s))
+          ≡ after_words p.steps (take (3 * p.steps) words) (after_step (after_tried c h (writer.turned_down (question_of r.error) t) (standing u.past s))
           (λ y. run_steps (measure_of measure) (length out') f rest y))
-          → Ended measure f words out' (refusal_of c p (after_outcome p (outcome.Refused n pl)))
+          → Ended measure f words out' (refusal_of c p (after_outcome p (Err r)))
       go false to =
           record {
             session = t;
@@ -400,7 +403,7 @@ module _ {measure : Measure} {input : List ℕ} {f : File} {w words : List ℕ} 
             short = omega (arith, a.out_long, ad.running.short);
             few_steps = omega (arith, u.few_steps);
             many_words = u.many_words;
-            same = to ∙ words_ended p.steps (take (3 * p.steps) words) n t;
+            same = to ∙ words_ended p.steps (take (3 * p.steps) words) (question_of r.error) t;
           }
       go true to =
           record {
@@ -410,7 +413,7 @@ module _ {measure : Measure} {input : List ℕ} {f : File} {w words : List ℕ} 
             short = omega (arith, a.out_long, ad.running.short);
             few_steps = omega (arith, u.few_steps);
             many_words = u.many_words;
-            same = to ∙ words_ended p.steps (take (3 * p.steps) words) n s;
+            same = to ∙ words_ended p.steps (take (3 * p.steps) words) (question_of r.error) s;
           }
 
   -- An add that is not refused: its words are noted, and the run goes on.

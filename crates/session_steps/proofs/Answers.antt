@@ -15,11 +15,14 @@ use Rattle.allocator.specs.declared.NodePtr.{NodePtr}
 use Rattle.spec_session.specs.File.{File, Step}
 use Rattle.spec_session.specs.Places.{StepsAt}
 use Rattle.file_parts.specs.Loaded.{FirstStep}
-use Rattle.file_parts.specs.declared.session_file.NextStep.TheVariants as next_step
+use Rattle.file_parts.specs.declared.session_file.Step.TheVariants as code
+use Rattle.std.specs.Prelude.{Some, None, Result, Ok, Err}
 use Rattle.spec_session.specs.Steps.{run_steps}
 use Rattle.write_place.specs.State.{todo_of}
 use Rattle.write_loop.specs.Effects.{Fine, ended as ended_at}
 use Rattle.write_place.specs.declared.Outcome.{Outcome}
+use Rattle.write_place.specs.declared.Refused.{Refused}
+use Rattle.write_place.specs.declared.AddError.TheVariants.{TooManyOpen, OutputFull}
 use Rattle.write_place.specs.declared.Outcome.TheVariants as outcome
 use Rattle.session_state.specs.declared.progress.Progress.{Progress}
 use Rattle.session_state.specs.declared.progress.StepAnswer.{StepAnswer}
@@ -30,7 +33,7 @@ use Rattle.session_state.specs.Moves.{noted_at, with_quote, after_outcome, refus
 use Rattle.session_state.specs.Questions.{question_of}
 use Rattle.session_state.specs.Errors.{number_of}
 use Rattle.session_state.specs.declared.step_error.StepError.{StepError}
-use Rattle.session_state.specs.declared.step_error.StepError.TheVariants.{Finished, TooManyAdds, NoSuchAdd, NoQuote}
+use Rattle.session_state.specs.declared.step_error.StepError.TheVariants.{Finished, TooManyAdds, NoSuchAdd, Add, NoQuote}
 use Rattle.session_state.specs.State.{standing, waits, Underway, slot_for, add_of}
 use Rattle.session_state.specs.Steps.{Comes, Ready, Onward}
 use Rattle.session_steps.specs.Effects.{told_add, Adding, Added}
@@ -43,6 +46,8 @@ not_0 : (error : StepError) → number_of error ≡ 0 → ⊥
 not_0 Finished e = omega (arith, e)
 not_0 TooManyAdds e = omega (arith, e)
 not_0 NoSuchAdd e = omega (arith, e)
+not_0 (Add TooManyOpen) e = omega (arith, e)
+not_0 (Add OutputFull) e = omega (arith, e)
 not_0 NoQuote e = omega (arith, e)
 
 pub bit_most : (b : Bool) → bit b ≤ 1
@@ -60,14 +65,14 @@ not_asked p e = go p.finished refl (ltb p.adds 16) refl e
 
 module _ {input : List ℕ} {f : File} {w words out : List ℕ} {p : Progress} {c : Checkpoint} (ready : Ready input f w words out p c)
     (none_open : p.quoted ≡ false) where
-  pub stops_at_end : {a : StepAnswer} → a ≡ stopped_at p 0 c → Comes input p.at next_step.End → Onward input f w words out p c w words out a
+  pub stops_at_end : {a : StepAnswer} → a ≡ stopped_at p 0 c → Comes input p.at None → Onward input f w words out p c w words out a
   stops_at_end {a} is comes =
       stops input f w words out p c none_open 0 a is (λ measure rows u.
       let e = comes u.left u.steps_there in
       ap (λ (ss : List Step). run_steps (measure_of measure) (length out) f ss (standing u.past u.session)) e ∙ run_ends measure (length out) f u.past u.session)
 
   -- A taking with no quote open.
-  pub stops_17 : {next : ℕ} {a : StepAnswer} → a ≡ stopped_at p 17 c → Comes input p.at (next_step.Take next) → Onward input f w words out p c w words out a
+  pub stops_17 : {next : ℕ} {a : StepAnswer} → a ≡ stopped_at p 17 c → Comes input p.at (Some (record { step = code.Take; next = next })) → Onward input f w words out p c w words out a
   stops_17 {next} {a} is comes =
       stops input f w words out p c none_open 17 a is (λ measure rows u.
       let e = comes u.left u.steps_there in
@@ -118,19 +123,19 @@ module _ {input : List ℕ} {f : File} {w words out : List ℕ} {p : Progress} {
           adding quotes u e.1 free.0 free.1
 
       module _ {w' out' : List ℕ} {q : Progress} (ad : Added input w out w' out' p node q) where
-        steps_same : (o : Outcome) → (after_outcome p o).steps ≡ p.steps
-        steps_same (outcome.Done pl) = refl
-        steps_same (outcome.Stopped pl) = refl
-        steps_same (outcome.Refused n pl) = refl
+        steps_same : (o : Result Outcome Refused) → (after_outcome p o).steps ≡ p.steps
+        steps_same (Ok (outcome.Done pl)) = refl
+        steps_same (Ok (outcome.Stopped pl)) = refl
+        steps_same (Err r) = refl
 
         same_steps : q.steps ≡ p.steps
         same_steps = ap (λ (x : Progress). x.steps) ad.is ∙ steps_same ad.outcome
 
-        fits : (o : Outcome) → Fine w' out' (ended_at o) → (after_outcome p o).done ≡ false
+        fits : (o : Result Outcome Refused) → Fine w' out' (ended_at o) → (after_outcome p o).done ≡ false
             → ((after_outcome p o).counts.size ≤ 65535) × Bounded (after_outcome p o).counts
-        fits (outcome.Done pl) r d = (omega (arith, r.0.fits, r.0.short), r.0.bounded)
-        fits (outcome.Stopped pl) r d = (omega (arith, r.fits, r.short), r.bounded)
-        fits (outcome.Refused n pl) r d = clash cc
+        fits (Ok (outcome.Done pl)) r d = (omega (arith, r.0.fits, r.0.short), r.0.bounded)
+        fits (Ok (outcome.Stopped pl)) r d = (omega (arith, r.fits, r.short), r.bounded)
+        fits (Err r) f d = clash cc
 
         pub note_asks : q.done ≡ false → {k : Progress} → k ≡ with_quote q quotes → Noting words k
         note_asks d {k} is =

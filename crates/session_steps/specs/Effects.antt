@@ -1,9 +1,9 @@
 -- An add, or a quote of it: what it takes, and what it leaves.
-use Rattle.std.specs.Prelude.{ℕ, ◌+◌, ◌*◌, ◌≤◌, ◌<◌, ◌≡◌, Bool, true, false, List, length}
+use Rattle.std.specs.Prelude.{ℕ, ◌+◌, ◌*◌, ◌≤◌, ◌<◌, ◌≡◌, Bool, true, false, List, length, Option, Some, Result, Ok}
 use Rattle.words.specs.Words.{at}
 use Rattle.allocator.specs.declared.NodePtr.{NodePtr}
 use Rattle.file_parts.specs.declared.session_file.NextStep.{NextStep}
-use Rattle.file_parts.specs.declared.session_file.NextStep.TheVariants as next_step
+use Rattle.file_parts.specs.declared.session_file.Step.TheVariants as code
 use Rattle.work_layout.specs.Layout.{PAIR_COUNT, USED, ENTRIES}
 use Rattle.work_layout.specs.Rows.{all_counts}
 use Rattle.cache_undo.specs.undo_state.Effects.{Saved}
@@ -15,13 +15,14 @@ use Rattle.write_loop.specs.Effects.{Turns, ended}
 use Rattle.write_loop.specs.declared.write_turn.Next.TheVariants as next
 use Rattle.write_place.specs.declared.Place.{Place}
 use Rattle.write_place.specs.declared.Outcome.{Outcome}
+use Rattle.write_place.specs.declared.Refused.{Refused}
 use Rattle.session_state.specs.declared.progress.Progress.{Progress}
 use Rattle.session_state.specs.Moves.{after_outcome}
 
 -- An add at a place of the file, or a quote of it.
-abbrev pub told_add : (quotes : Bool) → NodePtr → (next : ℕ) → NextStep
-told_add false node next = next_step.Add node next
-told_add true node next = next_step.Quote node next
+abbrev pub told_add : (quotes : Bool) → NodePtr → (next : ℕ) → Option NextStep
+told_add false node next = Some (record { step = code.Add node; next = next })
+told_add true node next = Some (record { step = code.Quote node; next = next })
 
 -- The state p of the words is saved.
 pub record StateSaved (w w' : List ℕ) (p : Progress) : Type 0 where
@@ -44,12 +45,12 @@ place_at p = record { opens = p.opens; depth = p.depth; counts = p.counts }
 pub record Added (input w out w' out' : List ℕ) (p : Progress) (node : NodePtr) (q : Progress) : Type 0 where
   pub saved_words : List ℕ
   pub updated_words : List ℕ
-  pub outcome : Outcome
+  pub outcome : Result Outcome Refused
   pub saved : StateSaved w saved_words p
   pub saved_long : length saved_words ≡ length w
   pub updated : Updated saved_words updated_words node.0
   pub updated_long : length updated_words ≡ length w
-  pub resumed : Turns p.measure input updated_words w' out out' (next.Parse (place_at p) node) (ended outcome)
+  pub resumed : Turns p.measure input updated_words w' out out' (Ok (next.Parse (place_at p) node)) (ended outcome)
   pub long : length w' ≡ length w
   pub out_long : length out' ≡ length out
   pub is : q ≡ after_outcome p outcome

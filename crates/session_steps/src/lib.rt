@@ -13,7 +13,7 @@ ghost use Rattle.session_steps.specs.Effects.{told_add, StateSaved, Adding, Adde
 
 use allocator::NodePtr;
 use cache_undo::{cache_copy, undo_state};
-use file_parts::NextStep;
+use file_parts::{NextStep, Step};
 use session_state::progress::Progress;
 use session_state::{Checkpoint, StepAnswer, StepError, progress, step_records};
 use write_place::Place;
@@ -96,21 +96,19 @@ pub fn core_step(
     if p.quoted {
         return quoted_step::quoted_step(file, work, words, output, p, c);
     }
-    match file_parts::next_step(file, p.at) {
-        NextStep::Add { node, next } => {
-            add_step(file, work, words, output, p, node, false, next, c)
-        }
-        NextStep::Restore { number, next } => {
+    let Some(NextStep { step, next }) = file_parts::next_step(file, p.at) else {
+        return progress::stop(p, Ok(()), c);
+    };
+    match step {
+        Step::Add(node) => add_step(file, work, words, output, p, node, false, next, c),
+        Step::Restore(number) => {
             undo_step::undo_step(file, work, words, output, p, number, false, next, c)
         }
-        NextStep::Forget { number, next } => {
+        Step::Forget(number) => {
             undo_step::undo_step(file, work, words, output, p, number, true, next, c)
         }
-        NextStep::Quote { node, next } => {
-            add_step(file, work, words, output, p, node, true, next, c)
-        }
-        NextStep::Take { next: _ } => progress::stop(p, Err(StepError::NoQuote), c),
-        NextStep::End => progress::stop(p, Ok(()), c),
+        Step::Quote(node) => add_step(file, work, words, output, p, node, true, next, c),
+        Step::Take => progress::stop(p, Err(StepError::NoQuote), c),
     }
 }
 

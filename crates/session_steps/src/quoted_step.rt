@@ -7,7 +7,7 @@ ghost use Rattle.session_state.specs.Steps.{Ready, Onward};
 ghost use Rattle.session_steps.specs.undo_step.Effects.{Undoing, Undone};
 
 use crate::undo_step;
-use file_parts::NextStep;
+use file_parts::{NextStep, Step};
 use session_state::progress::Progress;
 use session_state::{Checkpoint, StepAnswer, progress, step_records};
 
@@ -52,7 +52,7 @@ pub fn quoted_step(
         output.now p c work.new words.new output.now result }
 {
     match file_parts::next_step(file, p.at) {
-        NextStep::Take { next } => take_quote(words, p, next, c),
+        Some(NextStep { step: Step::Take, next }) => take_quote(words, p, next, c),
         _ => drop_quote(work, p, c),
     }
 }

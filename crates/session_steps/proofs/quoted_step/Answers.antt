@@ -26,7 +26,8 @@ use Rattle.spec_session.specs.Premises.{IfAny}
 use Rattle.spec_session.proofs.StepLaws.{run_unseen}
 use Rattle.spec_session.specs.Steps.{words_of, Run, with_words, run_steps}
 use Rattle.file_parts.specs.Loaded.{forgets}
-use Rattle.file_parts.specs.declared.session_file.NextStep.TheVariants as next_step
+use Rattle.file_parts.specs.declared.session_file.Step.TheVariants as code
+use Rattle.std.specs.Prelude.{Some}
 use Rattle.session_state.specs.declared.progress.Progress.{Progress}
 use Rattle.session_state.specs.declared.progress.StepAnswer.{StepAnswer}
 use Rattle.session_state.specs.Stored.{Noting, noted_words}
@@ -147,7 +148,7 @@ module _ {input : List ℕ} {f : File} {w words out : List ℕ} {p : Progress} {
       (stands_on measure input f w' words' (set rows k c) out t d
       (subst (λ (y : List Checkpoint). Underway measure input f w' words' y out t) (sym (ap (set rows k) (sym r_is) ∙ set-get_or rows k blank)) u))
 
-  module _ (next : ℕ) (comes : Comes input p.at (next_step.Take next)) where
+  module _ (next : ℕ) (comes : Comes input p.at (Some (record { step = code.Take; next = next }))) where
     pub take_asks : Noting words p
     take_asks =
         let u = ready.underway in

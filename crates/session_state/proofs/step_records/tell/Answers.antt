@@ -4,9 +4,8 @@ use Prim.Native.Nat.{ℕ, suc, ◌+◌, ◌≤◌}
 use mathlib.Core.List.{List, [], ◌∷◌}
 use mathlib.Core.Path.{◌≡◌, ap, ◌∙◌}
 use native.Mathlib.Omega.{arith}
-use lib.ListN.{length, set, length-set}
+use lib.ListN.{length, set}
 use lib.Seq.{paste, sets-eq}
-use borrow.Author.Rules.{rules}
 use Rattle.session_state.proofs.step_records.tell.Goals as goal
 
 stored : (l : List ℕ) (i a b c : ℕ) → i + 3 ≤ length l → set (set (set l i a) (i + 1) b) (i + 2) c ≡ paste l i (a ∷ b ∷ c ∷ []) 3
