@@ -4,6 +4,7 @@ use Prim.Native.Nat.{ℕ, ◌+◌, ◌≤◌, ◌<◌}
 use mathlib.Core.Path.{◌≡◌, ap, sym, ◌∙◌}
 use mathlib.Core.List.{List}
 use mathlib.Core.Option.{some}
+use Rattle.std.specs.Prelude.{Ok}
 use native.Mathlib.Omega.{arith}
 use lib.ListN.{length}
 use lib.Seq.{paste}
@@ -15,7 +16,6 @@ use Rattle.spec_session.proofs.Output.{item_size_is}
 use Rattle.write_counts.specs.declared.Counts.{Counts}
 use Rattle.write_counts.specs.Counts.{grown, Bounded}
 use Rattle.write_counts.specs.CountLaws.{bounded_more}
-use Rattle.write_item.specs.declared.Put.TheVariants.{Next}
 use Rattle.write_item.specs.Answers.{ItemPut}
 
 -- ---- bytes that fit, and bytes that do not
@@ -62,7 +62,7 @@ module _ (out out' : List ℕ) (c : Counts) (i : Item) (size w : ℕ) (there : r
   pub few_prefixes : Bounded c → c.prefix_bytes + w ≤ size
   few_prefixes b = omega (arith, ends, width, (bounded_more c i b).prefixes)
 
-  pub put_counted : (r : Counts) → r ≡ grown c size (reference_count i) w → ItemPut out out' c i (Next r)
+  pub put_counted : (r : Counts) → r ≡ grown c size (reference_count i) w → ItemPut out out' c i (Ok r)
   put_counted r e =
       record {
         bytes = ap (λ (x : Counts). record { answer = next x.size; output = out' }) e ∙ there;

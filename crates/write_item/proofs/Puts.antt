@@ -24,12 +24,6 @@ set_paste out p b h =
     set_split out p b h ∙ sym (append_snoc (take p out) b (drop (suc p) out))
     ∙ ap (λ (k : ℕ). take p out ++ (b ∷ []) ++ drop k out) (sym (add-one p))
 
--- Whether so many bytes fit, tested from the end.
-pub fits_from : (room size count : ℕ) → count ≤ room → leb size (room - count) ≡ leb (size + count) room
-fits_from room size count h =
-    by_lt room (size + count) (λ l. lt-leb size (room - count) (omega arith) ∙ sym (lt-leb (size + count) room l))
-    (λ l. le-leb size (room - count) (omega arith) ∙ sym (le-leb (size + count) room l))
-
 -- What the test of the room says.
 pub no_room : (room count : ℕ) (b : Bool) → b ≡ leb count room → not b ≡ true → room < count
 no_room room count b e n = leb-false count room (sym e ∙ not-true b n)

@@ -14,55 +14,46 @@ use allocator::small_atom;
 use atom_encode::write_atom::WriteAtom;
 use write_counts::Counts;
 
-// What is counted with the item; that the output has no room for the whole item.
-#[derive(Clone, Copy)]
-pub enum Put {
-    Next(Counts),
-    Full,
-}
+// The output has no room for the whole item.
+#[derive(Clone, Copy, Debug, PartialEq, Eq)]
+pub struct OutputFull;
 
 // Whether `count` bytes from `size` on lie within `room`.
 pub fn fits(room: usize, size: usize, count: usize) -> bool
     ensures { result ≡ leb (size + count) room }
 {
-    if room < count {
-        return false;
-    }
-    size <= room - count
+    size.checked_add(count).is_some_and(|end| end <= room)
 }
 
-// A pair's mark.
-pub fn write_cons(output: &mut [u8], counts: Counts) -> Put
+// A pair's mark; what is counted with it.
+pub fn write_cons(output: &mut [u8], counts: Counts) -> Result<Counts, OutputFull>
     ensures { ItemPut output.old output.new counts cons_item result }
 {
     let size = counts.size;
     if !fits(output.len(), size, 1) {
-        return Put::Full;
+        return Err(OutputFull);
     }
     output[size] = atom::CONS_BOX_MARKER;
-    Put::Next(write_counts::with_cons(counts, size + 1))
+    Ok(counts.with_cons(size + 1))
 }
 
 // An atom of the file, which is a part of the file.
-pub fn write_listed(output: &mut [u8], counts: Counts, blob: &[u8]) -> Put
+pub fn write_listed(output: &mut [u8], counts: Counts, blob: &[u8]) -> Result<Counts, OutputFull>
     requires { (Bounded counts) × (length blob.now < 2 ^ 34) }
     ensures { ItemPut output.old output.new counts (atom_item blob.now) result }
 {
     match atom_encode::write_atom::write_atom(output, counts.size, blob) {
-        WriteAtom::Next(next, width) => Put::Next(write_counts::with_atom(counts, next, width)),
-        WriteAtom::Full => Put::Full,
+        WriteAtom::Next(next, width) => Ok(counts.with_atom(next, width)),
+        WriteAtom::Full => Err(OutputFull),
         // Never: a prefix holds the size.
-        WriteAtom::TooLong => Put::Full,
+        WriteAtom::TooLong => Err(OutputFull),
     }
 }
 
 // A small atom, which has no bytes in the file.
-pub fn write_small(output: &mut [u8], counts: Counts, value: u32) -> Put
+pub fn write_small(output: &mut [u8], counts: Counts, value: u32) -> Result<Counts, OutputFull>
     requires { (Bounded counts) × (value < 2 ^ 26) }
     ensures { ItemPut output.old output.new counts (atom_item (small_bytes value)) result }
 {
-    let small = small_atom::small_atom_bytes(value);
-    let bytes = small.bytes;
-    let len = small.len;
-    write_listed(output, counts, small_atom::as_ref(&bytes, len))
+    write_listed(output, counts, small_atom::small_atom_bytes(value).as_ref())
 }

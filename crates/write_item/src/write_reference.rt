@@ -12,7 +12,7 @@ ghost use Rattle.spec_session.specs.Items.{reference_item};
 ghost use Rattle.write_counts.specs.Counts.{Bounded};
 ghost use Rattle.write_item.specs.Answers.{ItemPut};
 
-use crate::Put;
+use crate::OutputFull;
 use atom_encode::write_prefix;
 use write_counts::Counts;
 
@@ -73,7 +73,7 @@ fn put_reference(
 }
 
 // A reference to the path at a slot, whose first bit is set.
-pub fn write_reference(work: &[u32], slot: usize, output: &mut [u8], counts: Counts) -> Put
+pub fn write_reference(work: &[u32], slot: usize, output: &mut [u8], counts: Counts) -> Result<Counts, OutputFull>
     requires { (WORK ≤ length work.now) × (Readable work.now slot) × (Ends (path_at work.now slot)) × (Bounded counts) }
     ensures { (path : List Bool) → path_at work.now slot ≡ path ++ true ∷ []
         → ItemPut output.old output.new counts (reference_item path) result }
@@ -84,8 +84,8 @@ pub fn write_reference(work: &[u32], slot: usize, output: &mut [u8], counts: Cou
     let count = (bits + 7) / 8;
     let total = 1 + (width + count);
     if !crate::fits(output.len(), size, total) {
-        return Put::Full;
+        return Err(OutputFull);
     }
     put_reference(work, slot, output, size, width, count);
-    Put::Next(write_counts::with_reference(counts, size + total, width))
+    Ok(counts.with_reference(size + total, width))
 }

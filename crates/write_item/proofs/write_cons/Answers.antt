@@ -22,18 +22,6 @@ returns-then-not-fits c =
       counted = tt;
     }
 
-pub bounds-output-size : goal.bounds-output-size
-bounds-output-size c =
-    let room : c.args.counts.size + 1 ≤ length c.args.output.now =
-    has_room (length c.args.output.now) _ _ c.fits.ensures (ap not c.if-not-fits.false) in
-    omega (arith, room)
-
-pub overflow_add-size : goal.overflow_add-size
-overflow_add-size c =
-    let room : c.args.counts.size + 1 ≤ length c.args.output.now =
-    has_room (length c.args.output.now) _ _ c.fits.ensures (ap not c.if-not-fits.false) in
-    record { fits = omega (arith, room) }
-
 pub returns : goal.returns
 returns c =
     let room : c.args.counts.size + 1 ≤ length c.args.output.now =

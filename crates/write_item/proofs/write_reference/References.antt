@@ -83,14 +83,6 @@ module _ (w : List ℕ) (slot : ℕ) (out : List ℕ) (start count : ℕ) (e : c
       ap (λ (k : ℕ). length (take k (drop start out))) same ∙ length-take-le count (drop start out) (simp length-drop (omega arith))
       ∙ omega (arith, length_path_bytes (path_at w slot))
 
-  -- It came back with the path's bytes.
-  pub put_path : (r : List ℕ) → r ≡ path_bytes (path_at w slot) → put_mid start (start + count - start) out r ≡ paste out start (path_bytes (path_at w slot)) count
-  put_path r bytes =
-      ap (λ (k : ℕ). put_mid start k out r) same ∙ ap (λ (x : List ℕ). take start out ++ (x ++ drop count (drop start out))) bytes
-      ∙ sym (append_assoc (take start out) (path_bytes (path_at w slot)) (drop count (drop start out)))
-      ∙ ap (λ (x : List ℕ). take start out ++ path_bytes (path_at w slot) ++ x) (drop-drop count start out)
-      ∙ ap (λ (x : List ℕ). take start out ++ x ++ drop (start + count) out) (sym (take_all count (path_bytes (path_at w slot)) (omega (arith, length_path_bytes (path_at w slot)))))
-
 -- ---- a reference
 
 -- The reference to a path of so many bits, and its prefix's width.

@@ -5,8 +5,5 @@ use native.Mathlib.Omega.{arith}
 use Rattle.search_list.proofs.Trails.{readable_size}
 use Rattle.write_item.proofs.write_reference.path_bits.Goals as goal
 
-pub size_of-requires : goal.size_of-requires
-size_of-requires c = let s = c in (s.requires.0, s.requires.1.slot, s.requires.1.chain.few)
-
 pub returns : goal.returns
 returns c = let s = c in (c.size_of.ensures ∙ readable_size s.args.work.now s.args.slot s.requires.1, omega (arith, c.size_of.ensures, s.requires.1.short, s.requires.1.extra))

@@ -8,8 +8,3 @@ pub path_bytes-requires : goal.path_bytes-requires
 path_bytes-requires c =
     let s = c in
     (s.requires.0, s.requires.1, references.part_long s.args.work.now s.args.slot s.args.output.now s.args.start s.args.count s.requires.2 s.requires.3)
-
-pub returns : goal.returns
-returns c = let s = c in
-    let p = c.path_bytes in
-    references.put_path s.args.work.now s.args.slot s.args.output.now s.args.start s.args.count s.requires.2 s.requires.3 p.new.out p.ensures

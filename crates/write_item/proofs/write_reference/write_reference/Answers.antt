@@ -26,29 +26,6 @@ returns-then-not-fits c =
       counted = tt;
     }
 
-pub put_reference-requires : goal.put_reference-requires
-put_reference-requires c =
-    let w = c in
-    let b = w.path_bits-bits.ensures in
-    let s = w in
-    record {
-      in_bounds = (s.requires.0, s.requires.1, ap (λ (k : ℕ). (k + 7) / 8) b.0, omega (arith, b.1));
-      width_bound = (w.path_width-width.ensures.0, has_room _ _ _ c.fits.ensures (ap not c.if-not-fits.false));
-    }
-
-pub overflow_add-size : goal.overflow_add-size
-overflow_add-size c =
-    let t = c in
-    let w = t in
-    let a = w.args in
-    let total = 1 + (w.path_width-width.result + (w.path_bits-bits.result + 7) / 8) in
-    record { fits = omega (arith, has_room (length a.output.now) (a.counts.size + total) _ t.fits.ensures (ap not t.if-not-fits.false)) }
-
-pub with_reference-requires : goal.with_reference-requires
-with_reference-requires c =
-    let s = c in
-    (omega (arith, s.requires.3.references), omega (arith, s.requires.3.prefixes))
-
 pub returns : goal.returns
 returns c =
     let t = c in
