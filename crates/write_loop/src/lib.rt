@@ -6,7 +6,6 @@ pub mod write_turn;
 ghost use Rattle.words.specs.Words.{at};
 ghost use Rattle.std.specs.Prelude.{length};
 ghost use Rattle.work_layout.specs.Layout.{PAIR_COUNT};
-ghost use Rattle.search_find.specs.declared.find_path.Path.TheVariants.{NoPath};
 ghost use Rattle.cache_entries.specs.Meaning.{Names};
 ghost use Rattle.write_loop.specs.declared.write_turn.Next.TheVariants.{Parse};
 ghost use Rattle.write_place.specs.State.{AtomPlaces};
@@ -15,9 +14,8 @@ ghost use Rattle.write_loop.specs.Effects.{Runs, Turns, TurnsFound, Falls, Found
 use allocator::NodePtr;
 use cache_entries::lookup;
 use path::Measure;
-use search_find::Path;
 use work_layout::EntryIndex;
-use write_place::{Outcome, Place};
+use write_place::{Outcome, Place, Refused};
 use write_turn::{Next, close_pairs, open_pairs};
 
 // A node for which no reference is written.
@@ -28,10 +26,10 @@ fn write_full(
     place: Place,
     node: NodePtr,
     e: EntryIndex,
-) -> Next
-    requires { (AtomPlaces file.now work.old) × (Found work.old output.old place node.0 e.0 NoPath) }
+) -> Result<Next, Refused>
+    requires { (AtomPlaces file.now work.old) × (Found work.old output.old place node.0 e.0 None) }
     ensures { TurnsFound file.now work.old work.new output.old output.new
-        place node e.0 NoPath result }
+        place node e.0 None result }
 {
     if node.is_pair() {
         return open_pairs::open_pair(work, output, place, node, e);
@@ -48,19 +46,19 @@ fn parse(
     place: Place,
     node: NodePtr,
     measure: Measure,
-) -> Next
+) -> Result<Next, Refused>
     requires { (AtomPlaces file.now work.old) × (Runs work.old output.old place 0) × (Names work.old (at work.old PAIR_COUNT) node.0) }
     ensures { (Turns measure file.now work.old work.new output.old output.new
-        (Parse place node) result)
-        × (Falls (length output.old) (Parse place node) result) }
+        (Ok (Parse place node)) result)
+        × (Falls (length output.old) (Ok (Parse place node)) result) }
 {
     if cache_entries::is_sentinel(work, node) {
-        return Next::Stopped(place);
+        return Ok(Next::Stopped(place));
     }
     let e = lookup::entry_of(work, node);
     match search_find::find(work, node, e, place.depth, measure) {
-        Path::At(slot) => write_turn::refer(work, output, place, node, e, slot),
-        Path::NoPath => write_full(work, file, output, place, node, e),
+        Some(slot) => write_turn::refer(work, output, place, node, e, slot),
+        None => write_full(work, file, output, place, node, e),
     }
 }
 
@@ -72,29 +70,18 @@ pub fn resume(
     place: Place,
     node: NodePtr,
     measure: Measure,
-) -> Outcome
+) -> Result<Outcome, Refused>
     requires { (AtomPlaces file.now work.old) × (Runs work.old output.old place 0) × (Names work.old (at work.old PAIR_COUNT) node.0) }
     ensures { Turns measure file.now work.old work.new output.old output.new
-        (Parse place node) (ended result) }
+        (Ok (Parse place node)) (ended result) }
 {
     let mut next = Next::Parse(place, node);
     loop {
-        match next {
-            Next::Parse(p, h) => {
-                next = parse(work, file, output, p, h, measure);
-            }
-            Next::Close(p) => {
-                next = close_pairs::close_up(work, p);
-            }
-            Next::Done(p) => {
-                return Outcome::Done(p);
-            }
-            Next::Stopped(p) => {
-                return Outcome::Stopped(p);
-            }
-            Next::Refused(n, p) => {
-                return Outcome::Refused(n, p);
-            }
-        }
+        next = match next {
+            Next::Parse(p, h) => parse(work, file, output, p, h, measure)?,
+            Next::Close(p) => close_pairs::close_up(work, p),
+            Next::Done(p) => return Ok(Outcome::Done(p)),
+            Next::Stopped(p) => return Ok(Outcome::Stopped(p)),
+        };
     }
 }

@@ -8,24 +8,22 @@ ghost use Rattle.allocator.specs.Handle.{node_of, is_atom};
 ghost use Rattle.spec_session.specs.Items.{atom_item};
 ghost use Rattle.work_layout.specs.Layout.{ATOM_COUNT, PAIR_COUNT, ENTRIES, DEPTH};
 ghost use Rattle.cache_stack.specs.Effects.{Stacked};
-ghost use Rattle.search_find.specs.declared.find_path.Path.TheVariants.{At};
 ghost use Rattle.write_counts.specs.Counts.{Bounded};
 ghost use Rattle.write_item.specs.Answers.{ItemPut};
 ghost use Rattle.cache_entries.specs.Meaning.{Names, Whole};
 ghost use Rattle.work_layout.specs.Rows.{atom_bytes};
 ghost use Rattle.write_place.specs.State.{AtomPlaces};
-ghost use Rattle.write_loop.specs.Effects.{TurnsFound, Found, AtomPut, Pushes};
+ghost use Rattle.write_loop.specs.Effects.{TurnsFound, Found, AtomPut, Pushes, counted_at};
 
 use allocator::NodePtr;
 use file_tables::listed_atoms;
-use words::wide;
 use work_layout::EntryIndex;
 use write_counts::Counts;
-use write_item::{Put, write_reference};
-use write_place::Place;
+use write_item::{OutputFull, write_reference};
+use write_place::{AddError, Place, Refused};
 
 // What comes next in the loop.
-#[derive(Clone, Copy)]
+#[derive(Clone, Copy, Debug, PartialEq, Eq)]
 pub enum Next {
     // This node is written.
     Parse(Place, NodePtr),
@@ -33,11 +31,10 @@ pub enum Next {
     Close(Place),
     Done(Place),
     Stopped(Place),
-    Refused(u32, Place),
 }
 
 // Listed atom i, from where it lies in the file.
-fn write_listed(work: &[u32], file: &[u8], output: &mut [u8], counts: Counts, i: usize) -> Put
+fn write_listed(work: &[u32], file: &[u8], output: &mut [u8], counts: Counts, i: usize) -> Result<Counts, OutputFull>
     requires { (Bounded counts) × (Whole work.now) × (AtomPlaces file.now work.now) × (i < at work.now ATOM_COUNT) }
     ensures { ItemPut output.old output.new counts
         (atom_item (atom_bytes file.now work.now i)) result }
@@ -54,7 +51,7 @@ pub fn write_atom(
     output: &mut [u8],
     counts: Counts,
     node: NodePtr,
-) -> Put
+) -> Result<Counts, OutputFull>
     requires { (Bounded counts)
         × (Whole work.now)
         × (AtomPlaces file.now work.now)
@@ -63,28 +60,39 @@ pub fn write_atom(
     ensures { AtomPut file.now work.now node.0 output.old output.new counts result }
 {
     if cache_entries::is_listed(node) {
-        return write_listed(work, file, output, counts, wide(node.index()));
+        return write_listed(work, file, output, counts, node.index() as usize);
     }
     write_item::write_small(output, counts, node.index())
 }
 
+// What is counted with an item; an add is refused for one that does not fit.
+fn counted(place: Place, item: Result<Counts, OutputFull>) -> Result<Counts, Refused>
+    ensures { result ≡ counted_at place item }
+{
+    item.map_err(|_| Refused {
+        error: AddError::OutputFull,
+        place,
+    })
+}
+
 // After an item for a whole subtree of entry e: the entry goes on the stack.
-pub fn push_value(work: &mut [u32], place: Place, e: EntryIndex, item: Put) -> Next
+pub fn push_value(
+    work: &mut [u32],
+    place: Place,
+    e: EntryIndex,
+    item: Result<Counts, OutputFull>,
+) -> Result<Next, Refused>
     requires { (Whole work.old) × (Stacked work.old place.depth) × (place.depth < DEPTH) × (e.0 < ENTRIES) }
     ensures { Pushes work.old work.new place e.0 item result }
 {
-    match item {
-        Put::Next(counts) => {
-            let len = search_find::length_at(work, e);
-            cache_stack::push_marked(work, place.depth, e, len);
-            Next::Close(Place {
-                opens: place.opens,
-                depth: place.depth + 1,
-                counts,
-            })
-        }
-        Put::Full => Next::Refused(13, place),
-    }
+    let counts = counted(place, item)?;
+    let len = search_find::length_at(work, e);
+    cache_stack::push_marked(work, place.depth, e, len);
+    Ok(Next::Close(Place {
+        depth: place.depth + 1,
+        counts,
+        ..place
+    }))
 }
 
 // A reference to the path at a slot.
@@ -95,11 +103,11 @@ pub fn refer(
     node: NodePtr,
     e: EntryIndex,
     slot: usize,
-) -> Next
-    requires { Found work.old output.old place node.0 e.0 (At slot) }
+) -> Result<Next, Refused>
+    requires { Found work.old output.old place node.0 e.0 (Some slot) }
     ensures { (file : List ℕ)
         → TurnsFound file work.old work.new output.old output.new place node
-        e.0 (At slot) result }
+        e.0 (Some slot) result }
 {
     let item = write_reference::write_reference(work, slot, output, place.counts);
     push_value(work, place, e, item)

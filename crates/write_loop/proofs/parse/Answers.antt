@@ -6,10 +6,6 @@ use native.Mathlib.Omega.{arith}
 use mathlib.Core.Path.{◌≡◌, sym, ◌∙◌}
 use mathlib.Core.List.{List}
 use lib.ListN.{length}
-use Rattle.search_find.specs.declared.find_path.Path.{Path}
-use Rattle.write_loop.specs.declared.write_turn.Next.{Next}
-use Rattle.write_loop.specs.declared.write_turn.Next.TheVariants.{Parse}
-use Rattle.write_loop.specs.Effects.{Turns, Falls, Found, TurnsFound}
 use Rattle.write_loop.proofs.write_turn.Turning.{turns_stop, search_places, after_search, found_there, finds_there}
 use borrow.Author.Rules.{rules}
 use Rattle.write_loop.proofs.parse.Goals as goal
@@ -24,7 +20,7 @@ returns-then-is_sentinel c =
 pub refer-requires : goal.refer-requires
 refer-requires c =
     let s = c.args in
-    let f = rw c.in-At.is at c.find.ensures in
+    let f = rw c.in-Some.is at c.find.ensures in
     let k = c.find.auto.work in
     found_there k f.kept s.place c.requires.1 s.node c.requires.2
     (eqb-false _ s.node.0 (sym c.is_sentinel.ensures ∙ c.if-is_sentinel.false)) c.entry_of-e.ensures f.ready
@@ -32,17 +28,17 @@ refer-requires c =
 pub write_full-requires : goal.write_full-requires
 write_full-requires c =
     let s = c.args in
-    let f = rw c.in-NoPath.is at c.find.ensures in
+    let f = rw c.in-None.is at c.find.ensures in
     let k = c.find.auto.work in (
       search_places k f.kept s.place c.requires.1 c.requires.0,
       found_there k f.kept s.place c.requires.1 s.node c.requires.2
           (eqb-false _ s.node.0 (sym c.is_sentinel.ensures ∙ c.if-is_sentinel.false)) c.entry_of-e.ensures f.ready,
     )
 
-pub returns-in-At : goal.returns-in-At
-returns-in-At c =
+pub returns-in-Some : goal.returns-in-Some
+returns-in-Some c =
     let s = c.args in
-    let f = rw c.in-At.is at c.find.ensures in
+    let f = rw c.in-Some.is at c.find.ensures in
     let k = c.find.auto.work in
     let y = c.refer.ensures s.file.now in (
       after_search k f.kept s.place c.requires.1 s.node c.requires.2
@@ -50,10 +46,10 @@ returns-in-At c =
       y.1,
     )
 
-pub returns-in-NoPath : goal.returns-in-NoPath
-returns-in-NoPath c =
+pub returns-in-None : goal.returns-in-None
+returns-in-None c =
     let s = c.args in
-    let f = rw c.in-NoPath.is at c.find.ensures in
+    let f = rw c.in-None.is at c.find.ensures in
     let k = c.find.auto.work in
     let y = c.write_full.ensures in (
       after_search k f.kept s.place c.requires.1 s.node c.requires.2

@@ -8,19 +8,8 @@ use Rattle.write_loop.proofs.write_turn.Values.{atom_turns}
 use borrow.Author.Rules.{rules}
 use Rattle.write_loop.proofs.write_full.Goals as goal
 
-pub open_pair-requires : goal.open_pair-requires
-open_pair-requires c = (c.requires.1, sym c.is_pair.ensures ∙ c.if-is_pair.true)
-
 pub returns-then-is_pair : goal.returns-then-is_pair
 returns-then-is_pair c = let opened = c in opened.open_pair.ensures opened.args.file.now
-
-pub write_atom-item-requires : goal.write_atom-item-requires
-write_atom-item-requires c =
-    let atom : is_atom (node_of c.args.node.0) ≡ true =
-    let s = c in named_atom _ _ (node_of s.args.node.0) s.requires.1.names (sym c.is_pair.ensures ∙ c.if-is_pair.false) in
-    let s = c in
-    let run = s.requires.1.running in
-    (run.bounded, run.stands.whole, s.requires.0, s.requires.1.names, atom)
 
 pub returns : goal.returns
 returns c =

@@ -14,7 +14,8 @@ use Rattle.spec_session.specs.File.{named}
 use Rattle.spec_session.specs.Items.{atom_item}
 use Rattle.work_layout.specs.Layout.{PAIR_COUNT}
 use Rattle.write_counts.specs.declared.Counts.{Counts}
-use Rattle.write_item.specs.declared.Put.{Put}
+use Rattle.std.specs.Prelude.{Result}
+use Rattle.write_item.specs.declared.OutputFull.{OutputFull}
 use Rattle.write_item.specs.Answers.{ItemPut}
 use Rattle.cache_entries.specs.Meaning.{bytes_named, Names, Whole}
 use Rattle.cache_entries.specs.Effects.{is_listed}
@@ -39,7 +40,7 @@ pub part_is : (file w : List ℕ) (i a b : ℕ) → a ≡ start_of w i → b ≡
 unfolding atom_bytes
 part_is file w i a b p q = rw (p, q)
 
-module _ {file w : List ℕ} {h : ℕ} {out out' : List ℕ} {counts : Counts} {r : Put} (wh : Whole w) (n : Names w (at w PAIR_COUNT) h) where
+module _ {file w : List ℕ} {h : ℕ} {out out' : List ℕ} {counts : Counts} {r : Result Counts OutputFull} (wh : Whole w) (n : Names w (at w PAIR_COUNT) h) where
   -- A listed atom, of number x.
   pub listed_put : (x : ℕ) → AtomPlaces file w → is_listed (node_of h) ≡ true → x ≡ index_of (node_of h)
       → ItemPut out out' counts (atom_item (atom_bytes file w x)) r → AtomPut file w h out out' counts r

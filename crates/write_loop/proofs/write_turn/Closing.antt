@@ -6,6 +6,7 @@ use mathlib.Core.List.{List, ◌∷◌}
 use native.Mathlib.Omega.{arith}
 use lib.ListN.{length, set, length-set}
 use Rattle.words.specs.Words.{at}
+use Rattle.std.specs.Prelude.{Ok}
 use Rattle.path.specs.declared.Measure.{Measure}
 use Rattle.path.specs.Measure.{measure_of}
 use Rattle.allocator.specs.declared.NodePtr.{NodePtr}
@@ -34,7 +35,7 @@ use Rattle.write_loop.proofs.write_turn.Values.{push_beside, push_marks}
 -- ---- no pair is open
 
 pub done_turns : (w : List ℕ) (p : Place) → p.opens ≡ 0 → (m : Measure) (file out : List ℕ) → Runs w out p 1
-    → (Turns m file w w out out (Close p) (Done p)) × Falls (length out) (Close p) (Done p)
+    → (Turns m file w w out out (Ok (Close p)) (Ok (Done p))) × Falls (length out) (Ok (Close p)) (Ok (Done p))
 done_turns w p q m file out run = (
   record {
     fine = (run, q);
@@ -121,7 +122,7 @@ module _ (w : List ℕ) (p : Place) (st : Standing w p.opens p.depth 1) (n : ℕ
         (subst (λ (x : ℕ). Names w (v / 2) x) (sym there) (wh.handles.rights (v / 2) innermost_low)))
 
     pub right_turns : (m : Measure) (file out : List ℕ) → Runs w out p 1
-        → (Turns m file w (set w (OPEN + n) (at w (OPEN + n) - 1)) out out (Close p) (Parse p right)) × Falls (length out) (Close p) (Parse p right)
+        → (Turns m file w (set w (OPEN + n) (at w (OPEN + n) - 1)) out out (Ok (Close p)) (Ok (Parse p right))) × Falls (length out) (Ok (Close p)) (Ok (Parse p right))
     unfolding w' v
     right_turns m file out run = (
       record {
@@ -229,8 +230,8 @@ module _ (w : List ℕ) (p : Place) (st : Standing w p.opens p.depth 1) (n : ℕ
           ∙ ap (λ (j : List Todo). goes_on m c (length out) j (closed c s)) (sym (todo_stays w w' both n p.depth 2 outer_two f))
 
       pub close_turns : (m : Measure) (file out : List ℕ) → Runs w out p 1
-          → (Turns m file w w' out out (Close p) (Close (record { opens = n; depth = p.depth - 1; counts = p.counts })))
-          × Falls (length out) (Close p) (Close (record { opens = n; depth = p.depth - 1; counts = p.counts }))
+          → (Turns m file w w' out out (Ok (Close p)) (Ok (Close (record { opens = n; depth = p.depth - 1; counts = p.counts }))))
+          × Falls (length out) (Ok (Close p)) (Ok (Close (record { opens = n; depth = p.depth - 1; counts = p.counts })))
       close_turns m file out run = (
         record {
           fine = record { stands = close_standing; fits = run.fits; bounded = run.bounded; short = run.short };
@@ -268,10 +269,10 @@ module _ {w : List ℕ} {p : Place} {v i : ℕ} (o : Innermost w p v i) where
   pair_few = rw number_is at (innermost_few w p o.stands (p.opens - 1) more)
 
   pub goes_right : v % 2 ≡ 1 → (right : NodePtr) → right.0 ≡ at w (PAIRS + 2 * i + 1) → (m : Measure) (file out : List ℕ) → Runs w out p 1
-      → (Turns m file w (set w (OPEN + (p.opens - 1)) (v - 1)) out out (Close p) (Parse p right)) × Falls (length out) (Close p) (Parse p right)
+      → (Turns m file w (set w (OPEN + (p.opens - 1)) (v - 1)) out out (Ok (Close p)) (Ok (Parse p right))) × Falls (length out) (Ok (Close p)) (Ok (Parse p right))
   goes_right odd right there m file out run =
       let n = p.opens - 1 in
-      subst (λ (x : ℕ). (Turns m file w (set w (OPEN + n) (x - 1)) out out (Close p) (Parse p right)) × Falls (length out) (Close p) (Parse p right)) (sym o.word)
+      subst (λ (x : ℕ). (Turns m file w (set w (OPEN + n) (x - 1)) out out (Ok (Close p)) (Ok (Parse p right))) × Falls (length out) (Ok (Close p)) (Ok (Parse p right))) (sym o.word)
       (right_turns w p o.stands n more (ap (λ (x : ℕ). x % 2) (sym o.word) ∙ odd) right
       (there ∙ ap (λ (x : ℕ). at w (PAIRS + 2 * x + 1)) (sym number_is)) m file out run)
 
@@ -283,8 +284,8 @@ module _ {w : List ℕ} {p : Place} {v i : ℕ} (o : Innermost w p v i) where
     values_there = two_there w p o.stands (p.opens - 1) more not_odd
 
     pub closes_one : {w' : List ℕ} → length w' ≡ length w → Closes w w' p.depth i → (m : Measure) (file out : List ℕ) → Runs w out p 1
-        → (Turns m file w w' out out (Close p) (Close (record { opens = p.opens - 1; depth = p.depth - 1; counts = p.counts })))
-        × Falls (length out) (Close p) (Close (record { opens = p.opens - 1; depth = p.depth - 1; counts = p.counts }))
+        → (Turns m file w w' out out (Ok (Close p)) (Ok (Close (record { opens = p.opens - 1; depth = p.depth - 1; counts = p.counts }))))
+        × Falls (length out) (Ok (Close p)) (Ok (Close (record { opens = p.opens - 1; depth = p.depth - 1; counts = p.counts })))
     closes_one {w'} len cl m file out run =
         close_turns w p o.stands (p.opens - 1) more not_odd w' len
         (subst (λ (x : ℕ). Closes w w' p.depth x) (sym number_is) cl) m file out run

@@ -4,6 +4,7 @@ use Prim.Native.Nat.{ℕ, ◌<◌}
 use mathlib.Core.Path.{◌≡◌, refl, sym, ◌∙◌, subst}
 use mathlib.Core.List.{List}
 use lib.ListN.{length}
+use Rattle.std.specs.Prelude.{Ok}
 use Rattle.words.specs.Words.{at}
 use Rattle.path.specs.declared.Measure.{Measure}
 use Rattle.allocator.specs.declared.NodePtr.{NodePtr}
@@ -13,7 +14,7 @@ use Rattle.write_place.specs.declared.Place.{Place}
 use Rattle.write_loop.specs.declared.write_turn.Next.{Next}
 use Rattle.write_loop.specs.declared.write_turn.Next.TheVariants.{Parse}
 use Rattle.write_place.specs.State.{AtomPlaces}
-use Rattle.write_loop.specs.Effects.{Runs, ahead, Fine, Turns, Falls}
+use Rattle.write_loop.specs.Effects.{Turned, Runs, ahead, Fine, Turns, Falls}
 use Rattle.write_loop.proofs.write_turn.Frames.{places_stay}
 use Rattle.write_loop.proofs.write_turn.Turning.{turns_none, turns_then}
 
@@ -23,41 +24,37 @@ pub record Looping (m : Measure) (file w₀ out₀ : List ℕ) (first : Next) (w
   pub places : AtomPlaces file w₀
   pub long : length w ≡ length w₀
   pub space : length out ≡ length out₀
-  pub turns : Turns m file w₀ w out₀ out first next
+  pub turns : Turns m file w₀ w out₀ out (Ok first) (Ok next)
 
 pub loop_starts : {m : Measure} {file w out : List ℕ} (p : Place) (h : NodePtr) → AtomPlaces file w → Runs w out p 0 → Names w (at w PAIR_COUNT) h.0
     → Looping m file w out (Parse p h) w out (Parse p h)
 loop_starts {m} {file} {w} {out} p h a run n =
-    record { whole = run.stands.whole; places = a; long = refl; space = refl; turns = turns_none m file w out (Parse p h) (run, n) }
-
-pub loop_turns : {m : Measure} {file w₀ out₀ : List ℕ} {first : Next} {w out : List ℕ} {next b : Next} {w' out' : List ℕ} {r : Next}
-    → next ≡ b → Looping m file w₀ out₀ first w out next → length w' ≡ length w → length out' ≡ length out → Turns m file w w' out out' b r
-    → Looping m file w₀ out₀ first w' out' r
-loop_turns {m} {file} {w₀} {out₀} {first} {w} {out} {next} {b} {w'} {out'} {r} q k lw lo t =
-    let x = subst (λ (y : Next). Turns m file w₀ w out₀ out first y) q k.turns in
-    let wh = k.whole in
-    record {
-      whole = k.whole;
-      places = k.places;
-      long = lw ∙ k.long;
-      space = lo ∙ k.space;
-      turns = turns_then wh k.long k.space x t;
-    }
+    record { whole = run.stands.whole; places = a; long = refl; space = refl; turns = turns_none m file w out (Ok (Parse p h)) (run, n) }
 
 -- What the next turn may rely on.
 module _ {m : Measure} {file w₀ out₀ : List ℕ} {first : Next} {w out : List ℕ} {next b : Next} (q : next ≡ b) (k : Looping m file w₀ out₀ first w out next) where
-  pub fine_now : Fine w out b
-  fine_now = subst (Fine w out) q k.turns.fine
+  pub fine_now : Fine w out (Ok b)
+  fine_now = subst (λ (y : Next). Fine w out (Ok y)) q k.turns.fine
 
   pub places_now : AtomPlaces file w
   places_now = places_stay w₀ w k.long k.turns.only k.whole file k.places
 
-  pub loop_ends : Turns m file w₀ w out₀ out first b
-  loop_ends = subst (λ (y : Next). Turns m file w₀ w out₀ out first y) q k.turns
+  pub loop_ends : Turns m file w₀ w out₀ out (Ok first) (Ok b)
+  loop_ends = subst (λ (y : Next). Turns m file w₀ w out₀ out (Ok first) (Ok y)) q k.turns
+
+  module _ {w' out' : List ℕ} where
+    -- The turn after it, and where it leads on.
+    pub loop_goes : {r : Turned} → Turns m file w w' out out' (Ok b) r → Turns m file w₀ w' out₀ out' (Ok first) r
+    loop_goes t = turns_then k.whole k.long k.space loop_ends t
+
+    pub loop_turns : {r : Next} → length w' ≡ length w → length out' ≡ length out → Turns m file w w' out out' (Ok b) (Ok r)
+        → Looping m file w₀ out₀ first w' out' r
+    loop_turns lw lo t =
+        record { whole = k.whole; places = k.places; long = lw ∙ k.long; space = lo ∙ k.space; turns = loop_goes t }
 
 -- The loop falls.
-pub loop_falls : {next b : Next} (r : Next) (out out' : List ℕ) → next ≡ b → length out' ≡ length out → Falls (length out) b r
-    → ahead (length out') r < ahead (length out) next
+pub loop_falls : {next b : Next} (r : Next) (out out' : List ℕ) → next ≡ b → length out' ≡ length out → Falls (length out) (Ok b) (Ok r)
+    → ahead (length out') (Ok r) < ahead (length out) (Ok next)
 loop_falls {next} {b} r out out' q lo f =
-    subst (λ (n : ℕ). ahead n r < ahead (length out) next) (sym lo)
-    (subst (λ (y : Next). ahead (length out) r < ahead (length out) y) (sym q) f)
+    subst (λ (n : ℕ). ahead n (Ok r) < ahead (length out) (Ok next)) (sym lo)
+    (subst (λ (y : Next). ahead (length out) (Ok r) < ahead (length out) (Ok y)) (sym q) f)

@@ -20,25 +20,28 @@ use Rattle.spec_session.specs.File.{File}
 use Rattle.spec_session.specs.Unfold.{Unfolded, unfolded}
 use Rattle.spec_session.specs.Cache.{Cache}
 use Rattle.spec_session.specs.Items.{cons_item, item_bytes}
+use Rattle.spec_session.specs.Writer as session
 use Rattle.spec_session.specs.Writer.{Todo, parse, close, Written, and_then, pair_entry, put_if}
 use Rattle.spec_session.specs.FindPath.{find_in}
 use Rattle.spec_session.specs.Steps.{open_pairs, too_deep, room_in}
 use Rattle.spec_session.proofs.Loop.{turn_pair}
 use Rattle.work_layout.specs.Layout.{PAIRS, PAIR_COUNT, OPEN}
-use Rattle.search_find.specs.declared.find_path.Path.TheVariants.{NoPath}
+use Rattle.std.specs.Prelude.{Ok, Err, None}
 use Rattle.write_counts.specs.declared.Counts.{Counts}
-use Rattle.write_item.specs.declared.Put.TheVariants as item
+use Rattle.write_item.specs.declared.OutputFull.{OutputFull}
 use Rattle.write_item.specs.Answers.{ItemPut}
 use Rattle.write_item.proofs.Counting.{put_none}
 use Rattle.cache_entries.specs.Meaning.{Tables, Names}
 use Rattle.cache_entries.proofs.Entering.{names_grow, pair_low, is_node}
 use Rattle.search_find.specs.Effects.{FindsIn}
 use Rattle.write_place.specs.declared.Place.{Place}
-use Rattle.write_loop.specs.declared.write_turn.Next.{Next}
-use Rattle.write_loop.specs.declared.write_turn.Next.TheVariants.{Parse, Refused}
+use Rattle.write_place.specs.declared.AddError.{AddError}
+use Rattle.write_place.specs.declared.AddError.TheVariants as add_error
+use Rattle.write_place.specs.Numbers.{question_of}
+use Rattle.write_loop.specs.declared.write_turn.Next.TheVariants.{Parse}
 use Rattle.write_place.specs.State.{todo_of, Standing, Writes}
 use Rattle.write_place.proofs.Sizes.{size_written}
-use Rattle.write_loop.specs.Effects.{goes_on, Turns, Falls, Found, TurnsFound}
+use Rattle.write_loop.specs.Effects.{Turned, refused_at, goes_on, Turns, Falls, Found, TurnsFound}
 use Rattle.write_loop.proofs.write_turn.Frames.{only_same, pairs_stay, names_stay, pairs_few}
 use Rattle.write_loop.proofs.write_turn.Items.{put_there, taken_before, running_more, counts_written, bytes_written, room_there, room_gone}
 use Rattle.write_loop.proofs.write_turn.Values.{found_is, pair_is}
@@ -54,7 +57,7 @@ open_count f w (suc n) =
     (parse (unfolded f (at w (PAIRS + 2 * (v / 2) + 1))) ∷ close (v / 2) ∷ todo_of f w n) (close (v / 2) ∷ todo_of f w n)
     (λ q. ap suc (open_count f w n)) (λ q. ap suc (open_count f w n))
 
-module _ {w out : List ℕ} {p : Place} (h : NodePtr) {e : ℕ} (fo : Found w out p h.0 e NoPath) (pr : is_pair (node_of h.0) ≡ true) where
+module _ {w out : List ℕ} {p : Place} (h : NodePtr) {e : ℕ} (fo : Found w out p h.0 e None) (pr : is_pair (node_of h.0) ≡ true) where
   number : ℕ
   number = index_of (node_of h.0)
 
@@ -75,7 +78,7 @@ module _ {w out : List ℕ} {p : Place} (h : NodePtr) {e : ℕ} (fo : Found w ou
   sides f k = parse (unfolded f (at w (PAIRS + 2 * number))) ∷ parse (unfolded f (at w (PAIRS + 2 * number + 1))) ∷ close number ∷ k
 
   -- The equation of a pair in full.
-  in_full : (m : Measure) → FindsIn m w w p.depth h.0 e NoPath → (f : File) (c : Cache) (s : Written) → Tables f w → Writes f w out p.depth p.counts c s → (k : List Todo)
+  in_full : (m : Measure) → FindsIn m w w p.depth h.0 e None → (f : File) (c : Cache) (s : Written) → Tables f w → Writes f w out p.depth p.counts c s → (k : List Todo)
       → goes_on m c (length out) (parse (unfolded f h.0) ∷ k) s
       ≡ and_then (put_if (room_in (length out) k s.items cons_item) cons_item s) (goes_on m c (length out) (sides f k))
   unfolding number
@@ -86,10 +89,10 @@ module _ {w out : List ℕ} {p : Place} (h : NodePtr) {e : ℕ} (fo : Found w ou
       (ap (λ (g : ℕ). find_in (measure_of m) c s.marked s.stack g (pair_entry c i)) (sym (is_pair_handle h.0 i is_number))
       ∙ found_is finds t wr (pair_is fo t wr i is_number))
 
-  refused : (file : List ℕ) (n : ℕ) → ((f : File) (c : Cache) (s : Written) → Writes f w out p.depth p.counts c s
+  refused : (file : List ℕ) (x : AddError) (n : ℕ) → question_of x ≡ suc n → ((f : File) (c : Cache) (s : Written) → Writes f w out p.depth p.counts c s
       → room_in (length out) (todo_of f w p.opens) s.items cons_item ≡ suc n)
-      → (m : Measure) → FindsIn m w w p.depth h.0 e NoPath → Turns m file w w out out (Parse p h) (Refused (suc n) p)
-  refused file n room m finds =
+      → (m : Measure) → FindsIn m w w p.depth h.0 e None → Turns m file w w out out (Ok (Parse p h)) (refused_at p x)
+  refused file x n q room m finds =
       record {
         fine = fo.running;
         only = only_same w;
@@ -102,30 +105,31 @@ module _ {w out : List ℕ} {p : Place} (h : NodePtr) {e : ℕ} (fo : Found w ou
               writes = wr;
               same =
                   in_full m finds f c s t wr k
-                  ∙ ap (λ (x : ℕ). and_then (put_if x cons_item s) (goes_on m c (length out) (sides f k))) (room f c s wr);
+                  ∙ ap (λ (x : ℕ). and_then (put_if x cons_item s) (goes_on m c (length out) (sides f k))) (room f c s wr)
+                  ∙ ap (λ (j : ℕ). session.refused j s) (sym q);
             };
       }
 
   -- Question 12.
-  pub deep_turns : 4096 ≤ p.opens → (file : List ℕ) → TurnsFound file w w out out p h e NoPath (Refused 12 p)
+  pub deep_turns : 4096 ≤ p.opens → (file : List ℕ) → TurnsFound file w w out out p h e None (refused_at p add_error.TooManyOpen)
   deep_turns q file =
-      (refused file 11 (λ f c s wr. rw (open_count f w p.opens, lt-ltb 4095 p.opens (omega arith))), omega arith)
+      (refused file add_error.TooManyOpen 11 refl (λ f c s wr. rw (open_count f w p.opens, lt-ltb 4095 p.opens (omega arith))), omega arith)
 
   module _ (shallow : p.opens < 4096) (out' : List ℕ) where
     not_deep : (f : File) → too_deep cons_item (todo_of f w p.opens) ≡ false
     not_deep f = rw (open_count f w p.opens, le-ltb 4095 p.opens (omega arith))
 
     -- Question 13.
-    pub lacks_turns : ItemPut out out' p.counts cons_item item.Full → (file : List ℕ) → TurnsFound file w w out out' p h e NoPath (Refused 13 p)
+    pub lacks_turns : {x : OutputFull} → ItemPut out out' p.counts cons_item (Err x) → (file : List ℕ) → TurnsFound file w w out out' p h e None (refused_at p add_error.OutputFull)
     lacks_turns a file =
         let n = put_none out out' p.counts.size (item_bytes cons_item) a.bytes in (
           λ m finds.
-              subst (λ (x : List ℕ). Turns m file w w out x (Parse p h) (Refused 13 p)) (sym n.1)
-              (refused file 12 (λ f c s wr. room_gone (length out) (todo_of f w p.opens) s.items cons_item (not_deep f) (omega (arith, n.0, size_written wr))) m finds),
+              subst (λ (x : List ℕ). Turns m file w w out x (Ok (Parse p h)) (refused_at p add_error.OutputFull)) (sym n.1)
+              (refused file add_error.OutputFull 12 refl (λ f c s wr. room_gone (length out) (todo_of f w p.opens) s.items cons_item (not_deep f) (omega (arith, n.0, size_written wr))) m finds),
           omega arith,
         )
 
-    module _ (n : Counts) (l : NodePtr) (left : l.0 ≡ at w (PAIRS + 2 * index_of (node_of h.0))) (a : ItemPut out out' p.counts cons_item (item.Next n)) where
+    module _ (n : Counts) (l : NodePtr) (left : l.0 ≡ at w (PAIRS + 2 * index_of (node_of h.0))) (a : ItemPut out out' p.counts cons_item (Ok n)) where
       w' : List ℕ
       w' = set w (OPEN + p.opens) (number * 2 + 1)
 
@@ -165,7 +169,7 @@ module _ {w out : List ℕ} {p : Place} (h : NodePtr) {e : ℕ} (fo : Found w ou
             bytes_are = bytes_written a s.items wr.bytes_are;
           }
 
-      opened_same : (m : Measure) → FindsIn m w w p.depth h.0 e NoPath → (f : File) (c : Cache) (s : Written) → Tables f w
+      opened_same : (m : Measure) → FindsIn m w w p.depth h.0 e None → (f : File) (c : Cache) (s : Written) → Tables f w
           → Writes f w out p.depth p.counts c s
           → goes_on m c (length out) (parse (unfolded f h.0) ∷ todo_of f w p.opens) s
           ≡ goes_on m c (length out) (parse (unfolded f l.0) ∷ todo_of f w' (p.opens + 1)) (with_mark s)
@@ -196,7 +200,7 @@ module _ {w out : List ℕ} {p : Place} (h : NodePtr) {e : ℕ} (fo : Found w ou
           (names_grow w (index_of (node_of h.0)) (at w PAIR_COUNT) l.0 (omega (arith, number_low))
           (subst (λ (x : ℕ). Names w (index_of (node_of h.0)) x) (sym left) (wh.handles.lefts (index_of (node_of h.0)) number_low)))
 
-      opened_turns : (file : List ℕ) (m : Measure) → FindsIn m w w p.depth h.0 e NoPath → Turns m file w w' out out' (Parse p h) (Parse after l)
+      opened_turns : (file : List ℕ) (m : Measure) → FindsIn m w w p.depth h.0 e None → Turns m file w w' out out' (Ok (Parse p h)) (Ok (Parse after l))
       unfolding after w'
       opened_turns file m finds =
           record {
@@ -207,13 +211,13 @@ module _ {w out : List ℕ} {p : Place} (h : NodePtr) {e : ℕ} (fo : Found w ou
             leads = λ f c s t th wr. record { last = with_mark s; writes = opened_writes f c s t wr; same = opened_same m finds f c s t wr };
           }
 
-      opened_falls : Falls (length out) (Parse p h) (Parse after l)
+      opened_falls : Falls (length out) (Ok (Parse p h)) (Ok (Parse after l))
       unfolding after
       opened_falls = omega (arith, (put_there a).end, (put_there a).fits)
 
     -- The `ff` is written, and the pair's word stored, at a number x that is the pair's.
     pub opens_turns : (n : Counts) (x : ℕ) (l : NodePtr) → x ≡ index_of (node_of h.0) → l.0 ≡ at w (PAIRS + 2 * index_of (node_of h.0))
-        → ItemPut out out' p.counts cons_item (item.Next n) → (file : List ℕ)
-        → TurnsFound file w (set w (OPEN + p.opens) (x * 2 + 1)) out out' p h e NoPath (Parse (record { opens = p.opens + 1; depth = p.depth; counts = n }) l)
+        → ItemPut out out' p.counts cons_item (Ok n) → (file : List ℕ)
+        → TurnsFound file w (set w (OPEN + p.opens) (x * 2 + 1)) out out' p h e None (Ok (Parse (record { opens = p.opens + 1; depth = p.depth; counts = n }) l))
     unfolding w' after number
     opens_turns n x l q left a file = rw q (opened_turns n l left a file, opened_falls n l left a)

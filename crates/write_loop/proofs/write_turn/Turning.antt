@@ -20,7 +20,7 @@ use Rattle.spec_session.specs.Steps.{room_in}
 use Rattle.spec_session.proofs.Loop.{turn_hole}
 use Rattle.work_layout.specs.Layout.{PAIR_COUNT, SENTINEL, STACK, WRITTEN}
 use Rattle.work_layout.specs.Rows.{stack_of}
-use Rattle.search_find.specs.declared.find_path.Path.{Path}
+use Rattle.std.specs.Prelude.{Ok, Option}
 use Rattle.search_list.specs.Steps.{Kept}
 use Rattle.cache_stack.proofs.Stacks.{stacked_same, stack_same}
 use Rattle.cache_stack.proofs.marks.Bits.{marked_same}
@@ -29,15 +29,14 @@ use Rattle.cache_entries.proofs.Entering.{sentinel_is}
 use Rattle.cache_entries.specs.lookup.Effects.{EntryOf}
 use Rattle.search_find.specs.Effects.{Ready, FindsIn}
 use Rattle.write_place.specs.declared.Place.{Place}
-use Rattle.write_loop.specs.declared.write_turn.Next.{Next}
 use Rattle.write_loop.specs.declared.write_turn.Next.TheVariants.{Parse, Stopped}
 use Rattle.write_place.specs.State.{AtomPlaces, AtomsThere, todo_of, Writes, WriterOnly}
-use Rattle.write_loop.specs.Effects.{place_of, Runs, Fine, goes_on, comes_to, Leads, Turns, Found}
+use Rattle.write_loop.specs.Effects.{Turned, place_of, Runs, Fine, goes_on, comes_to, Leads, Turns, Found}
 use Rattle.write_loop.proofs.write_turn.Frames.{only_both, only_same, holds_stay, tables_stay, pairs_stay, names_stay, places_stay, atoms_stay, Beside, beside_only, todo_stays, standing_stays}
 
 -- ---- one after the other
 
-module _ {m : Measure} {file w w₁ w₂ out out₁ out₂ : List ℕ} {a b r : Next} (wh : Whole w) (lw : length w₁ ≡ length w) (lo : length out₁ ≡ length out)
+module _ {m : Measure} {file w w₁ w₂ out out₁ out₂ : List ℕ} {a b r : Turned} (wh : Whole w) (lw : length w₁ ≡ length w) (lo : length out₁ ≡ length out)
     (x : Turns m file w w₁ out out₁ a b) (y : Turns m file w₁ w₂ out₁ out₂ b r) where
   then_leads : (f : File) (c : Cache) (s : Written) → Tables f w → AtomsThere file f w → Writes f w out (place_of a).depth (place_of a).counts c s
       → Leads m f c (length out) w₂ out₂ r (comes_to m f c (length out) w a s)
@@ -61,7 +60,7 @@ module _ {m : Measure} {file w w₁ w₂ out out₁ out₂ : List ℕ} {a b r : 
         leads = then_leads;
       }
 
-pub turns_none : (m : Measure) (file w out : List ℕ) (b : Next) → Fine w out b → Turns m file w w out out b b
+pub turns_none : (m : Measure) (file w out : List ℕ) (b : Turned) → Fine w out b → Turns m file w w out out b b
 turns_none m file w out b g =
     record {
       fine = g;
@@ -74,7 +73,7 @@ turns_none m file w out b g =
 -- ---- the open place
 
 pub turns_stop : {m : Measure} {file w out : List ℕ} (p : Place) (h : NodePtr) → Runs w out p 0 → Names w (at w PAIR_COUNT) h.0 → at w SENTINEL ≡ h.0
-    → Turns m file w w out out (Parse p h) (Stopped p)
+    → Turns m file w w out out (Ok (Parse p h)) (Ok (Stopped p))
 turns_stop {m} {file} {w} {out} p h run n q =
     record {
       fine = run;
@@ -139,7 +138,7 @@ module _ {w w₁ : List ℕ} (len : length w₁ ≡ length w) (k : Kept w w₁) 
           names_stay w w₁ len search_only run.stands.whole (at w PAIR_COUNT) (at w₁ PAIR_COUNT) h.0
           (pairs_stay w w₁ len search_only run.stands.whole) n
 
-      turns_search : (m : Measure) (file : List ℕ) → Turns m file w w₁ out out (Parse p h) (Parse p h)
+      turns_search : (m : Measure) (file : List ℕ) → Turns m file w w₁ out out (Ok (Parse p h)) (Ok (Parse p h))
       turns_search m file =
           record {
             fine = (run_stays, names_there);
@@ -157,7 +156,7 @@ module _ {w w₁ : List ℕ} (len : length w₁ ≡ length w) (k : Kept w w₁) 
           }
 
       -- The search, and what is made of it.
-      pub after_search : {m : Measure} {file w₂ out₂ : List ℕ} {r : Next} → Turns m file w₁ w₂ out out₂ (Parse p h) r → Turns m file w w₂ out out₂ (Parse p h) r
+      pub after_search : {m : Measure} {file w₂ out₂ : List ℕ} {r : Turned} → Turns m file w₁ w₂ out out₂ (Ok (Parse p h)) r → Turns m file w w₂ out out₂ (Ok (Parse p h)) r
       after_search {m} {file} y = turns_then run.stands.whole len refl (turns_search m file) y
 
       back : (f : File) → Tables f w₁ → Tables f w
@@ -167,7 +166,7 @@ module _ {w w₁ : List ℕ} (len : length w₁ ≡ length w) (k : Kept w w₁) 
       holds_back f c t ho = holds_stay w₁ w (sym len) search_back run_stays.stands.whole f c t ho
 
       -- The place where a path was looked for.
-      pub found_there : {e : ℕ} {r : Path} → (at w SENTINEL ≡ h.0 → ⊥) → EntryOf w h.0 e → Ready w₁ r → Found w₁ out p h.0 e r
+      pub found_there : {e : ℕ} {r : Option ℕ} → (at w SENTINEL ≡ h.0 → ⊥) → EntryOf w h.0 e → Ready w₁ r → Found w₁ out p h.0 e r
       found_there {e} {r} inner en re =
           record {
             running = run_stays;
@@ -183,7 +182,7 @@ module _ {w w₁ : List ℕ} (len : length w₁ ≡ length w) (k : Kept w w₁) 
           }
 
       -- Where the search was made, the rest may forget how it was made.
-      pub finds_there : {m : Measure} {e : ℕ} {r : Path} → FindsIn m w w₁ p.depth h.0 e r → FindsIn m w₁ w₁ p.depth h.0 e r
+      pub finds_there : {m : Measure} {e : ℕ} {r : Option ℕ} → FindsIn m w w₁ p.depth h.0 e r → FindsIn m w₁ w₁ p.depth h.0 e r
       finds_there {m} {e} fi =
           record {
             answer = λ f c marked t ho mk.

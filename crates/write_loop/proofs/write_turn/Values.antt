@@ -27,25 +27,24 @@ use Rattle.spec_session.specs.FindPath.{without_terminator, find_in}
 use Rattle.spec_session.specs.Steps.{room_in}
 use Rattle.spec_session.proofs.Loop.{turn_atom, turn_atom_ref, turn_pair_ref}
 use Rattle.work_layout.specs.Layout.{PAIR_COUNT, ENTRIES}
-use Rattle.search_find.specs.declared.find_path.Path.{Path}
-use Rattle.search_find.specs.declared.find_path.Path.TheVariants.{At, NoPath}
+use Rattle.std.specs.Prelude as code
+use Rattle.std.specs.Prelude.{Result, Ok, Err, Some, None}
 use Rattle.search_list.specs.State.{path_at}
 use Rattle.cache_stack.specs.marks.Effects.{marked_at}
 use Rattle.cache_stack.specs.Effects.{PushedMarked}
 use Rattle.write_counts.specs.declared.Counts.{Counts}
-use Rattle.write_item.specs.declared.Put.{Put}
-use Rattle.write_item.specs.declared.Put.TheVariants as item
+use Rattle.write_item.specs.declared.OutputFull.{OutputFull}
 use Rattle.write_item.specs.Answers.{ItemPut}
 use Rattle.write_item.proofs.Counting.{put_none}
 use Rattle.cache_entries.specs.Meaning.{bytes_named, Tables, Holds}
 use Rattle.cache_entries.proofs.Entering.{names_pair, is_leaf, is_node}
 use Rattle.search_find.specs.Effects.{LengthOf, steps_of, FindsIn}
 use Rattle.write_place.specs.declared.Place.{Place}
-use Rattle.write_loop.specs.declared.write_turn.Next.{Next}
-use Rattle.write_loop.specs.declared.write_turn.Next.TheVariants.{Parse, Close, Refused}
+use Rattle.write_place.specs.declared.AddError.TheVariants as add_error
+use Rattle.write_loop.specs.declared.write_turn.Next.TheVariants.{Parse, Close}
 use Rattle.write_place.specs.State.{AtomsThere, todo_of, Writes}
 use Rattle.write_place.proofs.Sizes.{size_written}
-use Rattle.write_loop.specs.Effects.{Runs, goes_on, Turns, Falls, Found, TurnsFound, AtomPut, Stacks, Pushes}
+use Rattle.write_loop.specs.Effects.{Turned, refused_at, Runs, goes_on, Turns, Falls, Found, TurnsFound, AtomPut, Stacks, Pushes}
 use Rattle.write_loop.proofs.write_turn.Frames.{only_same, holds_stay, Beside, beside_only, todo_stays, standing_stays}
 use Rattle.write_loop.proofs.write_turn.Items.{put_there, taken_before, running_more, counts_written, bytes_written, WholeItem, whole_fits, whole_lacks}
 
@@ -86,7 +85,7 @@ module _ (file w w' out out' : List ℕ) (p : Place) (h : NodePtr) (e : ℕ) (i 
   abbrev with_value : Cache → Written → Written
   with_value c s = push c e (record { stack = s.stack; marked = s.marked; items = s.items ++ i ∷ [] })
 
-  module _ (n : Counts) (a : ItemPut out out' p.counts i (item.Next n)) (st : Stacks w w' p.depth e) where
+  module _ (n : Counts) (a : ItemPut out out' p.counts i (Ok n)) (st : Stacks w w' p.depth e) where
     after : Place
     after = record { opens = p.opens; depth = p.depth + 1; counts = n }
 
@@ -113,7 +112,7 @@ module _ (file w w' out out' : List ℕ) (p : Place) (h : NodePtr) (e : ℕ) (i 
           (whole_fits (length out) k s.items i whole (omega (arith, (put_there a).fits, size_written wr)))
           ∙ ap (λ (j : List Todo). goes_on m c (length out) j (with_value c s)) (sym (todo_stays w w' beside p.opens p.depth 0 run.stands f))
 
-      value_turns : Turns m file w w' out out' (Parse p h) (Close after)
+      value_turns : Turns m file w w' out out' (Ok (Parse p h)) (Ok (Close after))
       unfolding after
       value_turns =
           record {
@@ -126,12 +125,12 @@ module _ (file w w' out out' : List ℕ) (p : Place) (h : NodePtr) (e : ℕ) (i 
             leads = λ f c s t th wr. record { last = with_value c s; writes = value_writes f c s t wr; same = value_same f c s t th wr };
           }
 
-    value_falls : Falls (length out) (Parse p h) (Close after)
+    value_falls : Falls (length out) (Ok (Parse p h)) (Ok (Close after))
     unfolding after
     value_falls = omega (arith, (put_there a).end, (put_there a).fits, run.stands.few_opens)
 
   lacks_turns : length out < p.counts.size + length (item_bytes i) → (m : Measure) → StandsFor m file w out p h.0 e i
-      → Turns m file w w out out (Parse p h) (Refused 13 p)
+      → Turns m file w w out out (Ok (Parse p h)) (refused_at p add_error.OutputFull)
   lacks_turns q m stands =
       record {
         fine = run;
@@ -150,31 +149,31 @@ module _ (file w w' out out' : List ℕ) (p : Place) (h : NodePtr) (e : ℕ) (i 
             };
       }
 
-  pub value_after : {path : Path} → ((m : Measure) → FindsIn m w w p.depth h.0 e path → StandsFor m file w out p h.0 e i)
-      → (x : Put) (r : Next) → ItemPut out out' p.counts i x → Pushes w w' p e x r → TurnsFound file w w' out out' p h e path r
+  pub value_after : {path : code.Option ℕ} → ((m : Measure) → FindsIn m w w p.depth h.0 e path → StandsFor m file w out p h.0 e i)
+      → (x : Result Counts OutputFull) (r : Turned) → ItemPut out out' p.counts i x → Pushes w w' p e x r → TurnsFound file w w' out out' p h e path r
   unfolding after
-  value_after {path} stands (item.Next n) r a q =
-      subst (λ (y : Next). TurnsFound file w w' out out' p h e path y) (sym q.0)
+  value_after {path} stands (Ok n) r a q =
+      subst (λ (y : Turned). TurnsFound file w w' out out' p h e path y) (sym q.0)
       (λ m fi. value_turns n a q.1 m (stands m fi), value_falls n a q.1)
-  value_after {path} stands item.Full r a q =
+  value_after {path} stands (Err y) r a q =
       let n = put_none out out' p.counts.size (item_bytes i) a.bytes in
-      subst (λ (y : Next). TurnsFound file w w' out out' p h e path y) (sym q.0) (
+      subst (λ (y : Turned). TurnsFound file w w' out out' p h e path y) (sym q.0) (
         λ m fi.
-            subst (λ (x : List ℕ). Turns m file w x out out' (Parse p h) (Refused 13 p)) (sym q.1)
-            (subst (λ (x : List ℕ). Turns m file w w out x (Parse p h) (Refused 13 p)) (sym n.1) (lacks_turns n.0 m (stands m fi))),
+            subst (λ (x : List ℕ). Turns m file w x out out' (Ok (Parse p h)) (refused_at p add_error.OutputFull)) (sym q.1)
+            (subst (λ (x : List ℕ). Turns m file w w out x (Ok (Parse p h)) (refused_at p add_error.OutputFull)) (sym n.1) (lacks_turns n.0 m (stands m fi))),
         omega arith,
       )
 
 -- ---- which item: what was found
 
 -- The search of the definitions gives what was found.
-pub found_is : {m : Measure} {w out : List ℕ} {d h e : ℕ} {path : Path} {counts : Counts} {f : File} {c : Cache} {s : Written} {x : ℕ}
+pub found_is : {m : Measure} {w out : List ℕ} {d h e : ℕ} {path : code.Option ℕ} {counts : Counts} {f : File} {c : Cache} {s : Written} {x : ℕ}
     → FindsIn m w w d h e path → Tables f w → Writes f w out d counts c s → x ≡ e → find_in (measure_of m) c s.marked s.stack h x ≡ steps_of w path
 found_is {m} {h = h} {e = e} {f = f} {c = c} {s = s} finds t wr q =
     ap (λ (y : ℕ). find_in (measure_of m) c s.marked s.stack h y) q ∙ ap (λ (st : List ℕ). find_in (measure_of m) c s.marked st h e) wr.stack
     ∙ finds.answer f c s.marked t wr.cache wr.marks
 
-module _ {w out : List ℕ} {p : Place} {h e : ℕ} {path : Path} (fo : Found w out p h e path) {f : File} {c : Cache} {s : Written}
+module _ {w out : List ℕ} {p : Place} {h e : ℕ} {path : code.Option ℕ} (fo : Found w out p h e path) {f : File} {c : Cache} {s : Written}
     (t : Tables f w) (wr : Writes f w out p.depth p.counts c s) where
   pub leaf_there : is_atom (node_of h) ≡ true → unfolded f h ≡ leaf h (bytes_named f (node_of h))
   leaf_there a = is_leaf w h fo.inner a f t
@@ -187,8 +186,8 @@ module _ {w out : List ℕ} {p : Place} {h e : ℕ} {path : Path} (fo : Found w 
 
 -- ---- a reference
 
-module _ (file : List ℕ) {w out : List ℕ} {p : Place} {h e slot : ℕ} (fo : Found w out p h e (At slot)) (steps : List Bool) (is : path_at w slot ≡ steps ++ true ∷ []) where
-  pub reference_stands : (m : Measure) → FindsIn m w w p.depth h e (At slot) → StandsFor m file w out p h e (reference_item steps)
+module _ (file : List ℕ) {w out : List ℕ} {p : Place} {h e slot : ℕ} (fo : Found w out p h e (Some slot)) (steps : List Bool) (is : path_at w slot ≡ steps ++ true ∷ []) where
+  pub reference_stands : (m : Measure) → FindsIn m w w p.depth h e (Some slot) → StandsFor m file w out p h e (reference_item steps)
   reference_stands m finds f c s t th wr k = go (is_atom (node_of h)) refl
     where
       whole : ℕ → session.Outcome
@@ -217,9 +216,9 @@ module _ (file : List ℕ) {w out : List ℕ} {p : Place} {h e slot : ℕ} (fo :
 
 -- ---- an atom in full
 
-module _ (file : List ℕ) {w out : List ℕ} {p : Place} {h e : ℕ} (fo : Found w out p h e NoPath) (a : is_atom (node_of h) ≡ true) (bytes : List ℕ)
+module _ (file : List ℕ) {w out : List ℕ} {p : Place} {h e : ℕ} (fo : Found w out p h e None) (a : is_atom (node_of h) ≡ true) (bytes : List ℕ)
     (are : (f : File) → Tables f w → AtomsThere file f w → bytes_named f (node_of h) ≡ bytes) where
-  pub atom_stands : (m : Measure) → FindsIn m w w p.depth h e NoPath → StandsFor m file w out p h e (atom_item bytes)
+  pub atom_stands : (m : Measure) → FindsIn m w w p.depth h e None → StandsFor m file w out p h e (atom_item bytes)
   atom_stands m finds f c s t th wr k =
       let bs = bytes_named f (node_of h) in
       let q = atom_is fo t wr a in
@@ -230,28 +229,17 @@ module _ (file : List ℕ) {w out : List ℕ} {p : Place} {h e : ℕ} (fo : Foun
 
 -- ---- what `refer` and `write_full` leave
 
-module _ {w w' out out' : List ℕ} {p : Place} {h : NodePtr} {e : ℕ} (len : length w' ≡ length w) (x : Put) {r : Next} (pu : Pushes w w' p e x r) where
-  pub refer_turns : {slot : ℕ} → Found w out p h.0 e (At slot)
+module _ {w w' out out' : List ℕ} {p : Place} {h : NodePtr} {e : ℕ} (len : length w' ≡ length w) (x : Result Counts OutputFull) {r : Turned} (pu : Pushes w w' p e x r) where
+  pub refer_turns : {slot : ℕ} → Found w out p h.0 e (Some slot)
       → ((path : List Bool) → path_at w slot ≡ path ++ true ∷ [] → ItemPut out out' p.counts (reference_item path) x)
-      → (file : List ℕ) → TurnsFound file w w' out out' p h e (At slot) r
+      → (file : List ℕ) → TurnsFound file w w' out out' p h e (Some slot) r
   refer_turns fo a file =
       let en = fo.ready.1 in
       value_after file w w' out out' p h e (reference_item en.steps) fo.running tt (omega arith) len
       (reference_stands file fo en.steps en.ends) x r (a en.steps en.ends) pu
 
-  pub atom_turns : {file : List ℕ} → Found w out p h.0 e NoPath → is_atom (node_of h.0) ≡ true → AtomPut file w h.0 out out' p.counts x
-      → TurnsFound file w w' out out' p h e NoPath r
+  pub atom_turns : {file : List ℕ} → Found w out p h.0 e None → is_atom (node_of h.0) ≡ true → AtomPut file w h.0 out out' p.counts x
+      → TurnsFound file w w' out out' p h e None r
   atom_turns {file} fo a b =
       value_after file w w' out out' p h e (atom_item b.bytes) fo.running tt (atom_byte b.bytes b.short) len
       (atom_stands file fo a b.bytes b.are) x r b.answer pu
-
--- ---- what `push_value` leaves
-
-pub pushes_next : {w w' : List ℕ} (p : Place) {e n : ℕ} {m : Counts} {x : Put} → x ≡ item.Next m → LengthOf w e n → PushedMarked w w' p.depth e n
-    → Pushes w w' p e x (Close (record { opens = p.opens; depth = p.depth + 1; counts = m }))
-pushes_next {w} {w'} p {e} {n} {m} {x} q l pu =
-    subst (λ (y : Put). Pushes w w' p e y (Close (record { opens = p.opens; depth = p.depth + 1; counts = m }))) (sym q)
-    (refl, record { len = n; length_is = l; pushed = pu })
-
-pub pushes_full : (w : List ℕ) (p : Place) (e : ℕ) (x : Put) → x ≡ item.Full → Pushes w w p e x (Refused 13 p)
-pushes_full w p e x q = subst (λ (y : Put). Pushes w w p e y (Refused 13 p)) (sym q) (refl, refl)

@@ -12,7 +12,6 @@ ghost use Rattle.write_loop.specs.Effects.{Runs, Turns, Falls, Closes};
 use crate::write_turn::Next;
 use cache_entries::lookup;
 use cache_stack::stack_pop;
-use words::wide;
 use write_place::Place;
 
 // The two values of pair i, on top of `depth` entries, become one.
@@ -38,25 +37,24 @@ fn innermost(work: &[u32], opens: usize) -> u32
 pub fn close_up(work: &mut [u32], place: Place) -> Next
     requires { Standing work.old place.opens place.depth 1 }
     ensures { (m : Measure) (file out : List ℕ) → Runs work.old out place 1
-        → (Turns m file work.old work.new out out (Close place) result) ×
-        (Falls (length out) (Close place) result) }
+        → (Turns m file work.old work.new out out (Ok (Close place)) (Ok result)) ×
+        (Falls (length out) (Ok (Close place)) (Ok result)) }
 {
     let opens = place.opens;
     if opens == 0 {
         return Next::Done(place);
     }
     let v = innermost(work, opens);
-    let i = wide(v / 2);
+    let i = (v / 2) as usize;
     if v % 2 == 1 {
         let right = cache_entries::right_of(work, i);
         work[work_layout::OPEN + (opens - 1)] = v - 1;
         return Next::Parse(place, right);
     }
     close_pair(work, place.depth, i);
-    let counts = place.counts;
     Next::Close(Place {
         opens: opens - 1,
         depth: place.depth - 1,
-        counts,
+        ..place
     })
 }

@@ -1,15 +1,12 @@
 // incremental.rs: a pair opened; its left side is next.
 ghost use Rattle.std.specs.Prelude.{◌≡◌, true, List, ℕ};
 ghost use Rattle.allocator.specs.Handle.{node_of, is_pair};
-ghost use Rattle.search_find.specs.declared.find_path.Path.TheVariants.{NoPath};
 ghost use Rattle.write_loop.specs.Effects.{TurnsFound, Found};
 
-use crate::write_turn::Next;
+use crate::write_turn::{self, Next};
 use allocator::NodePtr;
-use words::wide;
 use work_layout::EntryIndex;
-use write_item::Put;
-use write_place::Place;
+use write_place::{AddError, Place, Refused};
 
 // The most pairs that may be open: question 12.
 const MAX_OPEN: usize = 4096;
@@ -21,29 +18,26 @@ pub fn open_pair(
     place: Place,
     node: NodePtr,
     e: EntryIndex,
-) -> Next
-    requires { (Found work.old output.old place node.0 e.0 NoPath) × (is_pair (node_of node.0) ≡ true) }
+) -> Result<Next, Refused>
+    requires { (Found work.old output.old place node.0 e.0 None) × (is_pair (node_of node.0) ≡ true) }
     ensures { (file : List ℕ)
         → TurnsFound file work.old work.new output.old output.new place node
-        e.0 NoPath result }
+        e.0 None result }
 {
     let opens = place.opens;
     if opens >= MAX_OPEN {
-        return Next::Refused(12, place);
+        return Err(Refused {
+            error: AddError::TooManyOpen,
+            place,
+        });
     }
-    match write_item::write_cons(output, place.counts) {
-        Put::Next(counts) => {
-            let left = cache_entries::left_of(work, wide(node.index()));
-            work[work_layout::OPEN + opens] = node.index() * 2 + 1;
-            Next::Parse(
-                Place {
-                    opens: opens + 1,
-                    depth: place.depth,
-                    counts,
-                },
-                left,
-            )
-        }
-        Put::Full => Next::Refused(13, place),
-    }
+    let counts = write_turn::counted(place, write_item::write_cons(output, place.counts))?;
+    let left = cache_entries::left_of(work, node.index() as usize);
+    work[work_layout::OPEN + opens] = node.index() * 2 + 1;
+    let opened = Place {
+        opens: opens + 1,
+        counts,
+        ..place
+    };
+    Ok(Next::Parse(opened, left))
 }

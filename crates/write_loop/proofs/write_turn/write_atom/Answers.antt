@@ -10,21 +10,13 @@ use Rattle.write_loop.proofs.write_turn.Atoms.{listed_put, small_put}
 use borrow.Author.Rules.{rules}
 use Rattle.write_loop.proofs.write_turn.write_atom.Goals as goal
 
-pub write_listed-requires : goal.write_listed-requires
-write_listed-requires c =
-    let listed : is_listed (node_of c.args.node.0) ≡ true =
-    sym c.is_listed.ensures ∙ c.if-is_listed.true in
-    let s = c in
-    let low = listed_low s.args.work.now s.args.node.0 s.requires.1 s.requires.3 listed in
-    (s.requires.0, s.requires.1, s.requires.2, omega (arith, c.wide.ensures, c.index.ensures, low))
-
 pub returns-then-is_listed : goal.returns-then-is_listed
 returns-then-is_listed c =
     let listed : is_listed (node_of c.args.node.0) ≡ true =
     sym c.is_listed.ensures ∙ c.if-is_listed.true in
     let x = c in
     let s = x in
-    listed_put s.requires.1 s.requires.3 x.wide.result s.requires.2 listed (x.wide.ensures ∙ x.index.ensures) c.write_listed.ensures
+    listed_put s.requires.1 s.requires.3 x.index.result s.requires.2 listed x.index.ensures c.write_listed.ensures
 
 pub write_small-requires : goal.write_small-requires
 write_small-requires c = let s = c in (s.requires.0, omega (arith, c.index-2.ensures, index_low s.args.node.0))

@@ -10,16 +10,6 @@ use Rattle.write_loop.proofs.write_turn.Atoms.{part_short, part_is}
 use borrow.Author.Rules.{rules}
 use Rattle.write_loop.proofs.write_turn.write_listed.Goals as goal
 
-pub slice_bounds-write_listed-count : goal.slice_bounds-write_listed-count
-slice_bounds-write_listed-count c = let s = c in
-    omega (arith, s.requires.2.ordered s.args.i s.requires.3, s.requires.2.inside s.args.i s.requires.3, c.start_of-start.ensures, c.end_of-end.ensures)
-
-pub write_listed-requires : goal.write_listed-requires
-write_listed-requires c =
-    let start = c.start_of-start.result in
-    let s = c in
-    (s.requires.0, part_short s.args.file.now start (c.end_of-end.result - start) s.requires.2.short)
-
 pub returns : goal.returns
 returns c =
     let e = c in
