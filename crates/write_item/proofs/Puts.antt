@@ -1,14 +1,14 @@
 -- An item put into the output: one byte, or an atom.
 -- Assumes nothing.
-use Prim.Native.Nat.{ℕ, suc, ◌+◌, ◌-◌, ◌^◌, ◌≤◌, ◌<◌}
-use mathlib.Core.Path.{◌≡◌, sym, ap, ◌∙◌}
+use Prim.Native.Nat.{ℕ, suc, ◌+◌, ◌^◌, ◌≤◌, ◌<◌}
+use mathlib.Core.Path.{◌≡◌, refl, sym, ap, ◌∙◌}
 use mathlib.Core.List.{List, [], ◌∷◌, ◌++◌}
 use mathlib.Core.Option.{Option, some}
-use mathlib.Core.Bool.{Bool, true, false, not}
+use mathlib.Core.Bool.{Bool, true, false, not, true≢false, false≢true}
 use native.Mathlib.Omega.{arith}
 use native.Mathlib.Numerals.{add-one}
 use lib.Dec.{leb}
-use borrow.Author.Tests.{le-leb, lt-leb, leb-true, leb-false, not-true, not-false}
+use borrow.Author.Tests.{leb-true, leb-false, not-true, not-false}
 use lib.ListN.{length, take, drop, set}
 use lib.Seq.{paste, set_split, append_snoc}
 use Rattle.spec_session.proofs.Formed.{encoded}
@@ -17,6 +17,10 @@ use Rattle.atom.specs.Prefix.{encode}
 use Rattle.atom.specs.Write.{next, full, too_long, Written, put}
 use Rattle.atom.specs.WriteLaws.{put_full, put_room}
 use Rattle.spec_session.specs.Items.{bytes_or_none}
+use Rattle.std.specs.Prelude.{Result, Ok, Err, MatchResult, is_ok}
+use Rattle.atom_encode.specs.Answers as answers
+use Rattle.atom_encode.specs.declared.write_atom.WriteError.{WriteError}
+use Rattle.atom_encode.specs.declared.write_atom.WriteError.TheVariants.{Full, TooLong}
 
 -- One byte stored is one byte pasted.
 pub set_paste : (out : List ℕ) (p b : ℕ) → p < length out → set out p b ≡ paste out p (b ∷ []) 1
@@ -63,3 +67,26 @@ module _ (out : List ℕ) (p : ℕ) (atom : List ℕ) (h : length atom < 2 ^ 34)
     where
       bytes : List ℕ
       bytes = bytes_or_none (encode atom)
+
+  -- Where the write was refused, the item does not fit.
+  pub put_refused : (e : WriteError) (out' : List ℕ) → answers.written (Err e) out' ≡ put out p (encode atom)
+      → record { answer = full; output = out' } ≡ put out p (some (bytes_or_none (encode atom)))
+  put_refused Full out' q = put_atom _ q
+  put_refused TooLong out' q = put_atom_there out' q
+
+-- ---- a result, from what `map_err` made of it
+
+module _ {T E D : Type 0} (r : Result T E) (m : Result T D) (same : is_ok m ≡ is_ok r) where
+  pub mapped_ok : (x : T) (Q : E → Type 0) → MatchResult r (λ y. m ≡ Ok y) Q → m ≡ Ok x → r ≡ Ok x
+  mapped_ok x Q h q = go r same h
+    where
+      go : (r : Result T E) → is_ok m ≡ is_ok r → MatchResult r (λ y. m ≡ Ok y) Q → r ≡ Ok x
+      go (Ok y) s h = cc
+      go (Err e) s h = absurd (true≢false (sym (ap is_ok q) ∙ s))
+
+  pub mapped_err : (d : D) → m ≡ Err d → (e : E) × (r ≡ Err e)
+  mapped_err d q = go r same
+    where
+      go : (r : Result T E) → is_ok m ≡ is_ok r → (e : E) × (r ≡ Err e)
+      go (Ok y) s = absurd (false≢true (sym (ap is_ok q) ∙ s))
+      go (Err e) s = (e, refl)

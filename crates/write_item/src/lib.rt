@@ -11,7 +11,7 @@ ghost use Rattle.write_counts.specs.Counts.{Bounded};
 ghost use Rattle.write_item.specs.Answers.{ItemPut};
 
 use allocator::small_atom;
-use atom_encode::write_atom::WriteAtom;
+use atom_encode::write_atom;
 use write_counts::Counts;
 
 // The output has no room for the whole item.
@@ -42,12 +42,9 @@ pub fn write_listed(output: &mut [u8], counts: Counts, blob: &[u8]) -> Result<Co
     requires { (Bounded counts) × (length blob.now < 2 ^ 34) }
     ensures { ItemPut output.old output.new counts (atom_item blob.now) result }
 {
-    match atom_encode::write_atom::write_atom(output, counts.size, blob) {
-        WriteAtom::Next(next, width) => Ok(counts.with_atom(next, width)),
-        WriteAtom::Full => Err(OutputFull),
-        // Never: a prefix holds the size.
-        WriteAtom::TooLong => Err(OutputFull),
-    }
+    // It is never too long: a prefix holds the size.
+    let written = write_atom::write_atom(output, counts.size, blob).map_err(|_| OutputFull)?;
+    Ok(counts.with_atom(written.next, written.width))
 }
 
 // A small atom, which has no bytes in the file.

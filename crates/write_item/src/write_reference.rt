@@ -73,7 +73,12 @@ fn put_reference(
 }
 
 // A reference to the path at a slot, whose first bit is set.
-pub fn write_reference(work: &[u32], slot: usize, output: &mut [u8], counts: Counts) -> Result<Counts, OutputFull>
+pub fn write_reference(
+    work: &[u32],
+    slot: usize,
+    output: &mut [u8],
+    counts: Counts,
+) -> Result<Counts, OutputFull>
     requires { (WORK ≤ length work.now) × (Readable work.now slot) × (Ends (path_at work.now slot)) × (Bounded counts) }
     ensures { (path : List Bool) → path_at work.now slot ≡ path ++ true ∷ []
         → ItemPut output.old output.new counts (reference_item path) result }

@@ -6,7 +6,6 @@ use mathlib.Core.Path.{refl, sym, ap}
 use mathlib.Core.Bool.{not}
 use native.Mathlib.Omega.{arith}
 use lib.ListN.{length}
-use borrow.Author.Rules.{rules}
 use Rattle.atom.specs.WriteLaws.{put_full}
 use Rattle.spec_session.specs.Items.{cons_item}
 use Rattle.write_item.proofs.Puts.{no_room, has_room, put_byte}

@@ -1,55 +1,35 @@
 -- `write_item::write_listed` meets its contract: an atom whose size a prefix holds has bytes, so the write is never one of an atom too long.
 -- Assumes nothing.
-use mathlib.Core.Path.{◌≡◌, ap, sym, subst, ◌∙◌}
-use mathlib.Core.Option.{some}
-use borrow.Author.Rules.{rules}
-use Rattle.atom.specs.Write.{next, put}
-use Rattle.atom_encode.specs.Answers as answers
-use Rattle.spec_session.specs.Items.{width_or_0, atom_item, item_prefix, item_bytes}
-use Rattle.write_item.proofs.Puts.{put_atom, put_atom_there}
+use mathlib.Core.Path.{ap}
+use Rattle.std.proofs.lemmas.Result.{err_from_is_err_and}
+use Rattle.spec_session.specs.Items.{width_or_0, atom_item}
+use Rattle.write_item.proofs.Puts.{put_atom, put_refused, mapped_ok, mapped_err}
 use Rattle.write_item.proofs.Counting.{few_prefixes, put_counted}
 use Rattle.write_item.proofs.write_listed.Goals as goal
 
+pub returns-in_err-written : goal.returns-in_err-written
+returns-in_err-written c =
+    let a = c.args in
+    let p = err_from_is_err_and c.from_residual.result c.from_residual.ensures.1 in
+    let e = mapped_err c.write_atom.result c.map_err.result c.map_err.ensures.variant c.in_err-written.field-0.0 c.in_err-written.was in
+    rw p.1
+    (record {
+      bytes = put_refused a.output.now a.counts.size a.blob.now c.requires.1 e.0 c.write_atom.new.output (rw e.1 at c.write_atom.ensures.0);
+      counted = tt;
+    })
+
 pub with_atom-requires : goal.with_atom-requires
 with_atom-requires c =
-    let s = c.args in
-    let w = c.write_atom in
-    let there : record { answer = next c.in-Next.next; output = w.new.output }
-    ≡ put s.output.now s.counts.size (some (item_bytes (atom_item s.blob.now))) =
-    put_atom s.output.now s.counts.size s.blob.now c.requires.1 _
-    (sym (ap (λ r. answers.written r w.new.output) c.in-Next.is) ∙ w.ensures.0) in
-    let told : item_prefix (atom_item s.blob.now) ≡ c.in-Next.width =
-    ap width_or_0 (subst (answers.WidthTold s.blob.now) c.in-Next.is w.ensures.1) in
-    few_prefixes s.output.now _ s.counts (atom_item s.blob.now) _ _ there told c.requires.0
+    let a = c.args in
+    let e = mapped_ok c.write_atom.result c.map_err.result c.map_err.ensures.variant c.in_ok-written.written _ c.map_err.ensures.cases c.in_ok-written.was in
+    few_prefixes a.output.now c.write_atom.new.output a.counts (atom_item a.blob.now) _ _
+    (put_atom a.output.now a.counts.size a.blob.now c.requires.1 _ (rw e at c.write_atom.ensures.0))
+    (ap width_or_0 (rw e at c.write_atom.ensures.1)) c.requires.0
 
-pub returns-in-Next : goal.returns-in-Next
-returns-in-Next c =
-    let s = c.args in
-    let w = c.write_atom in
-    let there : record { answer = next c.in-Next.next; output = w.new.output }
-    ≡ put s.output.now s.counts.size (some (item_bytes (atom_item s.blob.now))) =
-    put_atom s.output.now s.counts.size s.blob.now c.requires.1 _
-    (sym (ap (λ r. answers.written r w.new.output) c.in-Next.is) ∙ w.ensures.0) in
-    let told : item_prefix (atom_item s.blob.now) ≡ c.in-Next.width =
-    ap width_or_0 (subst (answers.WidthTold s.blob.now) c.in-Next.is w.ensures.1) in
-    put_counted s.output.now _ s.counts (atom_item s.blob.now) _ _ there told _ c.with_atom.ensures
-
-pub returns-in-Full : goal.returns-in-Full
-returns-in-Full c =
-    let put = c in
-    let s = put in
-    let w = put.write_atom in
-    record {
-      bytes =
-          put_atom s.args.output.now s.args.counts.size s.args.blob.now s.requires.1 _
-          (sym (ap (λ r. answers.written r w.new.output) c.in-Full.is) ∙ w.ensures.0);
-      counted = tt;
-    }
-
-pub returns-in-TooLong : goal.returns-in-TooLong
-returns-in-TooLong c =
-    let put = c in
-    let s = put in
-    let w = put.write_atom in
-    put_atom_there s.args.output.now s.args.counts.size s.args.blob.now s.requires.1 w.new.output
-    (sym (ap (λ r. answers.written r w.new.output) c.in-TooLong.is) ∙ w.ensures.0)
+pub returns : goal.returns
+returns c =
+    let a = c.args in
+    let e = mapped_ok c.write_atom.result c.map_err.result c.map_err.ensures.variant c.in_ok-written.written _ c.map_err.ensures.cases c.in_ok-written.was in
+    put_counted a.output.now c.write_atom.new.output a.counts (atom_item a.blob.now) _ _
+    (put_atom a.output.now a.counts.size a.blob.now c.requires.1 _ (rw e at c.write_atom.ensures.0))
+    (ap width_or_0 (rw e at c.write_atom.ensures.1)) _ c.with_atom.ensures

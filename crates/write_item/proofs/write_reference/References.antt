@@ -2,13 +2,12 @@
 -- Assumes nothing.
 use Prim.Native.Nat.{ℕ, suc, ◌+◌, ◌-◌, ◌/◌, ◌≤◌, ◌<◌}
 use mathlib.Core.Path.{◌≡◌, sym, ap, ◌∙◌}
-use mathlib.Core.List.{List, [], ◌∷◌, ◌++◌, append_assoc}
+use mathlib.Core.List.{List, [], ◌∷◌, ◌++◌}
 use mathlib.Core.Option.{Option, some}
 use mathlib.Core.Bool.{Bool, true}
 use native.Mathlib.Omega.{arith}
 use lib.ListN.{length, take, drop, set, length-drop}
-use borrow.Rule.Slice.PartMut.{put_mid}
-use lib.Seq.{paste, take_all, drop-drop, length-take-le}
+use lib.Seq.{paste, length-take-le}
 use Rattle.words.specs.BigEndian.{length_big_endian}
 use Rattle.atom.specs.Prefix.{mark, prefix, prefix_width, encode}
 use Rattle.atom.specs.Write.{next, full, put}

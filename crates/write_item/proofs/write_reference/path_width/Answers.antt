@@ -3,7 +3,6 @@
 use Prim.Native.Nat.{ℕ, ◌+◌, ◌/◌}
 use mathlib.Core.Path.{sym, ap, ◌∙◌}
 use native.Mathlib.Omega.{arith}
-use borrow.Author.Rules.{rules}
 use Rattle.atom.specs.PrefixLaws.{width_carries}
 use Rattle.atom.specs.Prefix.{width}
 use Rattle.write_item.proofs.write_reference.Widths.{short_width, long_width}

@@ -1,6 +1,5 @@
 -- `write_item::write_reference::put_path` meets its contract: the part comes back with the path's bytes.
 -- Assumes nothing.
-use borrow.Author.Rules.{rules}
 use Rattle.write_item.proofs.write_reference.References as references
 use Rattle.write_item.proofs.write_reference.put_path.Goals as goal
 

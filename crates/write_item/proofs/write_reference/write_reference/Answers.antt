@@ -1,11 +1,8 @@
 -- `write_item::write_reference::write_reference` meets its contract.
 -- Assumes nothing.
-use Prim.Native.Nat.{ℕ, ◌+◌, ◌/◌}
 use mathlib.Core.Path.{ap, ◌∙◌}
 use mathlib.Core.Bool.{not}
-use native.Mathlib.Omega.{arith}
 use lib.ListN.{length}
-use borrow.Author.Rules.{rules}
 use Rattle.search_list.specs.State.{path_at}
 use Rattle.spec_session.specs.Items.{width_or_0, reference_item}
 use Rattle.write_item.proofs.Puts.{no_room, has_room}
