@@ -5,6 +5,7 @@ ghost use Rattle.std.specs.Prelude.{◌≡◌, ◌+◌, ◌≤◌};
 ghost use Rattle.write_counts.specs.Counts.{grown};
 
 // Their bytes, the references among them, and the bytes of prefixes, those of paths included. The default: nothing is written.
+// That none of them passes the size is no invariant of the type: `with_cons` takes any size.
 #[derive(Clone, Copy, Debug, Default, PartialEq, Eq)]
 pub struct Counts {
     pub size: usize,

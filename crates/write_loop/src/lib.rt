@@ -62,7 +62,7 @@ fn parse(
     }
 }
 
-// What is left to write: the node, and then what the open pairs say.
+// What is left to write: the node, and then what the open pairs say. What is lent stays side by side: a struct of `&mut` slices can carry no invariant.
 pub fn resume(
     work: &mut [u32],
     file: &[u8],

@@ -34,7 +34,13 @@ pub enum Next {
 }
 
 // Listed atom i, from where it lies in the file.
-fn write_listed(work: &[u32], file: &[u8], output: &mut [u8], counts: Counts, i: usize) -> Result<Counts, OutputFull>
+fn write_listed(
+    work: &[u32],
+    file: &[u8],
+    output: &mut [u8],
+    counts: Counts,
+    i: usize,
+) -> Result<Counts, OutputFull>
     requires { (Bounded counts) × (Whole work.now) × (AtomPlaces file.now work.now) × (i < at work.now ATOM_COUNT) }
     ensures { ItemPut output.old output.new counts
         (atom_item (atom_bytes file.now work.now i)) result }

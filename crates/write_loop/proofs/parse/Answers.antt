@@ -1,13 +1,9 @@
 -- `write_loop::parse` meets its contract: the open place, a reference, or the node in full.
 -- Assumes nothing.
 use borrow.Author.Tests.{eqb-true, eqb-false}
-use Prim.Native.Nat.{ℕ}
 use native.Mathlib.Omega.{arith}
-use mathlib.Core.Path.{◌≡◌, sym, ◌∙◌}
-use mathlib.Core.List.{List}
-use lib.ListN.{length}
+use mathlib.Core.Path.{sym, ◌∙◌}
 use Rattle.write_loop.proofs.write_turn.Turning.{turns_stop, search_places, after_search, found_there, finds_there}
-use borrow.Author.Rules.{rules}
 use Rattle.write_loop.proofs.parse.Goals as goal
 
 pub returns-then-is_sentinel : goal.returns-then-is_sentinel

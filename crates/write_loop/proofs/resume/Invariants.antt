@@ -3,8 +3,7 @@
 use Rattle.std.specs.Prelude.{Ok}
 use lib.ListN.{length}
 use Rattle.write_loop.specs.Effects.{ahead}
-use Rattle.write_loop.proofs.write_turn.Looping.{Looping, loop_starts, loop_turns, fine_now, places_now, loop_falls, loop_ends}
-use borrow.Author.Rules.{rules}
+use Rattle.write_loop.proofs.write_turn.Looping.{Looping}
 use Rattle.write_loop.proofs.resume.Given as goal
 
 abbrev pub invariant-loop-next : goal.invariant-loop-next

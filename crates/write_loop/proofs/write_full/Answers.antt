@@ -5,7 +5,6 @@ use mathlib.Core.Bool.{true}
 use Rattle.allocator.specs.Handle.{node_of, is_atom}
 use Rattle.write_loop.proofs.write_turn.Atoms.{named_atom}
 use Rattle.write_loop.proofs.write_turn.Values.{atom_turns}
-use borrow.Author.Rules.{rules}
 use Rattle.write_loop.proofs.write_full.Goals as goal
 
 pub returns-then-is_pair : goal.returns-then-is_pair

@@ -64,9 +64,6 @@ module _ (w : List ℕ) (p : Place) (st : Standing w p.opens p.depth 1) (n : ℕ
   pub innermost_low : at w (OPEN + n) / 2 < at w PAIR_COUNT
   innermost_low = st'.pairs n (omega arith)
 
-  pub innermost_few : at w (OPEN + n) / 2 < 1024
-  innermost_few = omega (arith, innermost_low, st.whole.handles.few_pairs)
-
   low_pairs : (i : ℕ) → i < n → at w (OPEN + i) / 2 < 1024
   low_pairs i h = pairs_few w (suc n) p.depth 1 st' i (omega arith)
 
@@ -243,51 +240,42 @@ module _ (w : List ℕ) (p : Place) (st : Standing w p.opens p.depth 1) (n : ℕ
         omega (arith, is),
       )
 
--- ---- as the code has it: the innermost word is v, of pair i
+-- ---- as the code has it: the innermost word is v
 
 -- There is a pair open.
 one_open : (n : ℕ) → (n ≡ 0 → ⊥) → n ≡ suc (n - 1)
 one_open n q = omega arith
 
-pub record Innermost (w : List ℕ) (p : Place) (v i : ℕ) : Type 0 where
-  pub stands : Standing w p.opens p.depth 1
-  pub opened : p.opens ≡ 0 → ⊥
-  pub word : v ≡ at w (OPEN + (p.opens - 1))
-  pub half : i ≡ v / 2
-
-module _ {w : List ℕ} {p : Place} {v i : ℕ} (o : Innermost w p v i) where
+module _ {w : List ℕ} (p : Place) {v : ℕ} (stands : Standing w p.opens p.depth 1) (opened : p.opens ≡ 0 → ⊥) (word : v ≡ at w (OPEN + (p.opens - 1))) where
   more : p.opens ≡ suc (p.opens - 1)
-  more = one_open p.opens o.opened
+  more = one_open p.opens opened
 
-  number_is : at w (OPEN + (p.opens - 1)) / 2 ≡ i
-  number_is = ap (λ (x : ℕ). x / 2) (sym o.word) ∙ sym o.half
+  number_is : at w (OPEN + (p.opens - 1)) / 2 ≡ v / 2
+  number_is = ap (λ (x : ℕ). x / 2) (sym word)
 
-  pub pair_low : i < at w PAIR_COUNT
-  pair_low = rw number_is at (innermost_low w p o.stands (p.opens - 1) more)
+  pub pair_low : v / 2 < at w PAIR_COUNT
+  pair_low = rw number_is at (innermost_low w p stands (p.opens - 1) more)
 
-  pub pair_few : i < 1024
-  pair_few = rw number_is at (innermost_few w p o.stands (p.opens - 1) more)
-
-  pub goes_right : v % 2 ≡ 1 → (right : NodePtr) → right.0 ≡ at w (PAIRS + 2 * i + 1) → (m : Measure) (file out : List ℕ) → Runs w out p 1
+  pub goes_right : v % 2 ≡ 1 → (right : NodePtr) → right.0 ≡ at w (PAIRS + 2 * (v / 2) + 1) → (m : Measure) (file out : List ℕ) → Runs w out p 1
       → (Turns m file w (set w (OPEN + (p.opens - 1)) (v - 1)) out out (Ok (Close p)) (Ok (Parse p right))) × Falls (length out) (Ok (Close p)) (Ok (Parse p right))
   goes_right odd right there m file out run =
       let n = p.opens - 1 in
-      subst (λ (x : ℕ). (Turns m file w (set w (OPEN + n) (x - 1)) out out (Ok (Close p)) (Ok (Parse p right))) × Falls (length out) (Ok (Close p)) (Ok (Parse p right))) (sym o.word)
-      (right_turns w p o.stands n more (ap (λ (x : ℕ). x % 2) (sym o.word) ∙ odd) right
+      subst (λ (x : ℕ). (Turns m file w (set w (OPEN + n) (x - 1)) out out (Ok (Close p)) (Ok (Parse p right))) × Falls (length out) (Ok (Close p)) (Ok (Parse p right))) (sym word)
+      (right_turns w p stands n more (ap (λ (x : ℕ). x % 2) (sym word) ∙ odd) right
       (there ∙ ap (λ (x : ℕ). at w (PAIRS + 2 * x + 1)) (sym number_is)) m file out run)
 
   module _ (even : v % 2 ≡ 1 → ⊥) where
     not_odd : at w (OPEN + (p.opens - 1)) % 2 ≡ 1 → ⊥
-    not_odd r = even (ap (λ (x : ℕ). x % 2) o.word ∙ r)
+    not_odd r = even (ap (λ (x : ℕ). x % 2) word ∙ r)
 
     pub values_there : 2 ≤ p.depth
-    values_there = two_there w p o.stands (p.opens - 1) more not_odd
+    values_there = two_there w p stands (p.opens - 1) more not_odd
 
-    pub closes_one : {w' : List ℕ} → length w' ≡ length w → Closes w w' p.depth i → (m : Measure) (file out : List ℕ) → Runs w out p 1
+    pub closes_one : {w' : List ℕ} → length w' ≡ length w → Closes w w' p.depth (v / 2) → (m : Measure) (file out : List ℕ) → Runs w out p 1
         → (Turns m file w w' out out (Ok (Close p)) (Ok (Close (record { opens = p.opens - 1; depth = p.depth - 1; counts = p.counts }))))
         × Falls (length out) (Ok (Close p)) (Ok (Close (record { opens = p.opens - 1; depth = p.depth - 1; counts = p.counts })))
     closes_one {w'} len cl m file out run =
-        close_turns w p o.stands (p.opens - 1) more not_odd w' len
+        close_turns w p stands (p.opens - 1) more not_odd w' len
         (subst (λ (x : ℕ). Closes w w' p.depth x) (sym number_is) cl) m file out run
 
 -- Two entries popped leave the words whole.

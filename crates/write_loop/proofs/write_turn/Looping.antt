@@ -1,22 +1,16 @@
 -- The loop: what holds before each turn, and that it ends.
 -- Assumes nothing.
 use Prim.Native.Nat.{ℕ, ◌<◌}
-use mathlib.Core.Path.{◌≡◌, refl, sym, ◌∙◌, subst}
+use mathlib.Core.Path.{◌≡◌, sym, ◌∙◌, subst}
 use mathlib.Core.List.{List}
 use lib.ListN.{length}
 use Rattle.std.specs.Prelude.{Ok}
-use Rattle.words.specs.Words.{at}
 use Rattle.path.specs.declared.Measure.{Measure}
-use Rattle.allocator.specs.declared.NodePtr.{NodePtr}
-use Rattle.work_layout.specs.Layout.{PAIR_COUNT}
-use Rattle.cache_entries.specs.Meaning.{Names, Whole}
-use Rattle.write_place.specs.declared.Place.{Place}
+use Rattle.cache_entries.specs.Meaning.{Whole}
 use Rattle.write_loop.specs.declared.write_turn.Next.{Next}
-use Rattle.write_loop.specs.declared.write_turn.Next.TheVariants.{Parse}
 use Rattle.write_place.specs.State.{AtomPlaces}
-use Rattle.write_loop.specs.Effects.{Turned, Runs, ahead, Fine, Turns, Falls}
-use Rattle.write_loop.proofs.write_turn.Frames.{places_stay}
-use Rattle.write_loop.proofs.write_turn.Turning.{turns_none, turns_then}
+use Rattle.write_loop.specs.Effects.{Turned, ahead, Fine, Turns, Falls}
+use Rattle.write_loop.proofs.write_turn.Turning.{turns_then}
 
 -- From `first`, the loop has come to `next`.
 pub record Looping (m : Measure) (file w₀ out₀ : List ℕ) (first : Next) (w out : List ℕ) (next : Next) : Type 0 where
@@ -26,18 +20,10 @@ pub record Looping (m : Measure) (file w₀ out₀ : List ℕ) (first : Next) (w
   pub space : length out ≡ length out₀
   pub turns : Turns m file w₀ w out₀ out (Ok first) (Ok next)
 
-pub loop_starts : {m : Measure} {file w out : List ℕ} (p : Place) (h : NodePtr) → AtomPlaces file w → Runs w out p 0 → Names w (at w PAIR_COUNT) h.0
-    → Looping m file w out (Parse p h) w out (Parse p h)
-loop_starts {m} {file} {w} {out} p h a run n =
-    record { whole = run.stands.whole; places = a; long = refl; space = refl; turns = turns_none m file w out (Ok (Parse p h)) (run, n) }
-
 -- What the next turn may rely on.
 module _ {m : Measure} {file w₀ out₀ : List ℕ} {first : Next} {w out : List ℕ} {next b : Next} (q : next ≡ b) (k : Looping m file w₀ out₀ first w out next) where
   pub fine_now : Fine w out (Ok b)
   fine_now = subst (λ (y : Next). Fine w out (Ok y)) q k.turns.fine
-
-  pub places_now : AtomPlaces file w
-  places_now = places_stay w₀ w k.long k.turns.only k.whole file k.places
 
   pub loop_ends : Turns m file w₀ w out₀ out (Ok first) (Ok b)
   loop_ends = subst (λ (y : Next). Turns m file w₀ w out₀ out (Ok first) (Ok y)) q k.turns

@@ -41,7 +41,7 @@ use Rattle.write_place.specs.Numbers.{question_of}
 use Rattle.write_loop.specs.declared.write_turn.Next.TheVariants.{Parse}
 use Rattle.write_place.specs.State.{todo_of, Standing, Writes}
 use Rattle.write_place.proofs.Sizes.{size_written}
-use Rattle.write_loop.specs.Effects.{Turned, refused_at, goes_on, Turns, Falls, Found, TurnsFound}
+use Rattle.write_loop.specs.Effects.{refused_at, goes_on, Turns, Falls, Found, TurnsFound}
 use Rattle.write_loop.proofs.write_turn.Frames.{only_same, pairs_stay, names_stay, pairs_few}
 use Rattle.write_loop.proofs.write_turn.Items.{put_there, taken_before, running_more, counts_written, bytes_written, room_there, room_gone}
 use Rattle.write_loop.proofs.write_turn.Values.{found_is, pair_is}

@@ -31,14 +31,13 @@ use Rattle.std.specs.Prelude as code
 use Rattle.std.specs.Prelude.{Result, Ok, Err, Some, None}
 use Rattle.search_list.specs.State.{path_at}
 use Rattle.cache_stack.specs.marks.Effects.{marked_at}
-use Rattle.cache_stack.specs.Effects.{PushedMarked}
 use Rattle.write_counts.specs.declared.Counts.{Counts}
 use Rattle.write_item.specs.declared.OutputFull.{OutputFull}
 use Rattle.write_item.specs.Answers.{ItemPut}
 use Rattle.write_item.proofs.Counting.{put_none}
 use Rattle.cache_entries.specs.Meaning.{bytes_named, Tables, Holds}
 use Rattle.cache_entries.proofs.Entering.{names_pair, is_leaf, is_node}
-use Rattle.search_find.specs.Effects.{LengthOf, steps_of, FindsIn}
+use Rattle.search_find.specs.Effects.{steps_of, FindsIn}
 use Rattle.write_place.specs.declared.Place.{Place}
 use Rattle.write_place.specs.declared.AddError.TheVariants as add_error
 use Rattle.write_loop.specs.declared.write_turn.Next.TheVariants.{Parse, Close}

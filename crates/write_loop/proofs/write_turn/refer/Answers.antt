@@ -1,7 +1,6 @@
 -- `write_loop::write_turn::refer` meets its contract: a reference stands for the whole subtree.
 -- Assumes nothing.
 use Rattle.write_loop.proofs.write_turn.Values.{refer_turns}
-use borrow.Author.Rules.{rules}
 use Rattle.write_loop.proofs.write_turn.refer.Goals as goal
 
 pub returns : goal.returns

@@ -5,9 +5,8 @@ use mathlib.Core.Path.{◌≡◌, sym, ◌∙◌}
 use mathlib.Core.Bool.{true}
 use Rattle.allocator.specs.Handle.{node_of}
 use Rattle.cache_entries.specs.Effects.{is_listed}
-use Rattle.cache_entries.proofs.Atoms.{index_low, listed_low}
+use Rattle.cache_entries.proofs.Atoms.{index_low}
 use Rattle.write_loop.proofs.write_turn.Atoms.{listed_put, small_put}
-use borrow.Author.Rules.{rules}
 use Rattle.write_loop.proofs.write_turn.write_atom.Goals as goal
 
 pub returns-then-is_listed : goal.returns-then-is_listed

@@ -1,13 +1,11 @@
 -- `write_loop::write_turn::write_listed` meets its contract: the part of the file that the words name, as an item.
 -- Assumes nothing.
-use Prim.Native.Nat.{ℕ, ◌-◌}
+use Prim.Native.Nat.{ℕ}
 use mathlib.Core.Path.{subst}
 use mathlib.Core.List.{List}
-use native.Mathlib.Omega.{arith}
 use Rattle.spec_session.specs.Items.{atom_item}
 use Rattle.write_item.specs.Answers.{ItemPut}
-use Rattle.write_loop.proofs.write_turn.Atoms.{part_short, part_is}
-use borrow.Author.Rules.{rules}
+use Rattle.write_loop.proofs.write_turn.Atoms.{part_is}
 use Rattle.write_loop.proofs.write_turn.write_listed.Goals as goal
 
 pub returns : goal.returns

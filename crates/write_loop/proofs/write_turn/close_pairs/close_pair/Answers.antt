@@ -2,7 +2,6 @@
 -- Assumes nothing.
 use native.Mathlib.Omega.{arith}
 use Rattle.write_loop.proofs.write_turn.Closing.{popped_whole, popped_pairs}
-use borrow.Author.Rules.{rules}
 use Rattle.write_loop.proofs.write_turn.close_pairs.close_pair.Goals as goal
 
 pub pair_entry-e-requires : goal.pair_entry-e-requires
