@@ -1,5 +1,6 @@
-// The session file's handles, pairs, sentinel and steps: the value of each and where the next part begins, or the question that gets no.
-ghost use Rattle.std.specs.Prelude.{◌≡◌, [], ◌≤◌, length, drop};
+// The session file's handles, pairs, sentinel and steps, each at the front of what is left of the file: its value and what is left then, or the question that
+// gets no.
+ghost use Rattle.std.specs.Prelude.{◌≡◌, [], length};
 ghost use Rattle.allocator.specs.Handle.{node_of};
 ghost use Rattle.spec_session.specs.File as file_format;
 ghost use Rattle.file_parts.specs.Answers.{Answers, itself, pair_word, counted, operand_word};
@@ -36,11 +37,10 @@ impl Listed {
 }
 
 // A handle.
-fn handle(file: &[u8], at: usize, listed: Listed) -> Result<Part, FileError>
-    requires { at ≤ length file.now }
-    ensures { Answers file.now itself result (file_format.handle listed.atoms listed.pairs (drop at file.now)) }
+fn handle(rest: &[u8], listed: Listed) -> Result<Part<'_>, FileError>
+    ensures { Answers itself result (file_format.handle listed.atoms listed.pairs rest.now) }
 {
-    let h = file_atoms::field(file, at, 4)?;
+    let h = file_atoms::field(rest, 4)?;
     if !listed.names(NodePtr(h.value)) {
         return Err(FileError::BadHandle);
     }
@@ -48,40 +48,37 @@ fn handle(file: &[u8], at: usize, listed: Listed) -> Result<Part, FileError>
 }
 
 // A pair's two handles, where so many pairs are there already. The right one is the value.
-fn pair(file: &[u8], at: usize, listed: Listed) -> Result<Part, FileError>
-    requires { at ≤ length file.now }
-    ensures { Answers file.now pair_word result (file_format.one_pair listed.atoms listed.pairs (drop at file.now)) }
+fn pair(rest: &[u8], listed: Listed) -> Result<Part<'_>, FileError>
+    ensures { Answers pair_word result (file_format.one_pair listed.atoms listed.pairs rest.now) }
 {
-    let left = handle(file, at, listed)?;
-    handle(file, left.next, listed)
+    let left = handle(rest, listed)?;
+    handle(left.rest, listed)
 }
 
 // So many pairs, after the atoms.
-pub fn pairs(file: &[u8], at: usize, listed: Listed) -> Result<Part, FileError>
-    requires { at ≤ length file.now }
-    ensures { Answers file.now counted result (file_format.pairs listed.atoms listed.pairs [] (drop at file.now)) }
+pub fn pairs(rest: &[u8], listed: Listed) -> Result<Part<'_>, FileError>
+    ensures { Answers counted result (file_format.pairs listed.atoms listed.pairs [] rest.now) }
 {
-    let mut next = at;
+    let mut next = rest;
     for done in 0..listed.pairs {
         let earlier = Listed {
             pairs: done,
             ..listed
         };
-        let p = pair(file, next, earlier)?;
-        next = p.next;
+        let p = pair(next, earlier)?;
+        next = p.rest;
     }
     Ok(Part {
         value: listed.pairs,
-        next,
+        rest: next,
     })
 }
 
 // The sentinel's handle, or none.
-pub fn sentinel(file: &[u8], at: usize, listed: Listed) -> Result<Part, FileError>
-    requires { at ≤ length file.now }
-    ensures { Answers file.now sentinel_word result (file_format.sentinel listed.atoms listed.pairs (drop at file.now)) }
+pub fn sentinel(rest: &[u8], listed: Listed) -> Result<Part<'_>, FileError>
+    ensures { Answers sentinel_word result (file_format.sentinel listed.atoms listed.pairs rest.now) }
 {
-    let h = file_atoms::field(file, at, 4)?;
+    let h = file_atoms::field(rest, 4)?;
     if h.value == NO_SENTINEL {
         return Ok(h);
     }
@@ -92,42 +89,42 @@ pub fn sentinel(file: &[u8], at: usize, listed: Listed) -> Result<Part, FileErro
 }
 
 // The operand of a step's code.
-fn operand(file: &[u8], at: usize, listed: Listed, code: u32) -> Result<Part, FileError>
-    requires { at ≤ length file.now }
-    ensures { Answers file.now operand_word result (file_format.operand listed.atoms listed.pairs code (drop at file.now)) }
+fn operand(rest: &[u8], listed: Listed, code: u32) -> Result<Part<'_>, FileError>
+    ensures { Answers operand_word result (file_format.operand listed.atoms listed.pairs code rest.now) }
 {
     match code {
-        1 | 4 => handle(file, at, listed),
-        2 | 3 => file_atoms::field(file, at, 2),
-        5 => Ok(Part { value: 0, next: at }),
+        1 | 4 => handle(rest, listed),
+        2 | 3 => file_atoms::field(rest, 2),
+        5 => Ok(Part { value: 0, rest }),
         _ => Err(FileError::UnknownStep),
     }
 }
 
 // A step, where `done` steps are there already. It is counted at its code.
-fn step(file: &[u8], at: usize, listed: Listed, done: u32) -> Result<Part, FileError>
-    requires { at ≤ length file.now }
-    ensures { Answers file.now operand_word result (file_format.one_step listed.atoms listed.pairs done 1024 (drop at file.now)) }
+fn step(rest: &[u8], listed: Listed, done: u32) -> Result<Part<'_>, FileError>
+    ensures { Answers operand_word result (file_format.one_step listed.atoms listed.pairs done 1024 rest.now) }
 {
-    let code = file_atoms::field(file, at, 1)?;
+    let code = file_atoms::field(rest, 1)?;
     if STEPS <= done {
         return Err(FileError::TooMany);
     }
-    operand(file, code.next, listed, code.value)
+    operand(code.rest, listed, code.value)
 }
 
 // The steps, to the end of the file.
-pub fn steps(file: &[u8], at: usize, listed: Listed) -> Result<Part, FileError>
-    requires { at ≤ length file.now }
-    ensures { Answers file.now counted result
-        (file_format.steps (length (drop at file.now)) listed.atoms listed.pairs 1024 [] (drop at file.now)) }
+pub fn steps(rest: &[u8], listed: Listed) -> Result<Part<'_>, FileError>
+    ensures { Answers counted result
+        (file_format.steps (length rest.now) listed.atoms listed.pairs 1024 [] rest.now) }
 {
-    let mut next = at;
+    let mut next = rest;
     let mut done: u32 = 0;
-    while next < file.len() {
-        let s = step(file, next, listed, done)?;
-        next = s.next;
+    while !next.is_empty() {
+        let s = step(next, listed, done)?;
+        next = s.rest;
         done += 1;
     }
-    Ok(Part { value: done, next })
+    Ok(Part {
+        value: done,
+        rest: next,
+    })
 }

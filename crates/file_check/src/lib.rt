@@ -31,22 +31,22 @@ fn after_mark(file: &[u8]) -> Result<Checked, FileError>
     requires { (5 ≤ length file.now) × (length file.now ≤ 65535) }
     ensures { Checks file.now result (what_follows version_1 (drop 5 file.now)) }
 {
-    let atom_count = file_atoms::count(file, 5, ATOMS)?;
-    let atoms = file_atoms::atoms(file, atom_count.next, atom_count.value)?;
-    let pair_count = file_atoms::count(file, atoms.next, PAIRS)?;
+    let atom_count = file_atoms::count(&file[5..], ATOMS)?;
+    let atoms = file_atoms::atoms(atom_count.rest, atom_count.value)?;
+    let pair_count = file_atoms::count(atoms.rest, PAIRS)?;
     let listed = Listed {
         atoms: atoms.value,
         pairs: pair_count.value,
     };
-    let pairs = file_handles::pairs(file, pair_count.next, listed)?;
-    let sentinel = file_handles::sentinel(file, pairs.next, listed)?;
-    file_handles::steps(file, sentinel.next, listed)?;
+    let pairs = file_handles::pairs(pair_count.rest, listed)?;
+    let sentinel = file_handles::sentinel(pairs.rest, listed)?;
+    file_handles::steps(sentinel.rest, listed)?;
     Ok(Checked {
         atoms: listed.atoms,
         pairs: listed.pairs,
         sentinel: sentinel.value,
-        pairs_at: pair_count.next,
-        steps_at: sentinel.next,
+        pairs_at: file.len() - pair_count.rest.len(),
+        steps_at: file.len() - sentinel.rest.len(),
     })
 }
 

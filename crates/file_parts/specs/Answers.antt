@@ -1,5 +1,5 @@
 -- What the code's answer to a part of the file means, in the terms of the definition.
-use Rattle.std.specs.Prelude.{ℕ, ◌+◌, ◌≤◌, ◌≡◌, List, leb, length, drop, Result, Ok, Err}
+use Rattle.std.specs.Prelude.{ℕ, ◌+◌, ◌≡◌, List, leb, length, Result, Ok, Err}
 use Rattle.allocator.specs.SmallAtom.{fits_in_small_atom}
 use Rattle.file_parts.specs.declared.session_file.Part.{Part}
 use Rattle.file_parts.specs.declared.session_file.FileError.{FileError}
@@ -17,17 +17,16 @@ number_of BadHandle = 7
 number_of UnknownStep = 8
 
 -- A value that was read, as the word v, with the bytes after it.
-pub record Gives (input : List ℕ) (v : ℕ) (rest : List ℕ) (p : Part) : Type 0 where
+pub record Gives (v : ℕ) (rest : List ℕ) (p : Part) : Type 0 where
   pub value_is : p.value ≡ v
-  pub next_is : rest ≡ drop p.next input
-  pub inside : p.next ≤ length input
+  pub rest_is : p.rest.now ≡ rest
 
 -- The answer is what the definition gives: its value as a word, or the question's number.
-abbrev pub Answers : {A : Type 0} → List ℕ → (A → ℕ) → Result Part FileError → Got A → Type 0
-Answers input word (Ok p) (got a rest) = Gives input (word a) rest p
-Answers input word (Ok p) (refused n) = ⊥
-Answers input word (Err e) (got a rest) = ⊥
-Answers input word (Err e) (refused n) = number_of e ≡ n
+abbrev pub Answers : {A : Type 0} → (A → ℕ) → Result Part FileError → Got A → Type 0
+Answers word (Ok p) (got a rest) = Gives (word a) rest p
+Answers word (Ok p) (refused n) = ⊥
+Answers word (Err e) (got a rest) = ⊥
+Answers word (Err e) (refused n) = number_of e ≡ n
 
 -- ---- the word of each value
 

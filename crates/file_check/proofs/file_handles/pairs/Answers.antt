@@ -3,19 +3,16 @@
 use mathlib.Core.Path.{refl}
 use native.Mathlib.Omega.{arith}
 use Rattle.std.proofs.lemmas.Result.{err_from_is_err_and}
-use Rattle.file_parts.proofs.session_file.ListLaws.{pairs_refused, pairs_inside, pairs_turn, pairs_end}
+use Rattle.file_parts.proofs.session_file.ListLaws.{pairs_refused, pairs_turn, pairs_end}
 use Rattle.file_check.proofs.file_handles.pairs.Goals as goal
 
 pub returns-in_err-p : goal.returns-in_err-p
 returns-in_err-p c =
     let p = err_from_is_err_and c.from_residual.result c.from_residual.ensures.1 in
-    rw (p.1, p.2) (pairs_refused c.loop-done.invariant.1 (omega arith) _ c.in_err-p.ensures)
+    rw (p.1, p.2) (pairs_refused c.loop-done.invariant (omega arith) _ c.in_err-p.ensures)
 
 pub loop-done-preserved : goal.loop-done-preserved
-loop-done-preserved c =
-    let l = c.loop-done in
-    let p = c.in_ok-p in
-    (pairs_inside l.invariant.1 (omega arith) p.p p.ensures, pairs_turn l.invariant.1 (omega arith) p.p p.ensures)
+loop-done-preserved c = pairs_turn c.loop-done.invariant (omega arith) c.in_ok-p.p c.in_ok-p.ensures
 
 pub returns : goal.returns
-returns c = let l = c.loop-done in pairs_end l.invariant.1 _ (omega arith) (omega arith) (omega arith) refl refl
+returns c = pairs_end c.loop-done.invariant _ (omega arith) (omega arith) refl refl
