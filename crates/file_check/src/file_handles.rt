@@ -13,6 +13,7 @@ use file_parts::{FileError, Part};
 // The most steps.
 const STEPS: u32 = 1024;
 
+// For none, as the file has it, and work too: so the sentinel stays a word.
 const NO_SENTINEL: u32 = 0xffffffff;
 
 // So many atoms and pairs are listed.

@@ -17,6 +17,7 @@ use session_state::progress::Progress;
 use write_counts::Counts;
 
 // Where the run starts, and how many checkpoint records are to be cleared after it. With 1 to 8 the run is over before it starts, and no record is cleared.
+// This is no Result, since the call goes on with `start` either way.
 #[derive(Clone, Copy, Debug, PartialEq, Eq)]
 pub struct Begun {
     pub start: Progress,
