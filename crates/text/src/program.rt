@@ -1,4 +1,6 @@
 // What the programs that read inputs share: the inputs are the files that the arguments name, or standard input.
+ghost use Rattle.std.specs.Prelude.{◌≤◌, ℕ, List, length, ⊤};
+
 use crate::input;
 use std::env::FillError;
 use std::io;
@@ -7,6 +9,9 @@ use std::rt::{Env, Files};
 
 // A program over inputs.
 pub trait Program {
+    // The inputs that the program takes.
+    ghost takes: { List ℕ → Type 0 } = { λ _. ⊤ };
+
     // How the program is called.
     const USAGE: &'static [u8];
 
@@ -16,7 +21,8 @@ pub trait Program {
     }
 
     // What the program prints of an input.
-    fn report<W: Write, E: Write>(&self, out: &mut W, err: &mut E, input: &[u8]) -> io::Result<()>;
+    fn report<W: Write, E: Write>(&self, out: &mut W, err: &mut E, input: &[u8]) -> io::Result<()>
+        requires { takes input.now };
 }
 
 // A read of no bytes first, which fails where nothing can be read, as from a directory.
@@ -26,7 +32,9 @@ fn read_from<P: Program, W: Write, E: Write, R: Read + Drop>(
     err: &mut E,
     from: R,
     name: &[u8],
-) -> io::Result<()> {
+) -> io::Result<()>
+    requires { (input : List ℕ) → length input ≤ 65536 → P.takes input }
+{
     let mut from = from;
     match from.read(&mut []) {
         Ok(_) => {
@@ -45,7 +53,9 @@ fn read_named<P: Program, W: Write, E: Write, R: Files>(
     err: &mut E,
     rt: &R,
     name: &[u8],
-) -> io::Result<()> {
+) -> io::Result<()>
+    requires { (input : List ℕ) → length input ≤ 65536 → P.takes input }
+{
     match input::open(rt, name) {
         Ok(file) => read_from(program, out, err, file, name),
         Err(error) => {
@@ -62,7 +72,9 @@ pub fn run<P: Program, W: Write, E: Write, I: Read + Drop, R: Env + Files>(
     err: &mut E,
     stdin: I,
     rt: &R,
-) -> io::Result<()> {
+) -> io::Result<()>
+    requires { (input : List ℕ) → length input ≤ 65536 → P.takes input }
+{
     let mut name = [0u8; input::LONGEST_NAME];
     for i in 1..usize::MAX {
         match rt.arg(i, &mut name) {
