@@ -35,3 +35,6 @@ module _ (input : List ℕ) (p : ℕ) where
 
       pub head_atom : (b ≡ 0xfe → ⊥) → z ≡ parse_at input p → atom z ≡ head_at input p
       head_atom d q = ap atom q ∙ sym (cond_false _ _ _ (ne_eqb b 0xff other) ∙ cond_false _ _ _ (ne_eqb b 0xfe d)) ∙ head_begun
+
+-- The five of them.
+pub ruleset head_steps = (head_end, mark_fits, head_pair, head_path, head_atom)

@@ -52,7 +52,7 @@ pub enum Head {
 }
 
 // What stands at a place of the input, if a byte does. A reference's path is parsed after its mark.
-#[tactic(auto, using(crate::proofs::Steps::head_end, crate::proofs::Steps::mark_fits, crate::proofs::Steps::head_pair, crate::proofs::Steps::head_path, crate::proofs::Steps::head_atom,))]
+#[tactic(auto, using(crate::proofs::Steps::head_steps))]
 pub fn head_at(input: &[u8], position: usize) -> Option<Head>
     ensures { there_of result ≡ head_at input.now position }
 {
