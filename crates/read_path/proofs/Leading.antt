@@ -8,10 +8,10 @@ use mathlib.Core.List.{List, [], ◌∷◌, ◌++◌}
 use mathlib.Core.Option.{Option, none, some}
 use native.Mathlib.Omega.{arith}
 use native.Mathlib.Numerals.{add-one}
-use lib.ListN.{length, take, drop}
+use lib.ListN.{length, get_or, take, drop}
 use Rattle.words.specs.Choice.{clash}
 use Rattle.words.specs.Words.{at}
-use Rattle.words.specs.Lists.{Bytes}
+use Rattle.words.specs.Lists.{Bytes, all_of}
 use Rattle.path.specs.Bytes.{read_path}
 use Rattle.allocator.specs.Handle.{Node, node_of, nil}
 use Rattle.allocator.specs.HandleLaws.{handle_of_node_of, node_of_nil}
@@ -38,7 +38,7 @@ pub record Counted (path : List ℕ) (count : ℕ) : Type 0 where
   pub is : read_path path ≡ some bits
   pub long : count ≡ length bits
 
-pub counted_some : (path : List ℕ) (count : ℕ) → some count ≡ counted (read_path path) → Counted path count
+counted_some : (path : List ℕ) (count : ℕ) → some count ≡ counted (read_path path) → Counted path count
 counted_some path count e = go (read_path path) refl e
   where
     go : (o : Option (List Bool)) → read_path path ≡ o → some count ≡ counted o → Counted path count
@@ -49,15 +49,32 @@ pub counted_none : (o : Option (List Bool)) → none ≡ counted o → o ≡ non
 counted_none none e = refl
 counted_none (some bits) e = clash cc
 
-pub count_within : (path : List ℕ) (count : ℕ) → Bytes path → Counted path count → count ≤ 8 * length path
+count_within : (path : List ℕ) (count : ℕ) → Bytes path → Counted path count → count ≤ 8 * length path
 count_within path count b q = omega (arith, q.long, (lowest path q.bits b q.is).short)
 
-pub down_within : (bits : List Bool) (d : ℕ) → (down bits d ≤ length bits) × (down bits d ≤ d)
+down_within : (bits : List Bool) (d : ℕ) → (down bits d ≤ length bits) × (down bits d ≤ d)
 unfolding down
 down_within [] d = omega arith
 down_within (b ∷ bs) zero = omega arith
 down_within (false ∷ bs) (suc d) = omega arith
 down_within (true ∷ bs) (suc d) = omega (arith, down_within bs d)
+
+-- The bits, and how many of them go down the stack.
+pub record Taken (path : List ℕ) (count steps values : ℕ) : Type 0 where
+  pub has : Counted path count
+  pub steps_are : steps ≡ down has.bits values
+  pub within : (steps ≤ count) × (steps ≤ values)
+
+pub taken : (path : List ℕ) (count steps values : ℕ) → some count ≡ counted (read_path path)
+    → ((bits : List Bool) → read_path path ≡ some bits → count ≡ length bits → steps ≡ down bits values) → Taken path count steps values
+taken path count steps values e f =
+    let q = counted_some path count e in
+    let d : steps ≡ down q.bits values = f q.bits q.is q.long in
+    record { has = q; steps_are = d; within = omega (arith, d, q.long, down_within q.bits values) }
+
+-- There are no more bits than the bytes have.
+pub count_short : (path : List ℕ) (count : ℕ) → ((i : ℕ) → get_or path i 0 < 256) → some count ≡ counted (read_path path) → count ≤ 8 * length path
+count_short path count small e = count_within path count (all_of (λ (n : ℕ). n < 256) path 0 (λ i l. small i)) (counted_some path count e)
 
 -- ---- the definition by the number of set bits in front
 
@@ -165,9 +182,6 @@ module _ (path w p : List ℕ) (values listed used ghosts : ℕ) (a : HaveLists 
 
     down_values : down q.bits (length (values_of w values)) ≡ steps
     down_values = ap (down q.bits) (length_values w values) ∙ sym d
-
-    pub steps_within : (steps ≤ count) × (steps ≤ values)
-    steps_within = omega (arith, d, q.long, down_within q.bits values)
 
     module _ (r : Result NodePtr PathIntoAtom) where
       -- Below the lowest value is nil.
