@@ -12,7 +12,7 @@ use read_store::reader_stacks;
 
 // The number, 0 for none; the root, and how many pairs, listed atoms, atom bytes and ghost pairs there are.
 #[repr(C)]
-#[derive(Clone, Copy)]
+#[derive(Clone, Copy, Debug, PartialEq, Eq)]
 pub struct ReadAnswer {
     pub number: u32,
     pub root: u32,
@@ -22,6 +22,7 @@ pub struct ReadAnswer {
     pub ghosts: u32,
 }
 
+// The number is that of the C interface: a `ReadError` gives 14, 15 or 16, and the call itself 1 or 2.
 pub fn refusal(number: u32) -> ReadAnswer
     ensures { read_answer_of result ≡ call_refusal number }
 {

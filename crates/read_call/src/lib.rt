@@ -71,6 +71,7 @@ pub fn nikvoldra_read(
     ensures reads_plainly { ReadsPlainly input.now
         (read_result_of result work.new pairs.new atoms.new bytes.new) }
 {
+    // The numbers of the two questions are those of the C interface, and stand here alone.
     if !read_answer::long_enough(work, pairs, atoms, bytes) {
         return read_answer::refusal(1);
     }

@@ -10,7 +10,7 @@ use atom::{BACK_REFERENCE, CONS_BOX_MARKER};
 use atom_decode::{Blob, ParseError};
 
 // A place of the input.
-#[derive(Clone, Copy)]
+#[derive(Clone, Copy, Debug, PartialEq, Eq)]
 pub struct Cursor<'a> {
     pub input: &'a [u8],
     pub position: usize,
@@ -43,7 +43,7 @@ impl<'a> Cursor<'a> {
     }
 }
 
-// What stands at a place: a pair's mark, a reference with its path, or an atom.
+// What stands at a place: a pair's mark, a reference with its path, or an atom. Three kinds, so no Option or Result: a refused parse is an Err inside.
 #[derive(Clone, Copy, Debug, PartialEq, Eq)]
 pub enum Head {
     Pair,

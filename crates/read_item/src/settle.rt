@@ -21,7 +21,7 @@ pub struct Reader {
     pub ghosts: usize,
 }
 
-// After an item: read on, or everything is read.
+// After an item: read on, or everything is read. Neither is a refusal, so no Result; and each has its reader, so no Option.
 #[derive(Clone, Copy, Debug, PartialEq, Eq)]
 pub enum Item {
     Go(Reader),
@@ -44,7 +44,7 @@ fn join_top(work: &mut [u32], pairs: &mut [u32], r: Reader) -> Reader
     next
 }
 
-// The joins on top of the operations are done.
+// The joins on top of the operations are done. The stack shrinks in the loop, so no range counts it.
 fn join_all(work: &mut [u32], pairs: &mut [u32], reader: Reader) -> Reader
     requires { Ready work.old pairs.old reader }
     ensures { Settled work.old pairs.old reader work.new pairs.new result }

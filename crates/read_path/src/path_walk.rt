@@ -56,9 +56,5 @@ fn side(pairs: &[u32], node: NodePtr, right: bool) -> NodePtr
     requires { 2 * index_of (node_of node.0) + 1 < length pairs.now }
     ensures { result.0 ≡ at pairs.now (2 * index_of (node_of node.0) + pick_word right) }
 {
-    let place = 2 * (node.index() as usize);
-    if right {
-        return NodePtr(pairs[place + 1]);
-    }
-    NodePtr(pairs[place])
+    NodePtr(pairs[2 * (node.index() as usize) + usize::from(right)])
 }

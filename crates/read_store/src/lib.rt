@@ -1,4 +1,4 @@
-// The reader's store of allocator.rs: pairs and atoms in lent slices.
+// The reader's store of allocator.rs: pairs and atoms in lent slices. There is no heap: a count beside a slice says how much of it is in use.
 #![tactic(auto)]
 
 pub mod join_values;

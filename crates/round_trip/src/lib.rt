@@ -10,7 +10,7 @@ use session_answer::SessionAnswer;
 use session_state::Checkpoint;
 
 // What the session gives, and what the reading of its bytes gives.
-#[derive(Clone, Copy)]
+#[derive(Clone, Copy, Debug, PartialEq, Eq)]
 pub struct RoundTrip {
     pub session: SessionAnswer,
     pub read: ReadAnswer,

@@ -9,6 +9,7 @@ use native.Mathlib.Omega.{arith}
 use native.Mathlib.Numerals.{add-one}
 use lib.ListN.{length, get_or, take, drop, drop_of_length-le}
 use lib.Seq.{drop-cons, get_or-take}
+use Rattle.std.specs.Int.{from_bool}
 use Rattle.words.specs.Choice.{clash, by_lt}
 use Rattle.words.specs.Words.{at}
 use Rattle.allocator.specs.Handle.{Node, pair, listed_atom, small_atom, unknown, node_of, index_of, is_pair}
@@ -154,11 +155,6 @@ reachable_next p used g r a b n e =
     }
 
 -- The words of a pair.
-pub side_right : (p : List ℕ) (j k : ℕ) → j ≡ k → (b : Bool) → b ≡ true → at p (2 * j + 1) ≡ at p (2 * k + pick_word b)
-side_right p j k e b q = rw (e, q)
-
-pub side_left : (p : List ℕ) (j k : ℕ) → j ≡ k → (b : Bool) → b ≡ false → at p (2 * j) ≡ at p (2 * k + pick_word b)
-side_left p j k e b q = rw (e, q) (ap (at p) more)
-  where
-    more : 2 * k ≡ 2 * k + 0
-    more = omega arith
+pub side_is : (p : List ℕ) (j k : ℕ) → j ≡ k → (b : Bool) (n : ℕ) → n ≡ from_bool b → at p (2 * j + n) ≡ at p (2 * k + pick_word b)
+side_is p j k e true n q = rw (e, q)
+side_is p j k e false n q = rw (e, q)

@@ -65,8 +65,7 @@ overflow_add-steps c =
 
 pub walk_bits-requires-2 : goal.walk_bits-requires-2
 walk_bits-requires-2 c =
-    let k = taken _ c.in-Some.count c.stack_steps-steps.result c.args.values (sym (ap option_of c.in-Some.is) ∙ c.path_bits.ensures) c.stack_steps-steps.ensures in
-    (
+    let k = taken _ c.in-Some.count c.stack_steps-steps.result c.args.values (sym (ap option_of c.in-Some.is) ∙ c.path_bits.ensures) c.stack_steps-steps.ensures in (
       omega (arith, k.within.0, c.if-steps-count.false),
       count_short c.args.path.now _ (λ i. omega (arith, c.type_inv.path i)) (sym (ap option_of c.in-Some.is) ∙ c.path_bits.ensures),
       value_reachable _ _ _ _ _ _ c.requires.1 _ (omega (arith, k.within.1, c.if-steps-values.false)),
