@@ -3,7 +3,9 @@
 
 pub mod session_file;
 
-ghost use Rattle.std.specs.Prelude.{◌≡◌, List, ℕ, ◌*◌, ◌≤◌, length};
+ghost use Rattle.std.specs.Prelude.{◌≡◌, List, ℕ, ◌+◌, ◌-◌, ◌*◌, ◌<◌, ◌≤◌, length, MatchOption};
+ghost use Rattle.words.specs.BigEndian.{number};
+ghost use Rattle.words.specs.Words.{part};
 ghost use Rattle.spec_session.specs.File.{Pair, Step as FileStep};
 ghost use Rattle.spec_session.specs.Places.{AtomsAt, PairsAt, StepsAt};
 ghost use Rattle.file_parts.specs.Loaded.{AtomsThere, AtomsLoaded, PairsThere, PairsLoaded, FirstStep, Beyond, forgets};
@@ -43,6 +45,18 @@ pub fn load_pairs(file: &[u8], table: &mut [u32], from: usize, count: u32)
     }
 }
 
+// The operand of `count` bytes after the code at a place, where the file has it.
+fn operand_at(file: &[u8], at: usize, count: usize) -> Option<u32>
+    requires { (at < length file.now) × (count ≤ 4) }
+    ensures { MatchOption result (length file.now - at < count + 1)
+        (λ n. (at + 1 + count ≤ length file.now) × (n ≡ number (part file.now (at + 1) count))) }
+{
+    if file.len() - at <= count {
+        return None;
+    }
+    Some(session_file::number_at(file, at + 1, count))
+}
+
 // The step at a place of a file that passed. There is none at the end, nor where the file is cut short, which it is not.
 pub fn next_step(file: &[u8], at: usize) -> Option<NextStep>
     ensures first_step { (ss : List FileStep) → StepsAt file.now at ss → FirstStep file.now ss result }
@@ -51,45 +65,16 @@ pub fn next_step(file: &[u8], at: usize) -> Option<NextStep>
     if file.len() <= at {
         return None;
     }
-    let left = file.len() - at;
-    let code = session_file::number_at(file, at, 1);
-    if code == 5 {
-        return Some(NextStep {
-            step: Step::Take,
-            next: at + 1,
-        });
-    }
-    if code == 1 || code == 4 {
-        if left < 5 {
-            return None;
-        }
-        let node = NodePtr(session_file::number_at(file, at + 1, 4));
-        let next = at + 5;
-        if code == 4 {
-            return Some(NextStep {
-                step: Step::Quote(node),
-                next,
-            });
-        }
-        return Some(NextStep {
-            step: Step::Add(node),
-            next,
-        });
-    }
-    if left < 3 {
-        return None;
-    }
-    let number = session_file::number_at(file, at + 1, 2);
-    let next = at + 3;
-    if code == 3 {
-        return Some(NextStep {
-            step: Step::Forget(number),
-            next,
-        });
-    }
+    let (step, size) = match session_file::number_at(file, at, 1) {
+        1 => (Step::Add(NodePtr(operand_at(file, at, 4)?)), 5),
+        4 => (Step::Quote(NodePtr(operand_at(file, at, 4)?)), 5),
+        3 => (Step::Forget(operand_at(file, at, 2)?), 3),
+        5 => (Step::Take, 1),
+        _ => (Step::Restore(operand_at(file, at, 2)?), 3),
+    };
     Some(NextStep {
-        step: Step::Restore(number),
-        next,
+        step,
+        next: at + size,
     })
 }
 

@@ -1,89 +1,67 @@
 -- `next_step` meets its contract: the code says which step it is, and the next place is beyond it.
 -- Assumes nothing.
-use mathlib.Core.Path.{◌≡◌, refl, sym, ap, ◌∙◌}
-use mathlib.Core.Logic.{◌⊎◌, inl, inr, ⊎_elim}
+use Prim.Native.Nat.{ℕ, ◌≤◌}
+use mathlib.Core.Path.{refl, sym, ap, subst, ◌∙◌}
+use mathlib.Core.Logic.{inl, inr}
 use native.Mathlib.Omega.{arith}
 use Rattle.words.specs.Words.{part}
 use Rattle.words.specs.BigEndian.{number}
 use Rattle.spec_session.specs.File.{add, restore, forget, quote}
+use Rattle.spec_session.specs.Places.{step_size}
 use Rattle.file_parts.specs.PlaceLaws.{size_low}
 use Rattle.file_parts.proofs.LoadLaws.{step_short, step_first, coded, handle_size, number_size, restore_coded}
 use Rattle.file_parts.proofs.next_step.Goals as goal
-use Rattle.file_parts.proofs.next_step.Goals.{then-code-eq1-via-then-code-eq1, then-code-eq1-via-else-code-eq1+then-code-eq4}
+use Rattle.file_parts.proofs.next_step.Goals.{in-1+in_ok-operand_at-in-1, in-4+in_ok-operand_at-in-4, in-3+in_ok-operand_at-in-3, in-5, in_default+in_ok-operand_at-in_default}
 
-pub returns-then-file-at : goal.returns-then-file-at
-returns-then-file-at c =
+pub returns-then-file-at-clause-first_step : goal.returns-then-file-at-clause-first_step
+returns-then-file-at-clause-first_step c =
     let a = c.args in
     let code = number (part a.file.now a.at 1) in
-    record { first_step = step_short a.file.now a.at code refl 1 (size_low (coded a.file.now a.at code)) (omega arith); beyond = tt }
+    step_short a.file.now a.at code refl 1 (size_low (coded a.file.now a.at code)) (omega arith)
 
-pub returns-then-code-eq5 : goal.returns-then-code-eq5
-returns-then-code-eq5 c =
+pub returns-in_err-operand_at-in-1-clause-first_step : goal.returns-in_err-operand_at-in-1-clause-first_step
+returns-in_err-operand_at-in-1-clause-first_step c =
     let a = c.args in
-    let code = c.number_at-code in
-    record {
-      first_step = step_first a.file.now a.at code.result code.ensures _ (ap (coded a.file.now a.at) (sym c.if-code-eq5.true)) (omega arith);
-      beyond = (omega arith, omega arith);
-    }
+    let code = c.number_at in
+    rw c.from_residual.ensures
+    (step_short a.file.now a.at code.result code.ensures 5 (handle_size a.file.now a.at code.result (inl c.in-1.is)) (omega (arith, c.in_err-operand_at-in-1.ensures)))
 
-pub returns-then-left-lt5 : goal.returns-then-left-lt5
-returns-then-left-lt5 c =
-    let of-handle : let v = c.number_at-code.result in (v ≡ 1) ⊎ (v ≡ 4) =
-    elim c.then-code-eq1.branch [ then-code-eq1-via-then-code-eq1 w ↦ inl w.if-code-eq1.true | then-code-eq1-via-else-code-eq1+then-code-eq4 w ↦ inr w.if-code-eq4.true ] in
+pub returns-in_err-operand_at-in-4-clause-first_step : goal.returns-in_err-operand_at-in-4-clause-first_step
+returns-in_err-operand_at-in-4-clause-first_step c =
     let a = c.args in
-    let code = c.number_at-code in
-    record { first_step = step_short a.file.now a.at code.result code.ensures 5 (handle_size a.file.now a.at code.result of-handle) (omega arith); beyond = tt }
+    let code = c.number_at in
+    rw c.from_residual-in_err-operand_at-in-4.ensures
+    (step_short a.file.now a.at code.result code.ensures 5 (handle_size a.file.now a.at code.result (inr c.in-4.is)) (omega (arith, c.in_err-operand_at-in-4.ensures)))
 
-pub returns-then-code-eq4-2 : goal.returns-then-code-eq4-2
-returns-then-code-eq4-2 c =
+pub returns-in_err-operand_at-in-3-clause-first_step : goal.returns-in_err-operand_at-in-3-clause-first_step
+returns-in_err-operand_at-in-3-clause-first_step c =
     let a = c.args in
-    let code = c.number_at-code in
-    let operand = c.number_at in
-    record {
-      first_step = step_first a.file.now a.at code.result code.ensures _ (ap quote operand.ensures ∙ ap (coded a.file.now a.at) (sym c.if-code-eq4-2.true)) (omega arith);
-      beyond = (omega arith, omega arith);
-    }
+    let code = c.number_at in
+    rw c.from_residual-in_err-operand_at-in-3.ensures
+    (step_short a.file.now a.at code.result code.ensures 3 (subst (λ (k : ℕ). 3 ≤ step_size (coded a.file.now a.at k)) (sym c.in-3.is) (omega arith)) (omega (arith, c.in_err-operand_at-in-3.ensures)))
 
-pub returns-then-code-eq1 : goal.returns-then-code-eq1
-returns-then-code-eq1 c =
-    let of-handle : let v = c.number_at-code.result in (v ≡ 1) ⊎ (v ≡ 4) =
-    elim c.then-code-eq1.branch [ then-code-eq1-via-then-code-eq1 w ↦ inl w.if-code-eq1.true | then-code-eq1-via-else-code-eq1+then-code-eq4 w ↦ inr w.if-code-eq4.true ] in
+pub returns-in_err-operand_at-in_default-clause-first_step : goal.returns-in_err-operand_at-in_default-clause-first_step
+returns-in_err-operand_at-in_default-clause-first_step c =
     let a = c.args in
-    let code = c.number_at-code in
-    let operand = c.number_at in
-    let one : code.result ≡ 1 = ⊎_elim (λ e. e) (λ e. absurd (c.if-code-eq4-2.false e)) of-handle in
-    record {
-      first_step = step_first a.file.now a.at code.result code.ensures _ (ap add operand.ensures ∙ ap (coded a.file.now a.at) (sym one)) (omega arith);
-      beyond = (omega arith, omega arith);
-    }
+    let code = c.number_at in
+    rw c.from_residual-in_err-operand_at-in_default.ensures
+    (step_short a.file.now a.at code.result code.ensures 3
+    (number_size a.file.now a.at code.result (λ e. omega arith) (λ e. omega arith) (λ e. omega arith)) (omega (arith, c.in_err-operand_at-in_default.ensures)))
 
-pub returns-then-left-lt3 : goal.returns-then-left-lt3
-returns-then-left-lt3 c =
-    let b = c in
-    let a = b.args in
-    let code = b.number_at-code in
-    let size = number_size a.file.now a.at code.result b.if-code-eq5.false b.if-code-eq1.false b.if-code-eq4.false in
-    record { first_step = step_short a.file.now a.at code.result code.ensures 3 size (omega arith); beyond = tt }
-
-pub returns-then-code-eq3 : goal.returns-then-code-eq3
-returns-then-code-eq3 c =
-    let b = c in
-    let a = b.args in
-    let code = b.number_at-code in
-    let operand = c.number_at-number in
-    record {
-      first_step = step_first a.file.now a.at code.result code.ensures _ (ap forget operand.ensures ∙ ap (coded a.file.now a.at) (sym c.if-code-eq3.true)) (omega arith);
-      beyond = (omega arith, omega arith);
-    }
-
-pub returns : goal.returns
-returns c =
-    let b = c in
-    let a = b.args in
-    let code = b.number_at-code in
-    let operand = c.number_at-number in
-    let same = restore_coded a.file.now a.at code.result b.if-code-eq5.false b.if-code-eq1.false b.if-code-eq4.false c.if-code-eq3.false in
-    record {
-      first_step = step_first a.file.now a.at code.result code.ensures _ (ap restore operand.ensures ∙ sym same) (omega arith);
-      beyond = (omega arith, omega arith);
-    }
+pub returns-clause-first_step : goal.returns-clause-first_step
+returns-clause-first_step c ss h =
+    let a = c.args in
+    let code = c.number_at in
+    elim c.match-number_at.branch [
+      | in-1+in_ok-operand_at-in-1 w ↦ rw w.step-is
+          (step_first a.file.now a.at code.result code.ensures _ (ap add w.in_ok-operand_at-in-1.ensures.1 ∙ ap (coded a.file.now a.at) (sym w.in-1.is)) (omega arith) ss h)
+      | in-4+in_ok-operand_at-in-4 w ↦ rw w.step-is
+          (step_first a.file.now a.at code.result code.ensures _ (ap quote w.in_ok-operand_at-in-4.ensures.1 ∙ ap (coded a.file.now a.at) (sym w.in-4.is)) (omega arith) ss h)
+      | in-3+in_ok-operand_at-in-3 w ↦ rw w.step-is
+          (step_first a.file.now a.at code.result code.ensures _ (ap forget w.in_ok-operand_at-in-3.ensures.1 ∙ ap (coded a.file.now a.at) (sym w.in-3.is)) (omega arith) ss h)
+      | in-5 w ↦ rw w.step-is (step_first a.file.now a.at code.result code.ensures _ (ap (coded a.file.now a.at) (sym w.in-5.is)) (omega arith) ss h)
+      | in_default+in_ok-operand_at-in_default w ↦ rw w.step-is
+          (step_first a.file.now a.at code.result code.ensures _
+          (ap restore w.in_ok-operand_at-in_default.ensures.1 ∙ sym (restore_coded a.file.now a.at code.result (λ e. omega arith) (λ e. omega arith) (λ e. omega arith) (λ e. omega arith)))
+          (omega arith) ss h)
+    ]
