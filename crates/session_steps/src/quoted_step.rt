@@ -52,7 +52,12 @@ pub fn quoted_step(
         output.now p c work.new words.new output.now result }
 {
     match file_parts::next_step(file, p.at) {
-        Some(NextStep { step: Step::Take, next }) => take_quote(words, p, next, c),
+        Some(
+            NextStep {
+                step: Step::Take,
+                next,
+            },
+        ) => take_quote(words, p, next, c),
         _ => drop_quote(work, p, c),
     }
 }

@@ -1,7 +1,5 @@
 -- `session_steps::add` saves the state, enters the tree in the cache and writes it up to the next open place.
 -- Assumes nothing.
-use mathlib.Core.Path.{◌∙◌}
-use borrow.Author.Rules.{rules}
 use Rattle.session_steps.proofs.Adding.{update_asks, resume_asks}
 use Rattle.session_steps.proofs.add.Goals as goal
 

@@ -1,7 +1,6 @@
 -- `session_steps::bounded_step` makes a step with the first 65,535 bytes of the output.
 -- Assumes nothing.
-use borrow.Author.Rules.{rules}
-use Rattle.session_steps.proofs.Bounds.{used_many, used_ready, used_onward}
+use Rattle.session_steps.proofs.Bounds.{used_ready, used_onward}
 use Rattle.session_steps.proofs.bounded_step.Goals as goal
 
 pub core_step-requires : goal.core_step-requires

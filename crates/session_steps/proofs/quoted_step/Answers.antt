@@ -27,7 +27,10 @@ use Rattle.spec_session.proofs.StepLaws.{run_unseen}
 use Rattle.spec_session.specs.Steps.{words_of, Run, with_words, run_steps}
 use Rattle.file_parts.specs.Loaded.{forgets}
 use Rattle.file_parts.specs.declared.session_file.Step.TheVariants as code
-use Rattle.std.specs.Prelude.{Some}
+use Rattle.std.specs.Prelude.{Some, None}
+use Rattle.file_parts.specs.declared.session_file.Step as code_step
+use Rattle.file_parts.specs.declared.session_file.NextStep.{NextStep}
+use Rattle.file_parts.specs.Loaded.{FirstStep, step_of}
 use Rattle.session_state.specs.declared.progress.Progress.{Progress}
 use Rattle.session_state.specs.declared.progress.StepAnswer.{StepAnswer}
 use Rattle.session_state.specs.Stored.{Noting, noted_words}
@@ -136,6 +139,28 @@ module _ {measure : Measure} {input : List ℕ} {f : File} {w words : List ℕ} 
               ∙ (λ i. run_steps (measure_of measure) (length out) f u.left (standing (past_before i) (was_now i))));
         }
 
+-- ---- the step that comes
+
+-- It is a taking.
+pub taking : (input : List ℕ) (place : ℕ) (n : NextStep) (next : ℕ) → n.step ≡ code.Take → n.next ≡ next → Comes input place (Some n)
+    → Comes input place (Some (record { step = code.Take; next = next }))
+taking input place n next s k comes ss there =
+    let h = comes ss there in (h.0, h.1 ∙ ap (λ (x : code_step.Step). step_of x ∷ h.0) s, subst (λ (x : ℕ). StepsAt input x h.0) k h.2)
+
+take_is : (s : code_step.Step) → step_of s ≡ take_quote → s ≡ code.Take
+take_is (code.Add node) e = clash cc
+take_is (code.Restore number) e = clash cc
+take_is (code.Forget number) e = clash cc
+take_is (code.Quote node) e = clash cc
+take_is code.Take e = refl
+
+-- It is another, or there is none.
+pub another : (input : List ℕ) (ss : List Step) (n : NextStep) → n.step ≢ code.Take → FirstStep input ss (Some n) → IfAny (λ x. x ≢ take_quote) (nth ss 0)
+another input ss n differs h = rw h.1 (λ e. differs (take_is n.step e))
+
+pub no_step : (input : List ℕ) (ss : List Step) → FirstStep input ss None → IfAny (λ x. x ≢ take_quote) (nth ss 0)
+no_step input ss h = rw h tt
+
 -- ---- the answers
 
 module _ {input : List ℕ} {f : File} {w words out : List ℕ} {p : Progress} {c : Checkpoint} (ready : Ready input f w words out p c)
@@ -171,11 +196,11 @@ module _ {input : List ℕ} {f : File} {w words out : List ℕ} {p : Progress} {
           omega (arith, ap (λ (b : Bool). bit (not b)) is_open, ap (λ (x : StepAnswer). x.state.steps) is, ap (λ (x : StepAnswer). bit (not x.state.quoted)) is),
         )
 
+  pub drop_asks : (0 < p.adds) × Undoing true w p.depth (p.adds - 1) c
+  drop_asks = drop_takes ready.underway is_open ready.record_is
+
   -- The next step is no taking.
   module _ (other : (ss : List Step) → StepsAt input p.at ss → IfAny (λ x. x ≢ take_quote) (nth ss 0)) where
-    pub drop_asks : (0 < p.adds) × Undoing true w p.depth (p.adds - 1) c
-    drop_asks = drop_takes ready.underway is_open ready.record_is
-
     pub drops_on : {w' : List ℕ} {a : StepAnswer} → length w' ≡ length w → Undone true w w' (p.adds - 1) c
         → a ≡ record { state = undone_at p c (p.adds - 1); saved = c } → Onward input f w words out p c w' words out a
     drops_on {w'} {a} long un is measure rows u r_is =

@@ -1,8 +1,7 @@
 -- `session_steps::save_state` saves open pairs, stack and marks, and the cache where a step of the file forgets.
 -- Assumes nothing.
 use native.Mathlib.Omega.{arith}
-use borrow.Author.Rules.{rules}
-use Rattle.session_steps.proofs.Saving.{cache_asks, saved_both, saved_one}
+use Rattle.session_steps.proofs.Saving.{cache_asks, saved_both}
 use Rattle.session_steps.proofs.save_state.Goals as goal
 
 pub save-requires-then-p : goal.save-requires-then-p

@@ -1,6 +1,6 @@
 -- `session_steps::run_steps::run_steps` meets its contract. The invariant is what `Between` says of the slices and the progress; the measure is `ahead`.
 -- Assumes nothing.
-use Rattle.session_steps.proofs.run_steps.Between.{Values, Between, ahead}
+use Rattle.session_steps.proofs.run_steps.Between.{Between, ahead}
 use Rattle.session_steps.proofs.run_steps.run_steps.Given as goal
 
 abbrev pub invariant-loop-p : goal.invariant-loop-p

@@ -1,6 +1,5 @@
 -- `session_steps::undo_step::undo` brings back a copy and its record.
 -- Assumes nothing.
-use borrow.Author.Rules.{rules}
 use Rattle.session_steps.proofs.undo_step.Undoing.{restore_asks}
 use Rattle.session_steps.proofs.undo_step.undo.Goals as goal
 

@@ -2,7 +2,6 @@
 -- Assumes nothing.
 use Prim.Native.Nat.{◌<◌}
 use native.Mathlib.Omega.{arith}
-use borrow.Author.Rules.{rules}
 use Rattle.session_steps.proofs.undo_step.Answers as answers
 use Rattle.session_steps.proofs.undo_step.undo_step.Goals as goal
 
