@@ -1,6 +1,6 @@
 -- What the answer of an add means, and that of the end: the run goes on, or it is over. What each call of an add asks.
 -- Assumes nothing.
-use Prim.Native.Nat.{ℕ, suc, ◌+◌, ◌≤◌, ◌<◌}
+use Prim.Native.Nat.{ℕ, ◌+◌, ◌≤◌, ◌<◌}
 use mathlib.Core.Path.{◌≡◌, refl, sym, ap, subst, ◌∙◌}
 use mathlib.Core.Bool.{Bool, true, false, not, cond}
 use mathlib.Core.List.{List, ◌∷◌}
@@ -8,7 +8,6 @@ use native.Mathlib.Omega.{arith}
 use lib.Dec.{ltb}
 use lib.ListN.{length, set}
 use borrow.Author.Tests.{ltb-true, ltb-false}
-use Rattle.words.specs.Choice.{clash}
 use Rattle.session_state.specs.declared.checkpoints.Checkpoint.{Checkpoint}
 use Rattle.path.specs.Measure.{measure_of}
 use Rattle.allocator.specs.declared.NodePtr.{NodePtr}
@@ -19,7 +18,6 @@ use Rattle.file_parts.specs.declared.session_file.Step.TheVariants as code
 use Rattle.std.specs.Prelude.{Some, None, Result, Ok, Err}
 use Rattle.spec_session.specs.Steps.{run_steps}
 use Rattle.write_place.specs.State.{todo_of}
-use Rattle.write_loop.specs.Effects.{Fine, ended as ended_at}
 use Rattle.write_place.specs.declared.Outcome.{Outcome}
 use Rattle.write_place.specs.declared.Refused.{Refused}
 use Rattle.write_place.specs.declared.AddError.TheVariants.{TooManyOpen, OutputFull}
@@ -27,8 +25,7 @@ use Rattle.write_place.specs.declared.Outcome.TheVariants as outcome
 use Rattle.session_state.specs.declared.progress.Progress.{Progress}
 use Rattle.session_state.specs.declared.progress.StepAnswer.{StepAnswer}
 use Rattle.path.specs.Bytes.{bit}
-use Rattle.write_counts.specs.Counts.{Bounded}
-use Rattle.session_state.specs.Stored.{Noting, noted_words, record_of}
+use Rattle.session_state.specs.Stored.{noted_words, record_of}
 use Rattle.session_state.specs.Moves.{noted_at, with_quote, after_outcome, refusal_of, stopped_at}
 use Rattle.session_state.specs.Questions.{question_of}
 use Rattle.session_state.specs.Errors.{number_of}
@@ -36,9 +33,9 @@ use Rattle.session_state.specs.declared.step_error.StepError.{StepError}
 use Rattle.session_state.specs.declared.step_error.StepError.TheVariants.{Finished, TooManyAdds, NoSuchAdd, Add, NoQuote}
 use Rattle.session_state.specs.State.{standing, waits, Underway, slot_for, add_of}
 use Rattle.session_state.specs.Steps.{Comes, Ready, Onward}
-use Rattle.session_steps.specs.Effects.{told_add, Adding, Added}
+use Rattle.session_steps.specs.Effects.{told_add, Added}
 use Rattle.session_state.proofs.Runs.{run_ends, run_none_open, run_finished, run_full}
-use Rattle.session_steps.proofs.Adding.{adding, added_on, added_off}
+use Rattle.session_steps.proofs.Adding.{added_on, added_off}
 use Rattle.session_state.proofs.Answers.{stands_on, stands_off, stops}
 
 -- No error has the number 0.
@@ -116,12 +113,6 @@ module _ {input : List ℕ} {f : File} {w words out : List ℕ} {p : Progress} {
         go false fin false m q = stops_10 a (is ∙ ap (λ (x : ℕ). stopped_at p x c) q) fin (ltb-false p.adds 16 m)
 
     module _ (free : (p.finished ≡ false) × (p.adds < 16)) where
-      pub add_asks : Adding input w out p node.0
-      add_asks =
-          let u = ready.underway in
-          let e = comes u.left u.steps_there in
-          adding quotes u e.1 free.0 free.1
-
       module _ {w' out' : List ℕ} {q : Progress} (ad : Added input w out w' out' p node q) where
         steps_same : (o : Result Outcome Refused) → (after_outcome p o).steps ≡ p.steps
         steps_same (Ok (outcome.Done pl)) = refl
@@ -130,22 +121,6 @@ module _ {input : List ℕ} {f : File} {w words out : List ℕ} {p : Progress} {
 
         same_steps : q.steps ≡ p.steps
         same_steps = ap (λ (x : Progress). x.steps) ad.is ∙ steps_same ad.outcome
-
-        fits : (o : Result Outcome Refused) → Fine w' out' (ended_at o) → (after_outcome p o).done ≡ false
-            → ((after_outcome p o).counts.size ≤ 65535) × Bounded (after_outcome p o).counts
-        fits (Ok (outcome.Done pl)) r d = (omega (arith, r.0.fits, r.0.short), r.0.bounded)
-        fits (Ok (outcome.Stopped pl)) r d = (omega (arith, r.fits, r.short), r.bounded)
-        fits (Err r) f d = clash cc
-
-        pub note_asks : q.done ≡ false → {k : Progress} → k ≡ with_quote q quotes → Noting words k
-        note_asks d {k} is =
-            let u = ready.underway in
-            let e = comes u.left u.steps_there in
-            let l : length u.left ≡ suc (length e.0) = ap length e.1 in
-            let z : (q.counts.size ≤ 65535) × Bounded q.counts =
-            subst (λ (x : Progress). x.done ≡ false → (x.counts.size ≤ 65535) × Bounded x.counts) (sym ad.is) (fits ad.outcome ad.resumed.fine) d in
-            subst (Noting words) (sym is)
-            (record { room = omega (arith, u.few_steps, u.many_words, same_steps); short = z.0; bounded = z.1; few_steps = omega (arith, u.few_steps, same_steps) })
 
         -- A refused add.
         pub adds_off : (saved : Checkpoint) {t : Progress} → q.done ≡ true → t ≡ refusal_of quotes p q

@@ -2,11 +2,9 @@
 -- Assumes nothing.
 use Prim.Native.Nat.{ℕ, ◌+◌, ◌*◌, ◌≤◌, ◌<◌}
 use mathlib.Core.Path.{◌≡◌, sym, ap, ◌∙◌}
-use mathlib.Core.Bool.{true, false}
 use mathlib.Core.List.{List}
 use native.Mathlib.Omega.{arith}
 use lib.ListN.{length}
-use Rattle.words.specs.Choice.{clash}
 use Rattle.words.specs.Words.{at}
 use Rattle.work_layout.specs.Layout.{PAIR_COUNT, USED, COUNTS, PARENTS, COPIES, MAPS, ENTRIES}
 use Rattle.work_layout.specs.Rows.{Sound, all_counts}
@@ -67,7 +65,3 @@ module _ {w w₁ : List ℕ} (p : Progress) (st : Standing w p.opens p.depth 0) 
 
       count : (x : ℕ) → x < ENTRIES → at w₁ (COUNTS + x) ≡ at w (COUNTS + x)
       count x l = same (COUNTS + x) (omega arith)
-
-  -- Where no step forgets, the cache is not copied.
-  pub saved_one : p.forgets ≡ false → StateSaved w w₁ p
-  saved_one e = record { saved = sv; cache = λ q. let z : true ≡ false = sym q ∙ e in clash cc }

@@ -33,7 +33,7 @@ use Rattle.file_parts.specs.declared.session_file.NextStep.{NextStep}
 use Rattle.file_parts.specs.Loaded.{FirstStep, step_of}
 use Rattle.session_state.specs.declared.progress.Progress.{Progress}
 use Rattle.session_state.specs.declared.progress.StepAnswer.{StepAnswer}
-use Rattle.session_state.specs.Stored.{Noting, noted_words}
+use Rattle.session_state.specs.Stored.{noted_words}
 use Rattle.session_state.specs.Moves.{noted_at, with_quote, undone_at}
 use Rattle.session_state.specs.State.{standing, whole_run, after_words, Shows, Stocked, Underway, Stands, slot_for}
 use Rattle.session_state.specs.Steps.{Comes, Ready, Onward}
@@ -174,19 +174,6 @@ module _ {input : List ℕ} {f : File} {w words out : List ℕ} {p : Progress} {
       (subst (λ (y : List Checkpoint). Underway measure input f w' words' y out t) (sym (ap (set rows k) (sym r_is) ∙ set-get_or rows k blank)) u))
 
   module _ (next : ℕ) (comes : Comes input p.at (Some (record { step = code.Take; next = next }))) where
-    pub take_asks : Noting words p
-    take_asks =
-        let u = ready.underway in
-        let e = comes u.left u.steps_there in
-        let l : length u.left ≡ suc (length e.0) = ap length e.1 in
-        let r = u.present.running in
-        record {
-          room = omega (arith, u.few_steps, u.many_words);
-          short = omega (arith, r.fits, r.short);
-          bounded = r.bounded;
-          few_steps = omega (arith, u.few_steps);
-        }
-
     pub takes_on : {words' : List ℕ} {a : StepAnswer} → words' ≡ noted_words words p
         → a ≡ record { state = noted_at (with_quote p false) next; saved = c } → Onward input f w words out p c w words' out a
     takes_on {words'} {a} ws is measure rows u r_is =

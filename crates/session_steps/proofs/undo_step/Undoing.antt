@@ -8,7 +8,7 @@ use mathlib.Core.Option.{Option, some}
 use lib.Seq.{get_or-set_same, get_or-set_other, set-get_or}
 use native.Mathlib.Omega.{arith}
 use lib.Dec.{ltb}
-use lib.ListN.{length, get_or, set, take, length-set}
+use lib.ListN.{length, get_or, set, take}
 use borrow.Author.Tests.{lt-ltb}
 use Rattle.words.specs.Words.{at, WORK}
 use Rattle.words.specs.Lists.{All}
@@ -51,10 +51,6 @@ use Rattle.session_state.proofs.Answers.{same_standing}
 use Rattle.session_steps.proofs.undo_step.Forgetting.{used_more, again, whole_again, roomy_again, few_again, holds_again}
 
 -- ---- the sentinel's entry, of a restore
-
-entry_length : (v : List ℕ) (r : ℕ) → length (with_entry v r) ≡ length v
-entry_length v zero = refl
-entry_length v (suc e) = length-set v SENTINEL_ENTRY (suc e)
 
 entry_other : (v : List ℕ) (r k : ℕ) → (k ≡ SENTINEL_ENTRY → ⊥) → at (with_entry v r) k ≡ at v k
 entry_other v zero k n = refl
