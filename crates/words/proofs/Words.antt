@@ -54,7 +54,7 @@ module _ {A : Type 0} where
   map_append f [] ys = refl
   map_append f (x ∷ xs) ys = ap {B = List _} (λ r. f x ∷ r) (map_append f xs ys)
 
--- a part keeps its words where the words at its places are the same
+-- A part's length and its words.
 pub part_length : (w : List ℕ) (off n : ℕ) → off + n ≤ length w → length (part w off n) ≡ n
 unfolding part
 part_length w off n h = simp (length-take, length-drop) (omega arith)
@@ -62,13 +62,6 @@ part_length w off n h = simp (length-take, length-drop) (omega arith)
 pub part_at : (w : List ℕ) (off n i : ℕ) → i < n → get_or (part w off n) i 0 ≡ at w (off + i)
 unfolding part
 part_at w off n i h = rw (get_or-take, get_or-drop)
-
-pub part_same : (w w' : List ℕ) (off n : ℕ) → off + n ≤ length w → length w' ≡ length w
-    → ((i : ℕ) → i < n → at w' (off + i) ≡ at w (off + i)) → part w' off n ≡ part w off n
-part_same w w' off n h len same =
-    let h' : off + n ≤ length w' = omega arith in
-    ext_get_or 0 _ _ (part_length w' off n h' ∙ sym (part_length w off n h))
-    (λ i l. let p : i < n = rw (part_length w' off n h') at l in part_at w' off n i p ∙ same i p ∙ sym (part_at w off n i p))
 
 -- one word more
 pub part_more : (w : List ℕ) (off n : ℕ) → off + n < length w → part w off (n + 1) ≡ part w off n ++ (at w (off + n) ∷ [])

@@ -1,4 +1,4 @@
-// Words and bytes read: a word and bytes as a number, bytes compared. The laws of a slice's parts stand here too.
+// Bytes read as a number, and compared. The laws of a slice's parts stand here too.
 #![tactic(auto)]
 
 pub mod slices;
@@ -10,13 +10,6 @@ ghost use Rattle.words.specs.Words.{part};
 
 // The least length of work, in words, of both calls: question 1.
 pub const WORK: usize = 524288;
-
-// A word as a place.
-pub fn wide(x: u32) -> usize
-    ensures { result ≡ x }
-{
-    x as usize
-}
 
 // Whether two slices hold the same bytes.
 pub fn same_bytes(a: &[u8], b: &[u8]) -> bool
