@@ -8,7 +8,8 @@ ghost use Rattle.words.specs.BigEndian.{number_after};
 ghost use Rattle.words.specs.Lists.{same};
 ghost use Rattle.words.specs.Words.{part};
 
-// The least length of work, in words, of both calls: question 1.
+// The least length of work, in words, of both calls: question 1. Work stays a slice of at least as many words, which each function asks: `[u32; WORK]` would
+// ask more of callers, and a struct round a `&mut` slice can say nothing of its length.
 pub const WORK: usize = 524288;
 
 // Whether two slices hold the same bytes.
