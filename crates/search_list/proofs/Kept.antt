@@ -69,6 +69,24 @@ pub record Up (w x : List ℕ) (c n m e k d v a : ℕ) : Type 0 where
   pub stored : Stored w x c m v 0
   pub len : length x ≡ length w
 
+pub up_of : {w x : List ℕ} {c n m e k d v a : ℕ} → Links w × Tops w d × Nodes w m × PathsOK w m n
+    → (c < n) × (e < ENTRIES) × (k < a) × (n + (a - k) ≤ MOST_PATHS) × (a ≡ count_at w e) × (v ≡ link_at w e k)
+    → Stored w x c m v 0 → length x ≡ length w → Up w x c n m e k d v a
+up_of p q stored len = record {
+  links = p.0;
+  tops = p.1;
+  nodes = p.2;
+  paths = p.3;
+  slot = q.0;
+  entry = q.1;
+  parent = q.2;
+  room = q.3;
+  all = q.4;
+  word = q.5;
+  stored = stored;
+  len = len;
+}
+
 module _ {w x : List ℕ} {c n m e k d v a : ℕ} (u : Up w x c n m e k d v a) where
   hv : v < 2 * at w USED
   hv = subst (λ (q : ℕ). q < 2 * at w USED) (sym u.word) (u.links.links e k u.entry (omega (arith, u.parent, u.all)))
@@ -160,6 +178,10 @@ pub record Off (w x : List ℕ) (c n m e d n₂ : ℕ) : Type 0 where
   pub room : n < MOST_PATHS
   pub list : Relisted w x m n₂ (trails_of w n ++ stacked w m e d)
   pub len : length x ≡ length w
+
+pub off_of : {w x : List ℕ} {c n m e d n₂ : ℕ} → Links w × Tops w d × Nodes w m × PathsOK w m n → (c < n) × (e < ENTRIES) × (n < MOST_PATHS)
+    → Relisted w x m n₂ (trails_of w n ++ stacked w m e d) → length x ≡ length w → Off w x c n m e d n₂
+off_of p q list len = record { long = p.0.long; nodes = p.2; slot = q.0; room = q.2; list = list; len = len }
 
 module _ {w x : List ℕ} {c n m e d n₂ : ℕ} (u : Off w x c n m e d n₂) where
   pub off_count : (n ≤ n₂) × (n₂ ≤ n + 1)

@@ -5,7 +5,7 @@
 pub mod search_copies;
 pub mod search_moves;
 
-ghost use Rattle.std.specs.Prelude.{◌≡◌, ◌+◌, ◌/◌, ◌≤◌, ◌<◌, length};
+ghost use Rattle.std.specs.Prelude.{◌≡◌, ◌+◌, ◌/◌, ◌≤◌, ◌<◌, length, MatchOption};
 ghost use Rattle.spec_search.specs.Search.{most_visits};
 ghost use Rattle.words.specs.Words.{at, WORK};
 ghost use Rattle.work_layout.specs.Layout.{ENTRIES, TOPS, LENS};
@@ -34,12 +34,12 @@ pub struct Cursor {
 // After a turn: the pass goes on, or the search ends, with the slot of the path that is its result, or with none at visit 1,025.
 pub type Turned = ControlFlow<Option<usize>, Cursor>;
 
-// One more than the highest place of entry e on the stack, or 0.
-pub fn top_of(work: &[u32], e: EntryIndex) -> usize
+// The highest place of entry e on the stack. Its word is one more, or 0 where there is none.
+pub fn top_of(work: &[u32], e: EntryIndex) -> Option<usize>
     requires { (WORK ≤ length work.now) × (e.0 < ENTRIES) }
-    ensures { result ≡ at work.now (TOPS + e.0) }
+    ensures { MatchOption result (at work.now (TOPS + e.0) ≡ 0) (λ top. at work.now (TOPS + e.0) ≡ top + 1) }
 {
-    work[work_layout::TOPS + e.0 as usize] as usize
+    (work[work_layout::TOPS + e.0 as usize] as usize).checked_sub(1)
 }
 
 // The node whose bits path i has.
@@ -84,6 +84,7 @@ pub fn distance_of(work: &[u32], i: usize) -> u32
 }
 
 // 0 where path i is at an entry; on the stack, how many bits it has after its node's: a 0, and then each a 1.
+// No Option: where it is 0 it is the count of those bits too, and so `size_of` and the path's bytes take it.
 pub fn extra_of(work: &[u32], i: usize) -> u32
     requires { (WORK ≤ length work.now) × (i < MOST_PATHS) }
     ensures { result ≡ extra_at work.now i }

@@ -43,31 +43,39 @@ fn add_copy(work: &mut [u32], e: EntryIndex, i: usize, paths: usize, nodes: usiz
     paths + 1
 }
 
-// A path with the bits of the last node at each unseen parent of entry e, which has `all`, from parent `first` on.
-pub fn add_copies(work: &mut [u32], e: EntryIndex, first: usize, all: usize, s: Search) -> usize
-    requires links { (Links work.old) × (Nodes work.old s.nodes) × (PathsOK work.old s.nodes s.paths) }
-    requires e_bound { (e.0 < ENTRIES) × (first ≤ all) × (s.paths + (all - first) ≤ MOST_PATHS) × (all ≡ count_at work.old e.0) }
-    ensures { Relisted work.old work.new s.nodes result
-        (trails_of work.old s.paths ++ copies work.old s.nodes e.0 first) }
-{
-    let mut paths = s.paths;
-    for i in first..all {
-        paths = add_copy(work, e, i, paths, s.nodes);
+impl Search {
+    // A path with the bits of the last node at each unseen parent of entry e, which has `all`, from parent `first` on.
+    pub fn add_copies(self, work: &mut [u32], e: EntryIndex, first: usize, all: usize) -> usize
+        requires links { (Links work.old) × (Nodes work.old self.nodes) × (PathsOK work.old self.nodes self.paths) }
+        requires e_bound { (e.0 < ENTRIES)
+            × (first ≤ all)
+            × (self.paths + (all - first) ≤ MOST_PATHS)
+            × (all ≡ count_at work.old e.0) }
+        ensures { Relisted work.old work.new self.nodes result
+            (trails_of work.old self.paths ++ copies work.old self.nodes e.0 first) }
+    {
+        let mut paths = self.paths;
+        for i in first..all {
+            paths = add_copy(work, e, i, paths, self.nodes);
+        }
+        paths
     }
-    paths
-}
 
-// For an entry on the stack a path there, with the bits of the last node and a further 0.
-pub fn add_stacked(work: &mut [u32], e: EntryIndex, s: Search) -> usize
-    requires links { (Links work.old) × (Tops work.old s.depth) × (Nodes work.old s.nodes) × (PathsOK work.old s.nodes s.paths) }
-    requires e_bound { (e.0 < ENTRIES) × (s.paths < MOST_PATHS) }
-    ensures { Relisted work.old work.new s.nodes result
-        (trails_of work.old s.paths ++ stacked work.old s.nodes e.0 s.depth) }
-{
-    let t = crate::top_of(work, e);
-    if t == 0 {
-        return s.paths;
+    // For an entry on the stack a path there, with the bits of the last node and a further 0.
+    pub fn add_stacked(self, work: &mut [u32], e: EntryIndex) -> usize
+        requires links { (Links work.old)
+            × (Tops work.old self.depth)
+            × (Nodes work.old self.nodes)
+            × (PathsOK work.old self.nodes self.paths) }
+        requires e_bound { (e.0 < ENTRIES) × (self.paths < MOST_PATHS) }
+        ensures { Relisted work.old work.new self.nodes result
+            (trails_of work.old self.paths ++ stacked work.old self.nodes e.0 self.depth) }
+    {
+        let Some(top) = crate::top_of(work, e) else {
+            return self.paths;
+        };
+        let distance = self.depth - 1 - top;
+        crate::put_on_stack(work, self.paths, self.nodes as u32, distance as u32, 1);
+        self.paths + 1
     }
-    crate::put_on_stack(work, s.paths, s.nodes as u32, (s.depth - t) as u32, 1);
-    s.paths + 1
 }

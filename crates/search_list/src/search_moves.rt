@@ -7,7 +7,7 @@ ghost use Rattle.spec_search.specs.Flat.{swap_remove};
 ghost use Rattle.search_list.specs.Steps.{PathsOK, copies, stacked, Links, Nodes, Relisted, UnseenOf};
 ghost use Rattle.search_list.specs.State.{node_bits, trail_of, trails_of, trail, count_at, MOST_PATHS};
 
-use crate::{Search, search_copies};
+use crate::{Cursor, Search};
 use work_layout::parents::Parent;
 use work_layout::{EntryIndex, parents};
 
@@ -54,36 +54,45 @@ pub fn drop_path(work: &mut [u32], slot: usize, last: usize, nodes: usize)
     crate::put_path(work, slot, a, v, x);
 }
 
-// The path in `slot` goes to parent k of entry e, each later unseen parent gets a copy, and then the stack. This function and the next give how many
-// paths there are then.
-pub fn go_up(work: &mut [u32], slot: usize, s: Search, e: EntryIndex, k: Unseen) -> usize
-    requires links { (Links work.old) × (Tops work.old s.depth) × (Nodes work.old s.nodes) × (PathsOK work.old s.nodes s.paths) }
-    requires slot_lt_paths { (slot < s.paths)
-        × (e.0 < ENTRIES)
-        × (k.place < k.all)
-        × (s.paths + (k.all - k.place) ≤ MOST_PATHS)
-        × (k.all ≡ count_at work.old e.0)
-        × (k.parent.0 ≡ link_at work.old e.0 k.place) }
-    ensures { Relisted work.old work.new s.nodes result
-        (set (trails_of work.old s.paths) slot
-        (trail 0 (node_bits work.old s.nodes) (link_at work.old e.0 k.place))
-        ++ (copies work.old s.nodes e.0 (k.place + 1) ++ stacked work.old s.nodes e.0 s.depth)) }
-{
-    crate::put_at_entry(work, slot, s.nodes as u32, k.parent);
-    let mut more = s;
-    more.paths = search_copies::add_copies(work, e, k.place + 1, k.all, s);
-    search_copies::add_stacked(work, e, more)
-}
+// The moves of the path at the cursor. Each gives how many paths there are then.
+impl Cursor {
+    // The path goes to parent k of entry e, each later unseen parent gets a copy, and then the stack.
+    pub fn go_up(self, work: &mut [u32], e: EntryIndex, k: Unseen) -> usize
+        requires links { (Links work.old)
+            × (Tops work.old self.search.depth)
+            × (Nodes work.old self.search.nodes)
+            × (PathsOK work.old self.search.nodes self.search.paths) }
+        requires slot_lt_paths { (self.slot < self.search.paths)
+            × (e.0 < ENTRIES)
+            × (k.place < k.all)
+            × (self.search.paths + (k.all - k.place) ≤ MOST_PATHS)
+            × (k.all ≡ count_at work.old e.0)
+            × (k.parent.0 ≡ link_at work.old e.0 k.place) }
+        ensures { Relisted work.old work.new self.search.nodes result
+            (set (trails_of work.old self.search.paths) self.slot
+            (trail 0 (node_bits work.old self.search.nodes) (link_at work.old e.0 k.place))
+            ++ (copies work.old self.search.nodes e.0 (k.place + 1) ++ stacked work.old self.search.nodes e.0 self.search.depth)) }
+    {
+        let s = self.search;
+        crate::put_at_entry(work, self.slot, s.nodes as u32, k.parent);
+        let paths = s.add_copies(work, e, k.place + 1, k.all);
+        let more = Search { paths, ..s };
+        more.add_stacked(work, e)
+    }
 
-// The path in `slot` is dropped, and the stack gets a copy.
-pub fn go_off(work: &mut [u32], slot: usize, s: Search, e: EntryIndex) -> usize
-    requires links { (Links work.old) × (Tops work.old s.depth) × (Nodes work.old s.nodes) × (PathsOK work.old s.nodes s.paths) }
-    requires slot_lt_paths { (slot < s.paths) × (e.0 < ENTRIES) × (s.paths < MOST_PATHS) }
-    ensures { Relisted work.old work.new s.nodes result
-        (swap_remove (trails_of work.old s.paths ++ stacked work.old s.nodes e.0 s.depth) slot
-        (trail_of work.old slot)) }
-{
-    let last = search_copies::add_stacked(work, e, s) - 1;
-    drop_path(work, slot, last, s.nodes);
-    last
+    // The path is dropped, and the stack gets a copy.
+    pub fn go_off(self, work: &mut [u32], e: EntryIndex) -> usize
+        requires links { (Links work.old)
+            × (Tops work.old self.search.depth)
+            × (Nodes work.old self.search.nodes)
+            × (PathsOK work.old self.search.nodes self.search.paths) }
+        requires slot_lt_paths { (self.slot < self.search.paths) × (e.0 < ENTRIES) × (self.search.paths < MOST_PATHS) }
+        ensures { Relisted work.old work.new self.search.nodes result
+            (swap_remove (trails_of work.old self.search.paths ++ stacked work.old self.search.nodes e.0 self.search.depth) self.slot
+            (trail_of work.old self.slot)) }
+    {
+        let last = self.search.add_stacked(work, e) - 1;
+        drop_path(work, self.slot, last, self.search.nodes);
+        last
+    }
 }

@@ -25,10 +25,10 @@ fn visit(work: &mut [u32], at: Cursor) -> Turned
     next.search.nodes += 1;
     match search_moves::first_unseen(work, e) {
         Some(k) => {
-            next.search.paths = search_moves::go_up(work, at.slot, next.search, e, k);
+            next.search.paths = next.go_up(work, e, k);
             next.slot += 1;
         }
-        None => next.search.paths = search_moves::go_off(work, at.slot, next.search, e),
+        None => next.search.paths = next.go_off(work, e),
     }
     ControlFlow::Continue(next)
 }

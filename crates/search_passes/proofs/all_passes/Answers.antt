@@ -1,6 +1,5 @@
 -- `search_passes::all_passes` meets its contract: the passes that are left give what all passes give.
 -- Assumes nothing.
-use mathlib.Core.Path.{◌∙◌}
 use native.Mathlib.Omega.{arith}
 use Rattle.search_passes.proofs.PassLaws.{begun_of, search_start, search_more, search_ended, search_empty, search_end}
 use Rattle.search_passes.proofs.all_passes.Goals as goal
@@ -10,9 +9,6 @@ start-requires c = let q = c.requires in (q.0.long, q.0.used, q.3)
 
 pub loop-l-init : goal.loop-l-init
 loop-l-init c = search_start (begun_of c.requires c.start.ensures c.start.auto.work) _
-
-pub shape_of-work-then-s-eq0 : goal.shape_of-work-then-s-eq0
-shape_of-work-then-s-eq0 c = c.loop-l.invariant.len ∙ c.start.auto.work
 
 pub returns-then-s-eq0 : goal.returns-then-s-eq0
 returns-then-s-eq0 c =
@@ -36,9 +32,6 @@ returns-in-Continue c =
     let begun = begun_of c.requires c.start.ensures c.start.auto.work in
     let more = search_more begun c.loop-l.invariant c.loop-l-test.true c.if-s-eq0.false c.pass.auto.work c.in-Continue.ensures in
     search_end begun more c.limit_of-limit.ensures (omega arith)
-
-pub shape_of-work : goal.shape_of-work
-shape_of-work c = c.loop-l.invariant.len ∙ c.start.auto.work
 
 pub returns : goal.returns
 returns c =

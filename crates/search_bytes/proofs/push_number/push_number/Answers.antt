@@ -29,9 +29,6 @@ loop-preserved c =
     (push_more l.invariant (left - 1) _ (one_holds p.ensures) p.auto.store (omega (arith, c.loop-test.true))
     (number_next left l.rest _ _ (omega (arith, c.loop-test.true)) c.lowest_step.ensures))
 
-pub shape_of-store : goal.shape_of-store
-shape_of-store c = c.loop.invariant.len
-
 pub returns : goal.returns
 returns c =
     let l = c.loop in

@@ -28,9 +28,6 @@ loop-preserved c =
     push_more l.invariant next (trues next) p.ensures p.auto.store (omega (arith, c.loop-test.true))
     (ones_next left next 8 (built l.store l.longer) (omega (arith, c.loop-test.true)))
 
-pub shape_of-store : goal.shape_of-store
-shape_of-store c = c.loop.invariant.len
-
 pub returns : goal.returns
 returns c =
     let l = c.loop in

@@ -4,12 +4,8 @@ use Rattle.spec_search.specs.Search.{most_visits}
 use Rattle.search_list.proofs.Copies.{node_added}
 use lib.ListN.{length-set}
 use Prim.Native.Nat.{◌≤◌}
-use mathlib.Core.Path.{◌∙◌}
 use native.Mathlib.Omega.{arith}
 use Rattle.search_list.proofs.search_copies.add_node.Goals as goal
-
-pub bounds-work-k-2 : goal.bounds-work-k-2
-bounds-work-k-2 c = simp length-set (omega arith)
 
 pub overflow_add-work-3 : goal.overflow_add-work-3
 overflow_add-work-3 c =
@@ -27,17 +23,10 @@ overflow_cast-work c =
     omega (arith, q.in_bounds.1.short a.result (omega (arith, a.ensures, q.slot_bound.0)), c.len_of-l.ensures, a.ensures, q.slot_bound.0, q.in_bounds.2) in
     omega (arith, short)
 
-pub bounds-work-k-3 : goal.bounds-work-k-3
-bounds-work-k-3 c = simp length-set (omega arith)
-
 pub mark_seen-requires : goal.mark_seen-requires
 mark_seen-requires c =
     let s = c in
     (simp length-set s.requires.in_bounds.0, omega (arith, s.requires.slot_bound.1, c.entry.ensures, c.parent_of-p.ensures))
-
-pub shape_of-work : goal.shape_of-work
-shape_of-work c =
-    c.mark_seen.auto.work ∙ simp length-set
 
 pub returns : goal.returns
 returns c =

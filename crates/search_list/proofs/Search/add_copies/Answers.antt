@@ -1,15 +1,15 @@
--- `search_list::search_copies::add_copies` meets its contract: after i parents the list has a path for each unseen one among them.
+-- `search_list::Search::add_copies` meets its contract: after i parents the list has a path for each unseen one among them.
 -- Assumes nothing.
 use Rattle.search_list.proofs.Copies.{copying_asks, copying_start, copying_more, copying_end}
 use Prim.Native.Nat.{◌<◌}
 use native.Mathlib.Omega.{arith}
 use Rattle.search_list.specs.State.{count_at}
-use Rattle.search_list.proofs.search_copies.add_copies.Goals as goal
+use Rattle.search_list.proofs.Search.add_copies.Goals as goal
 
 pub loop-i-init : goal.loop-i-init
 loop-i-init c =
     let s = c in
-    copying_start s.args.work.now s.args.e.0 s.args.s.nodes s.args.first s.args.s.paths (omega (arith, s.requires.e_bound.1, s.requires.e_bound.3)) s.requires.links.2
+    copying_start s.args.work.now s.args.e.0 s.args.self.nodes s.args.first s.args.self.paths (omega (arith, s.requires.e_bound.1, s.requires.e_bound.3)) s.requires.links.2
 
 pub add_copy-paths-requires : goal.add_copy-paths-requires
 add_copy-paths-requires c =
@@ -26,9 +26,6 @@ loop-i-preserved c =
     let s = c in
     let a = c.add_copy-paths in
     copying_more s.requires.links.0 s.requires.links.1 s.requires.e_bound.0 c.loop-i.invariant next a.auto.work a.ensures
-
-pub shape_of-work : goal.shape_of-work
-shape_of-work c = c.loop-i.invariant.len
 
 pub returns : goal.returns
 returns c =

@@ -1,7 +1,0 @@
--- `search_list::search_copies::add_copies` meets its contract: after i parents the list has a path for each unseen one among them.
--- Assumes nothing.
-use Rattle.search_list.proofs.Copies.{Copying}
-use Rattle.search_list.proofs.search_copies.add_copies.Given as goal
-
-abbrev pub invariant-loop-i : goal.invariant-loop-i
-invariant-loop-i l = Copying l.initial.work l.work l.e.0 l.s.nodes l.first l.s.paths l.paths l.i
