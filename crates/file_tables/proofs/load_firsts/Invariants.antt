@@ -1,11 +1,7 @@
 -- `load_firsts` meets its contract. The invariant: the tables of the atoms before `i` are loaded.
 -- Assumes nothing.
-use Rattle.std.proofs.Common.{◌≡◌, ◌-◌, ◌≤◌, length}
 use Rattle.file_tables.proofs.Turns.{Progress}
 use Rattle.file_tables.proofs.load_firsts.Given as goal
 
 abbrev pub invariant-loop-i : goal.invariant-loop-i
-invariant-loop-i l = (l.i ≤ l.count) × (length l.work ≡ length l.initial.work) × Progress l.file l.initial.work l.work l.i
-
-abbrev pub decreases-loop-i : goal.decreases-loop-i
-decreases-loop-i l = l.count - l.i
+invariant-loop-i l = Progress l.file l.initial.work l.work l.i
