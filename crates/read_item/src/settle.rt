@@ -9,6 +9,7 @@ use read_store::join_values;
 use read_store::reader_stacks::OPS;
 
 // Where the reader stands: the next byte, and how much of each stack and of the store is in use. The lowest `listed` values are known to have a list.
+// `Counts` of read_path would be no plainer here: only a path takes them together, and each law of the reader tells of one of them.
 #[derive(Clone, Copy, Debug, PartialEq, Eq)]
 pub struct Reader {
     pub position: usize,

@@ -16,7 +16,8 @@ pub use path_walk::PathIntoAtom;
 use read_store::reader_stacks::VALUES;
 pub use stack_list::{Built, Counts};
 
-// What a path leads to from the stack of `values` values, through the pairs: a node, with the counts then.
+// What a path leads to from the stack of `values` values, through the pairs: a node, with the counts then. The slices are lent, there is no heap: the
+// counts say how much of them is in use.
 pub fn traverse_path_with_vec(
     path: &[u8],
     work: &mut [u32],
