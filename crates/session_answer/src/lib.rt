@@ -47,7 +47,7 @@ pub fn finish(
 {
     clear_rest(work, words, output, refused, p);
     SessionAnswer {
-        number: p.number,
+        number: p.ended.unwrap_or(0),
         steps: p.steps as u32,
         size: p.counts.size as u32,
     }

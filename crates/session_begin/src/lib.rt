@@ -84,8 +84,7 @@ fn start_at(measure: Measure, at: usize, forgets: bool) -> Progress
         depth: 0,
         counts: Counts::default(),
         finished: false,
-        number: 0,
-        done: false,
+        ended: None,
         forgets,
         quoted: false,
         measure,
@@ -97,8 +96,7 @@ fn refused(measure: Measure, number: u32) -> Begun
     ensures { result ≡ record { start = refused_with measure number; records = 0 } }
 {
     let start = Progress {
-        number,
-        done: true,
+        ended: Some(number),
         ..start_at(measure, 0, false)
     };
     Begun { start, records: 0 }

@@ -1,5 +1,5 @@
 -- Where a session stands after each move: a refusal, a finished step, an add, a quote, an undo.
-use Rattle.std.specs.Prelude.{ℕ, ◌+◌, Bool, true, false, Result, Ok, Err}
+use Rattle.std.specs.Prelude.{ℕ, ◌+◌, Bool, true, false, Result, Ok, Err, Some, None, unwrap_or}
 use Rattle.session_state.specs.declared.checkpoints.Checkpoint.{Checkpoint}
 use Rattle.write_counts.specs.declared.Counts.{Counts}
 use Rattle.write_place.specs.declared.Place.{Place}
@@ -21,8 +21,7 @@ refused_at p n =
       depth = p.depth;
       counts = p.counts;
       finished = p.finished;
-      number = n;
-      done = true;
+      ended = Some n;
       forgets = p.forgets;
       quoted = p.quoted;
       measure = p.measure;
@@ -39,8 +38,7 @@ noted_at p next =
       depth = p.depth;
       counts = p.counts;
       finished = p.finished;
-      number = p.number;
-      done = p.done;
+      ended = p.ended;
       forgets = p.forgets;
       quoted = p.quoted;
       measure = p.measure;
@@ -57,8 +55,7 @@ moved_to p q n b =
       depth = q.depth;
       counts = q.counts;
       finished = b;
-      number = 0;
-      done = false;
+      ended = None;
       forgets = p.forgets;
       quoted = false;
       measure = p.measure;
@@ -75,8 +72,7 @@ with_quote p b =
       depth = p.depth;
       counts = p.counts;
       finished = p.finished;
-      number = p.number;
-      done = p.done;
+      ended = p.ended;
       forgets = p.forgets;
       quoted = b;
       measure = p.measure;
@@ -91,7 +87,7 @@ after_outcome p (Err r) = refused_at (moved_to p r.place p.adds false) (question
 -- The progress p before an add that is refused, and q after it: a quote of it leaves the one before.
 abbrev pub refusal_of : (quotes : Bool) → (p q : Progress) → Progress
 refusal_of false p q = q
-refusal_of true p q = refused_at p q.number
+refusal_of true p q = refused_at p (unwrap_or q.ended 0)
 
 -- What was counted, as a record has it.
 abbrev pub counts_in : Checkpoint → Counts

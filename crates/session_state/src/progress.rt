@@ -11,9 +11,9 @@ use write_counts::Counts;
 use write_place::{Outcome, Place, Refused};
 
 // Where a session stands: the next step's place in the file, the finished steps, the adds on the present history, the open pairs, the depth of the stack,
-// what is counted of the items written, and whether the session is finished. The run is done at the end of the file, with number 0, or where a question
-// gets no. `forgets` says whether a step of the file is a forget or a quote: then each add saves the tree cache too. While a quote is open (`quoted`) its
-// add stands as the last one of the history, until it is taken or dropped. `measure` is that of the call, and stays.
+// what is counted of the items written, and whether the session is finished. `ended` is the number with which the run is over: 0 at the end of the file, else
+// that of the question that gets no. `forgets` says whether a step of the file is a forget or a quote: then each add saves the tree cache too. While a quote is
+// open (`quoted`) its add stands as the last one of the history, until it is taken or dropped. `measure` is that of the call, and stays.
 #[derive(Clone, Copy, Debug, PartialEq, Eq)]
 pub struct Progress {
     pub at: usize,
@@ -23,8 +23,7 @@ pub struct Progress {
     pub depth: usize,
     pub counts: Counts,
     pub finished: bool,
-    pub number: u32,
-    pub done: bool,
+    pub ended: Option<u32>,
     pub forgets: bool,
     pub quoted: bool,
     pub measure: Measure,
@@ -42,8 +41,7 @@ fn ended(p: Progress, end: Result<(), StepError>) -> Progress
     ensures { result ≡ refused_at p (number_in end) }
 {
     Progress {
-        number: step_error::number(end),
-        done: true,
+        ended: Some(step_error::number(end)),
         ..p
     }
 }
@@ -58,8 +56,7 @@ fn moved(p: Progress, q: Place, adds: usize, finished: bool) -> Progress
         depth: q.depth,
         counts: q.counts,
         finished,
-        number: 0,
-        done: false,
+        ended: None,
         quoted: false,
         ..p
     }
@@ -90,8 +87,7 @@ pub fn refusal_of(p: Progress, q: Progress, quotes: bool) -> Progress
 {
     if quotes {
         Progress {
-            number: q.number,
-            done: true,
+            ended: Some(q.ended.unwrap_or(0)),
             ..p
         }
     } else {

@@ -68,7 +68,7 @@ fn add_step(
     }
     let saved = step_records::record_of(work, p);
     let q = add(file, work, output, p, node);
-    if q.done {
+    if q.ended.is_some() {
         let state = progress::refusal_of(p, q, quotes);
         return StepAnswer { state, saved };
     }

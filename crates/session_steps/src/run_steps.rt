@@ -1,4 +1,5 @@
 // The steps of a session, one after the other, with the checkpoint records in a lent slice of structs.
+ghost use Rattle.std.specs.Prelude.{is_some};
 ghost use Rattle.session_steps.specs.Driven.{Going, Driven};
 
 use session_state::Checkpoint;
@@ -13,13 +14,14 @@ pub fn run_steps(
     file: &[u8],
     start: Progress,
 ) -> Progress
-    requires { Going file.now work.old words.old checkpoints.old output.old start start.done }
+    requires { Going file.now work.old words.old checkpoints.old output.old start
+        (is_some start.ended) }
     ensures { Driven file.now work.old words.old checkpoints.old
         output.old start work.new words.new checkpoints.new
-        output.new result start.done }
+        output.new result (is_some start.ended) }
 {
     let mut p = start;
-    while !p.done {
+    while p.ended.is_none() {
         let k = session_state::slot_of(file, p);
         let c = checkpoints[k];
         let a = crate::bounded_step(work, words, output, file, p, c);
