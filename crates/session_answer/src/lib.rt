@@ -16,6 +16,7 @@ pub struct SessionAnswer {
 }
 
 // What is left is cleared: work, the words past the finished steps, and the output past the size. With 1 to 8 no slice is touched.
+// `refused` says that the run was over before its first step, which p doesn't: at the end every run is over.
 fn clear_rest(work: &mut [u32], words: &mut [u32], output: &mut [u8], refused: bool, p: Progress)
     requires { (3 * p.steps ≤ length words.old) × (p.counts.size ≤ length output.old) }
     ensures { Cleared p work.old words.old output.old work.new words.new

@@ -12,8 +12,9 @@ use write_place::{Outcome, Place, Refused};
 
 // Where a session stands: the next step's place in the file, the finished steps, the adds on the present history, the open pairs, the depth of the stack,
 // what is counted of the items written, and whether the session is finished. `ended` is the number with which the run is over: 0 at the end of the file, else
-// that of the question that gets no. `forgets` says whether a step of the file is a forget or a quote: then each add saves the tree cache too. While a quote is
-// open (`quoted`) its add stands as the last one of the history, until it is taken or dropped. `measure` is that of the call, and stays.
+// that of the question that gets no. It is a number, as in the definitions' run, since questions 1 to 8, asked before any step, end a run too. `forgets` says
+// whether a step of the file is a forget or a quote: then each add saves the tree cache too. While a quote is open (`quoted`) its add stands as the last one
+// of the history, until it is taken or dropped. `measure` is that of the call, and stays.
 #[derive(Clone, Copy, Debug, PartialEq, Eq)]
 pub struct Progress {
     pub at: usize,
