@@ -47,7 +47,7 @@ fn add(file: &[u8], work: &mut [u32], output: &mut [u8], p: Progress, node: Node
 
 // An add, or a quote of it: questions 9 and 10; the tree is added, and the step's words written unless the add is refused. What a quote adds stands until
 // the next step; where it is refused, the session ends as it was before. What is lent stays side by side, in each step: a signature says which slices may
-// change, and a struct of `&mut` slices can carry no invariant. `quotes` stays a bool, as in the definitions: an enum would be turned into one in each contract.
+// change, and a struct of `&mut` slices can carry no invariant. `quotes` stays a bool, as in the definitions: each contract would turn an enum into one.
 fn add_step(
     file: &[u8],
     work: &mut [u32],

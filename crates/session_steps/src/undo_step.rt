@@ -10,7 +10,7 @@ use session_state::progress::Progress;
 use session_state::{Checkpoint, StepAnswer, StepError, progress, step_records};
 
 // What an undo does to the tree cache: a forget puts back that of copy `number`, a restore the sentinel's entry alone. Entries are not freed by a restore.
-// `forgets` stays a bool, as in the definitions: an enum would be turned into one in each contract.
+// `forgets` stays a bool, as in the definitions: each contract would turn an enum into one.
 fn bring_cache(work: &mut [u32], number: usize, forgets: bool, c: Checkpoint)
     requires { (WORK ≤ length work.old) × (Brings forgets work.old number) }
     ensures { CacheBack forgets work.old work.new number c }
