@@ -18,7 +18,8 @@ ghost use Rattle.cache_entries.specs.table.Effects.{option_of};
 use allocator::{NodePtr, ObjectType, small_atom};
 use work_layout::EntryIndex;
 
-// The entry of pair i, if it has one.
+// The entry of pair i, if it has one. A pair's number stays a usize, as an atom's: it is the index of a handle, and a type with its bound would be made of it
+// anew at each call, with the same proof.
 pub fn map_of(work: &[u32], i: usize) -> Option<EntryIndex>
     requires { (WORK ≤ length work.now) × (i < 1024) }
     ensures { option_of result ≡ entry_or_none (at work.now (MAPS + i)) }
@@ -34,7 +35,7 @@ pub fn sentinel_entry(work: &[u32]) -> Option<EntryIndex>
     table::found_by(work[work_layout::SENTINEL_ENTRY])
 }
 
-// The left handle of pair i.
+// The left handle of pair i. This and the next stay two: a name for each side is plainer than one with a constant for the side.
 pub fn left_of(work: &[u32], i: usize) -> NodePtr
     requires { (WORK ≤ length work.now) × (i < 1024) }
     ensures { result.0 ≡ at work.now (PAIRS + 2 * i) }

@@ -42,7 +42,8 @@ pub fn top_of(work: &[u32], e: EntryIndex) -> Option<usize>
     (work[work_layout::TOPS + e.0 as usize] as usize).checked_sub(1)
 }
 
-// The node whose bits path i has.
+// The node whose bits path i has. A number of a path stays a usize, here and below: each turn makes the next one of it, and a type with its bound would be made
+// anew there with the same proof.
 pub fn node_of(work: &[u32], i: usize) -> u32
     requires { (WORK ≤ length work.now) × (i < MOST_PATHS) }
     ensures { result ≡ node_at work.now i }

@@ -1,5 +1,5 @@
 // What lies where in work, 524,288 words: the offset of each region. The sizes stand in specs/Layout.antt, with the proof that no two
-// regions meet.
+// regions meet. Numbers in lent words are what the tree cache, its chains and its lists are made of: there is no heap, for maps or boxes.
 #![tactic(auto)]
 
 pub mod halves;
@@ -111,7 +111,8 @@ pub const COPIES: usize = 214155;
 // Not used, to the end of work: 46,421 words.
 pub const FREE: usize = 477867;
 
-// An entry of the tree cache, by its number. A handle (NodePtr) and an entry number never stand for each other.
+// An entry of the tree cache, by its number. A handle (NodePtr) and an entry number never stand for each other. That there is such an entry is asked
+// where it is needed, and is no invariant of the type: `found_by` and `Parent::entry` give an entry for any word, and `length_at` answers for one that isn't there.
 #[derive(Clone, Copy, Debug, PartialEq, Eq)]
 pub struct EntryIndex(pub u32);
 

@@ -78,7 +78,7 @@ pub fn set_links(work: &mut [u32], e: EntryIndex, c: usize, v: u32)
     work[PARENTS + c * ENTRIES + e.0 as usize] = v;
 }
 
-// The first words of the parents of the first n entries stand from `to` on too.
+// The first words of the parents of the first n entries stand from `to` on too. This and the next are one line each, the copy one way and the other.
 pub fn save_first_links(work: &mut [u32], n: usize, to: usize)
     requires { (WORK ≤ length work.old) × (n ≤ ENTRIES) × (SEEN ≤ to) × (to + n ≤ WORK) }
     ensures { work.new ≡ paste work.old to (drop PARENTS work.old) n }
@@ -94,7 +94,7 @@ pub fn bring_first_links(work: &mut [u32], n: usize, from: usize)
     slices::copy_within(work, from, PARENTS, n);
 }
 
-// Parent i of those that an update moves.
+// Parent i of those that an update moves. This and the next stay beside `parent_at` and `set_parent`, which docs/AUDIT.md names: one line each, at another place.
 pub fn moved_at(work: &[u32], i: usize) -> Parent
     requires { (WORK ≤ length work.now) × (i < MAX_PARENTS) }
     ensures { result.0 ≡ moved_at work.now i }
