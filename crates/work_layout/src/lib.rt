@@ -112,7 +112,7 @@ pub const COPIES: usize = 214155;
 pub const FREE: usize = 477867;
 
 // An entry of the tree cache, by its number. A handle (NodePtr) and an entry number never stand for each other. That there is such an entry is asked
-// where it is needed, and is no invariant of the type: `found_by` and `Parent::entry` give an entry for any word, and `length_at` answers for one that isn't there.
+// where it is needed, and is no invariant of the type: `found_by` and `Parent::entry` give one for any word, and `length_at` answers for one that isn't there.
 #[derive(Clone, Copy, Debug, PartialEq, Eq)]
 pub struct EntryIndex(pub u32);
 

@@ -94,7 +94,7 @@ pub fn bring_first_links(work: &mut [u32], n: usize, from: usize)
     slices::copy_within(work, from, PARENTS, n);
 }
 
-// Parent i of those that an update moves. This and the next stay beside `parent_at` and `set_parent`, which docs/AUDIT.md names: one line each, at another place.
+// Parent i of those that an update moves. This and the next stay beside `parent_at` and `set_parent`, named in docs/AUDIT.md: a line each, elsewhere in work.
 pub fn moved_at(work: &[u32], i: usize) -> Parent
     requires { (WORK ≤ length work.now) × (i < MAX_PARENTS) }
     ensures { result.0 ≡ moved_at work.now i }
