@@ -23,61 +23,56 @@ use Rattle.cache_entries.specs.lookup.Effects.{PairEntry, EntryOf}
 use Rattle.search_find.specs.Effects.{LengthOf, Ready, FindsIn}
 use Rattle.write_place.specs.declared.Place.{Place}
 use Rattle.write_loop.specs.declared.write_turn.Next.{Next}
-use Rattle.write_loop.specs.declared.write_turn.Next.TheVariants.{Parse, Close, Done, Stopped}
+use Rattle.write_loop.specs.declared.write_turn.Next.TheVariants.{Parse, Close, Ended}
 use Rattle.write_place.specs.declared.AddError.{AddError}
 use Rattle.write_place.specs.declared.AddError.TheVariants as add_error
-use Rattle.write_place.specs.declared.Refused.{Refused}
 use Rattle.write_place.specs.Numbers.{question_of}
-use Rattle.write_place.specs.declared.Outcome.{Outcome}
 use Rattle.write_place.specs.declared.Outcome.TheVariants as outcome
 use Rattle.write_place.specs.State.{AtomsThere, todo_of, Running, Writes, WriterOnly}
 
--- ---- what comes next, or that the add is refused
+-- ---- what comes next
 
-abbrev pub Turned : Type 0
-Turned = Result Next Refused
-
-abbrev pub place_of : Turned → Place
-place_of (Ok (Parse p h)) = p
-place_of (Ok (Close p)) = p
-place_of (Ok (Done p)) = p
-place_of (Ok (Stopped p)) = p
-place_of (Err r) = r.place
+abbrev pub place_of : Next → Place
+place_of (Parse p h) = p
+place_of (Close p) = p
+place_of (Ended (Ok (outcome.Done p))) = p
+place_of (Ended (Ok (outcome.Stopped p))) = p
+place_of (Ended (Err r)) = r.place
 
 -- The words are sound at a place.
 abbrev pub Runs : (w out : List ℕ) → Place → (values : ℕ) → Type 0
 Runs w out p v = Running w out p.opens p.depth p.counts v
 
 -- A node comes next, or a value was written and is on the stack. At the end no pair is open.
-abbrev pub Fine : (w out : List ℕ) → Turned → Type 0
-Fine w out (Ok (Parse p h)) = Runs w out p 0 × Names w (at w PAIR_COUNT) h.0
-Fine w out (Ok (Close p)) = Runs w out p 1
-Fine w out (Ok (Done p)) = Runs w out p 1 × (p.opens ≡ 0)
-Fine w out (Ok (Stopped p)) = Runs w out p 0
-Fine w out (Err r) = Runs w out r.place 0
+abbrev pub Fine : (w out : List ℕ) → Next → Type 0
+Fine w out (Parse p h) = Runs w out p 0 × Names w (at w PAIR_COUNT) h.0
+Fine w out (Close p) = Runs w out p 1
+Fine w out (Ended (Ok (outcome.Done p))) = Runs w out p 1 × (p.opens ≡ 0)
+Fine w out (Ended (Ok (outcome.Stopped p))) = Runs w out p 0
+Fine w out (Ended (Err r)) = Runs w out r.place 0
 
 -- All that is left to write, in the definitions, with this measure of a path and an output of so many bytes.
 abbrev pub goes_on : Measure → Cache → (space : ℕ) → List Todo → Written → session.Outcome
 goes_on m c space k s = resume (find_in (measure_of m)) (room_in space) c k s
 
 -- What the definitions make of what comes next.
-abbrev pub comes_to : Measure → File → Cache → (space : ℕ) → List ℕ → Turned → Written → session.Outcome
-comes_to m f c space w (Ok (Parse p h)) s = goes_on m c space (parse (unfolded f h.0) ∷ todo_of f w p.opens) s
-comes_to m f c space w (Ok (Close p)) s = goes_on m c space (todo_of f w p.opens) s
-comes_to m f c space w (Ok (Done p)) s = session.done s
-comes_to m f c space w (Ok (Stopped p)) s = session.stopped (todo_of f w p.opens) s
-comes_to m f c space w (Err r) s = session.refused (question_of r.error) s
+abbrev pub comes_to : Measure → File → Cache → (space : ℕ) → List ℕ → Next → Written → session.Outcome
+comes_to m f c space w (Parse p h) s = goes_on m c space (parse (unfolded f h.0) ∷ todo_of f w p.opens) s
+comes_to m f c space w (Close p) s = goes_on m c space (todo_of f w p.opens) s
+comes_to m f c space w (Ended (Ok (outcome.Done p))) s = session.done s
+comes_to m f c space w (Ended (Ok (outcome.Stopped p))) s = session.stopped (todo_of f w p.opens) s
+comes_to m f c space w (Ended (Err r)) s = session.refused (question_of r.error) s
 
 -- ---- turns
 
 -- What is written is now this, and the outcome is that of what comes next.
-pub record Leads (m : Measure) (f : File) (c : Cache) (space : ℕ) (w out : List ℕ) (r : Turned) (o : session.Outcome) : Type 0 where
+pub record Leads (m : Measure) (f : File) (c : Cache) (space : ℕ) (w out : List ℕ) (r : Next) (o : session.Outcome) : Type 0 where
   pub last : Written
   pub writes : Writes f w out (place_of r).depth (place_of r).counts c last
   pub same : o ≡ comes_to m f c space w r last
 
 -- From b on, r comes next, by the measure m.
-pub record Turns (m : Measure) (file w w' out out' : List ℕ) (b r : Turned) : Type 0 where
+pub record Turns (m : Measure) (file w w' out out' : List ℕ) (b r : Next) : Type 0 where
   pub fine : Fine w' out' r
   pub only : WriterOnly w w'
   pub grows : (place_of b).counts.size ≤ (place_of r).counts.size
@@ -87,14 +82,12 @@ pub record Turns (m : Measure) (file w w' out out' : List ℕ) (b r : Turned) : 
       → Leads m f c (length out) w' out' r (comes_to m f c (length out) w b s)
 
 -- How far the loop is from its end: a byte at least is written for each node, and 4,096 pairs at most are closed after it.
-abbrev pub ahead : (space : ℕ) → Turned → ℕ
-ahead space (Ok (Parse p h)) = (space - p.counts.size) * 4098 + 1
-ahead space (Ok (Close p)) = (space - p.counts.size) * 4098 + p.opens + 2
-ahead space (Ok (Done p)) = 0
-ahead space (Ok (Stopped p)) = 0
-ahead space (Err r) = 0
+abbrev pub ahead : (space : ℕ) → Next → ℕ
+ahead space (Parse p h) = (space - p.counts.size) * 4098 + 1
+ahead space (Close p) = (space - p.counts.size) * 4098 + p.opens + 2
+ahead space (Ended e) = 0
 
-abbrev pub Falls : (space : ℕ) → (b r : Turned) → Type 0
+abbrev pub Falls : (space : ℕ) → (b r : Next) → Type 0
 Falls space b r = ahead space r < ahead space b
 
 -- ---- an item
@@ -108,9 +101,9 @@ pub record Found (w out : List ℕ) (p : Place) (h e : ℕ) (path : Option ℕ) 
   pub ready : Ready w path
 
 -- From there on, r comes next, by whichever measure the path was looked for.
-abbrev pub TurnsFound : (file w w' out out' : List ℕ) (p : Place) (node : NodePtr) (e : ℕ) (path : Option ℕ) → Turned → Type 0
+abbrev pub TurnsFound : (file w w' out out' : List ℕ) (p : Place) (node : NodePtr) (e : ℕ) (path : Option ℕ) → Next → Type 0
 TurnsFound file w w' out out' p node e path r =
-    ((m : Measure) → FindsIn m w w p.depth node.0 e path → Turns m file w w' out out' (Ok (Parse p node)) r) × Falls (length out) (Ok (Parse p node)) r
+    ((m : Measure) → FindsIn m w w p.depth node.0 e path → Turns m file w w' out out' (Parse p node) r) × Falls (length out) (Parse p node) r
 
 -- The bytes of the atom h were put into the output.
 pub record AtomPut (file w : List ℕ) (h : ℕ) (out out' : List ℕ) (counts : Counts) (r : Result Counts OutputFull) : Type 0 where
@@ -126,17 +119,12 @@ pub record Stacks (w w' : List ℕ) (d e : ℕ) : Type 0 where
   pub pushed : PushedMarked w w' d e len
 
 -- The add is refused at this place.
-abbrev pub refused_at : Place → AddError → Turned
-refused_at p x = Err (record { error = x; place = p })
-
--- The counts with an item, or question 13 for an item that does not fit.
-abbrev pub counted_at : Place → Result Counts OutputFull → Result Counts Refused
-counted_at p (Ok n) = Ok n
-counted_at p (Err x) = Err (record { error = add_error.OutputFull; place = p })
+abbrev pub refused_at : Place → AddError → Next
+refused_at p x = Ended (Err (record { error = x; place = p }))
 
 -- After an item for a whole subtree of entry e: the entry goes on the stack, or question 13 gets no.
-abbrev pub Pushes : (w w' : List ℕ) → Place → (e : ℕ) → Result Counts OutputFull → Turned → Type 0
-Pushes w w' p e (Ok n) r = (r ≡ Ok (Close (record { opens = p.opens; depth = p.depth + 1; counts = n }))) × Stacks w w' p.depth e
+abbrev pub Pushes : (w w' : List ℕ) → Place → (e : ℕ) → Result Counts OutputFull → Next → Type 0
+Pushes w w' p e (Ok n) r = (r ≡ Close (record { opens = p.opens; depth = p.depth + 1; counts = n })) × Stacks w w' p.depth e
 Pushes w w' p e (Err x) r = (r ≡ refused_at p add_error.OutputFull) × (w' ≡ w)
 
 -- The two topmost entries go, and that of pair i comes.
@@ -147,10 +135,3 @@ pub record Closes (w w' : List ℕ) (d i : ℕ) : Type 0 where
   pub entry : ℕ
   pub entry_is : PairEntry middle i entry
   pub stacks : Stacks middle w' (d - 2) entry
-
--- ---- the end of the loop
-
-abbrev pub ended : Result Outcome Refused → Turned
-ended (Ok (outcome.Done p)) = Ok (Done p)
-ended (Ok (outcome.Stopped p)) = Ok (Stopped p)
-ended (Err r) = Err r

@@ -13,14 +13,14 @@ ghost use Rattle.write_item.specs.Answers.{ItemPut};
 ghost use Rattle.cache_entries.specs.Meaning.{Names, Whole};
 ghost use Rattle.work_layout.specs.Rows.{atom_bytes};
 ghost use Rattle.write_place.specs.State.{AtomPlaces};
-ghost use Rattle.write_loop.specs.Effects.{TurnsFound, Found, AtomPut, Pushes, counted_at};
+ghost use Rattle.write_loop.specs.Effects.{TurnsFound, Found, AtomPut, Pushes, refused_at};
 
 use allocator::NodePtr;
 use file_tables::listed_atoms;
 use work_layout::EntryIndex;
 use write_counts::Counts;
 use write_item::{OutputFull, write_reference};
-use write_place::{AddError, Place, Refused};
+use write_place::{AddError, Outcome, Place, Refused};
 
 // What comes next in the loop.
 #[derive(Clone, Copy, Debug, PartialEq, Eq)]
@@ -29,8 +29,15 @@ pub enum Next {
     Parse(Place, NodePtr),
     // A value was written: the pair that it completes is closed.
     Close(Place),
-    Done(Place),
-    Stopped(Place),
+    // The loop ends. A refusal stands here, and not in a `Result` of this enum: sessions of many turns took 5 % longer with that.
+    Ended(Result<Outcome, Refused>),
+}
+
+// The question gets no at this place.
+fn refused(place: Place, error: AddError) -> Next
+    ensures { result ≡ refused_at place error }
+{
+    Next::Ended(Err(Refused { error, place }))
 }
 
 // Listed atom i, from where it lies in the file.
@@ -71,34 +78,26 @@ pub fn write_atom(
     write_item::write_small(output, counts, node.index())
 }
 
-// What is counted with an item; an add is refused for one that does not fit.
-fn counted(place: Place, item: Result<Counts, OutputFull>) -> Result<Counts, Refused>
-    ensures { result ≡ counted_at place item }
-{
-    item.map_err(|_| Refused {
-        error: AddError::OutputFull,
-        place,
-    })
-}
-
 // After an item for a whole subtree of entry e: the entry goes on the stack.
 pub fn push_value(
     work: &mut [u32],
     place: Place,
     e: EntryIndex,
     item: Result<Counts, OutputFull>,
-) -> Result<Next, Refused>
+) -> Next
     requires { (Whole work.old) × (Stacked work.old place.depth) × (place.depth < DEPTH) × (e.0 < ENTRIES) }
     ensures { Pushes work.old work.new place e.0 item result }
 {
-    let counts = counted(place, item)?;
+    let Ok(counts) = item else {
+        return refused(place, AddError::OutputFull);
+    };
     let len = search_find::length_at(work, e);
     cache_stack::push_marked(work, place.depth, e, len);
-    Ok(Next::Close(Place {
+    Next::Close(Place {
         depth: place.depth + 1,
         counts,
         ..place
-    }))
+    })
 }
 
 // A reference to the path at a slot.
@@ -109,7 +108,7 @@ pub fn refer(
     node: NodePtr,
     e: EntryIndex,
     slot: usize,
-) -> Result<Next, Refused>
+) -> Next
     requires { Found work.old output.old place node.0 e.0 (Some slot) }
     ensures { (file : List ℕ)
         → TurnsFound file work.old work.new output.old output.new place node

@@ -24,7 +24,8 @@ use Rattle.cache_stack.proofs.marks.Bits.{marked_same}
 use Rattle.cache_entries.specs.Meaning.{Tables, Names, Holds, Whole}
 use Rattle.cache_entries.proofs.Entering.{names_grow}
 use Rattle.write_place.specs.declared.Place.{Place}
-use Rattle.write_loop.specs.declared.write_turn.Next.TheVariants.{Parse, Close, Done}
+use Rattle.write_loop.specs.declared.write_turn.Next.TheVariants.{Parse, Close, Ended}
+use Rattle.write_place.specs.declared.Outcome.TheVariants as outcome
 use Rattle.write_place.specs.State.{left_to_write, todo_of, rights_left, Standing, Writes, WriterOnly}
 use Rattle.write_loop.specs.Effects.{Runs, goes_on, Turns, Falls, Closes}
 use Rattle.write_loop.proofs.write_turn.Frames.{only_same, whole_stays, holds_stay, tables_stay, pairs_stay, names_stay, rights_few, rights_more}
@@ -35,7 +36,7 @@ use Rattle.write_loop.proofs.write_turn.Values.{push_beside, push_marks}
 -- ---- no pair is open
 
 pub done_turns : (w : List ℕ) (p : Place) → p.opens ≡ 0 → (m : Measure) (file out : List ℕ) → Runs w out p 1
-    → (Turns m file w w out out (Ok (Close p)) (Ok (Done p))) × Falls (length out) (Ok (Close p)) (Ok (Done p))
+    → (Turns m file w w out out (Close p) (Ended (Ok (outcome.Done p)))) × Falls (length out) (Close p) (Ended (Ok (outcome.Done p)))
 done_turns w p q m file out run = (
   record {
     fine = (run, q);
@@ -119,7 +120,7 @@ module _ (w : List ℕ) (p : Place) (st : Standing w p.opens p.depth 1) (n : ℕ
         (subst (λ (x : ℕ). Names w (v / 2) x) (sym there) (wh.handles.rights (v / 2) innermost_low)))
 
     pub right_turns : (m : Measure) (file out : List ℕ) → Runs w out p 1
-        → (Turns m file w (set w (OPEN + n) (at w (OPEN + n) - 1)) out out (Ok (Close p)) (Ok (Parse p right))) × Falls (length out) (Ok (Close p)) (Ok (Parse p right))
+        → (Turns m file w (set w (OPEN + n) (at w (OPEN + n) - 1)) out out (Close p) (Parse p right)) × Falls (length out) (Close p) (Parse p right)
     unfolding w' v
     right_turns m file out run = (
       record {
@@ -227,8 +228,8 @@ module _ (w : List ℕ) (p : Place) (st : Standing w p.opens p.depth 1) (n : ℕ
           ∙ ap (λ (j : List Todo). goes_on m c (length out) j (closed c s)) (sym (todo_stays w w' both n p.depth 2 outer_two f))
 
       pub close_turns : (m : Measure) (file out : List ℕ) → Runs w out p 1
-          → (Turns m file w w' out out (Ok (Close p)) (Ok (Close (record { opens = n; depth = p.depth - 1; counts = p.counts }))))
-          × Falls (length out) (Ok (Close p)) (Ok (Close (record { opens = n; depth = p.depth - 1; counts = p.counts })))
+          → (Turns m file w w' out out (Close p) (Close (record { opens = n; depth = p.depth - 1; counts = p.counts })))
+          × Falls (length out) (Close p) (Close (record { opens = n; depth = p.depth - 1; counts = p.counts }))
       close_turns m file out run = (
         record {
           fine = record { stands = close_standing; fits = run.fits; bounded = run.bounded; short = run.short };
@@ -257,10 +258,10 @@ module _ {w : List ℕ} (p : Place) {v : ℕ} (stands : Standing w p.opens p.dep
   pair_low = rw number_is at (innermost_low w p stands (p.opens - 1) more)
 
   pub goes_right : v % 2 ≡ 1 → (right : NodePtr) → right.0 ≡ at w (PAIRS + 2 * (v / 2) + 1) → (m : Measure) (file out : List ℕ) → Runs w out p 1
-      → (Turns m file w (set w (OPEN + (p.opens - 1)) (v - 1)) out out (Ok (Close p)) (Ok (Parse p right))) × Falls (length out) (Ok (Close p)) (Ok (Parse p right))
+      → (Turns m file w (set w (OPEN + (p.opens - 1)) (v - 1)) out out (Close p) (Parse p right)) × Falls (length out) (Close p) (Parse p right)
   goes_right odd right there m file out run =
       let n = p.opens - 1 in
-      subst (λ (x : ℕ). (Turns m file w (set w (OPEN + n) (x - 1)) out out (Ok (Close p)) (Ok (Parse p right))) × Falls (length out) (Ok (Close p)) (Ok (Parse p right))) (sym word)
+      subst (λ (x : ℕ). (Turns m file w (set w (OPEN + n) (x - 1)) out out (Close p) (Parse p right)) × Falls (length out) (Close p) (Parse p right)) (sym word)
       (right_turns w p stands n more (ap (λ (x : ℕ). x % 2) (sym word) ∙ odd) right
       (there ∙ ap (λ (x : ℕ). at w (PAIRS + 2 * x + 1)) (sym number_is)) m file out run)
 
@@ -272,8 +273,8 @@ module _ {w : List ℕ} (p : Place) {v : ℕ} (stands : Standing w p.opens p.dep
     values_there = two_there w p stands (p.opens - 1) more not_odd
 
     pub closes_one : {w' : List ℕ} → length w' ≡ length w → Closes w w' p.depth (v / 2) → (m : Measure) (file out : List ℕ) → Runs w out p 1
-        → (Turns m file w w' out out (Ok (Close p)) (Ok (Close (record { opens = p.opens - 1; depth = p.depth - 1; counts = p.counts }))))
-        × Falls (length out) (Ok (Close p)) (Ok (Close (record { opens = p.opens - 1; depth = p.depth - 1; counts = p.counts })))
+        → (Turns m file w w' out out (Close p) (Close (record { opens = p.opens - 1; depth = p.depth - 1; counts = p.counts })))
+        × Falls (length out) (Close p) (Close (record { opens = p.opens - 1; depth = p.depth - 1; counts = p.counts }))
     closes_one {w'} len cl m file out run =
         close_turns w p stands (p.opens - 1) more not_odd w' len
         (subst (λ (x : ℕ). Closes w w' p.depth x) (sym number_is) cl) m file out run

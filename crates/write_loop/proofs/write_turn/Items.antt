@@ -15,12 +15,7 @@ use Rattle.spec_session.specs.Steps.{too_deep, room_in}
 use Rattle.write_counts.specs.declared.Counts.{Counts}
 use Rattle.write_counts.specs.Counts.{counts_of, with_item, Bounded}
 use Rattle.write_counts.specs.CountLaws.{counts_more, bounded_more}
-use Rattle.std.specs.Prelude.{Result, Ok, Err}
-use Rattle.write_item.specs.declared.OutputFull.{OutputFull}
-use Rattle.write_place.specs.declared.AddError.TheVariants as add_error
-use Rattle.write_place.specs.declared.Place.{Place}
-use Rattle.write_place.specs.declared.Refused.{Refused}
-use Rattle.write_loop.specs.Effects.{counted_at}
+use Rattle.std.specs.Prelude.{Ok}
 use Rattle.write_item.specs.Answers.{ItemPut}
 use Rattle.write_item.proofs.Counting.{PutNext, put_next}
 use Rattle.write_place.specs.State.{Standing, Running}
@@ -64,17 +59,6 @@ module _ {out out' : List ℕ} {c : Counts} {i : Item} {m : Counts} (a : ItemPut
 
     pub bytes_written : take c.size out ≡ output items → take m.size out' ≡ output (items ++ i ∷ [])
     bytes_written e = taken_all ∙ ap (λ (x : List ℕ). x ++ item_bytes i) e ∙ sym (output_more items i)
-
--- ---- what is counted with an item that fits, and why an add is refused for one that does not
-
-pub counted_ok : (p : Place) (r : Result Counts OutputFull) (n : Counts) → counted_at p r ≡ Ok n → r ≡ Ok n
-counted_ok p (Ok m) n e = cc
-counted_ok p (Err x) n e = cc
-
-pub counted_err : (p : Place) (r : Result Counts OutputFull) (d : Refused) → counted_at p r ≡ Err d
-    → (r ≡ Err (record {})) × (d ≡ record { error = add_error.OutputFull; place = p })
-counted_err p (Ok m) d e = absurd cc
-counted_err p (Err x) d e = (refl, cc)
 
 -- ---- the questions: 12 is asked of a pair's mark alone
 

@@ -91,7 +91,7 @@ module _ {w out : List ℕ} {p : Place} (h : NodePtr) {e : ℕ} (fo : Found w ou
 
   refused : (file : List ℕ) (x : AddError) (n : ℕ) → question_of x ≡ suc n → ((f : File) (c : Cache) (s : Written) → Writes f w out p.depth p.counts c s
       → room_in (length out) (todo_of f w p.opens) s.items cons_item ≡ suc n)
-      → (m : Measure) → FindsIn m w w p.depth h.0 e None → Turns m file w w out out (Ok (Parse p h)) (refused_at p x)
+      → (m : Measure) → FindsIn m w w p.depth h.0 e None → Turns m file w w out out (Parse p h) (refused_at p x)
   refused file x n q room m finds =
       record {
         fine = fo.running;
@@ -124,7 +124,7 @@ module _ {w out : List ℕ} {p : Place} (h : NodePtr) {e : ℕ} (fo : Found w ou
     lacks_turns a file =
         let n = put_none out out' p.counts.size (item_bytes cons_item) a.bytes in (
           λ m finds.
-              subst (λ (x : List ℕ). Turns m file w w out x (Ok (Parse p h)) (refused_at p add_error.OutputFull)) (sym n.1)
+              subst (λ (x : List ℕ). Turns m file w w out x (Parse p h) (refused_at p add_error.OutputFull)) (sym n.1)
               (refused file add_error.OutputFull 12 refl (λ f c s wr. room_gone (length out) (todo_of f w p.opens) s.items cons_item (not_deep f) (omega (arith, n.0, size_written wr))) m finds),
           omega arith,
         )
@@ -200,7 +200,7 @@ module _ {w out : List ℕ} {p : Place} (h : NodePtr) {e : ℕ} (fo : Found w ou
           (names_grow w (index_of (node_of h.0)) (at w PAIR_COUNT) l.0 (omega (arith, number_low))
           (subst (λ (x : ℕ). Names w (index_of (node_of h.0)) x) (sym left) (wh.handles.lefts (index_of (node_of h.0)) number_low)))
 
-      opened_turns : (file : List ℕ) (m : Measure) → FindsIn m w w p.depth h.0 e None → Turns m file w w' out out' (Ok (Parse p h)) (Ok (Parse after l))
+      opened_turns : (file : List ℕ) (m : Measure) → FindsIn m w w p.depth h.0 e None → Turns m file w w' out out' (Parse p h) (Parse after l)
       unfolding after w'
       opened_turns file m finds =
           record {
@@ -211,13 +211,13 @@ module _ {w out : List ℕ} {p : Place} (h : NodePtr) {e : ℕ} (fo : Found w ou
             leads = λ f c s t th wr. record { last = with_mark s; writes = opened_writes f c s t wr; same = opened_same m finds f c s t wr };
           }
 
-      opened_falls : Falls (length out) (Ok (Parse p h)) (Ok (Parse after l))
+      opened_falls : Falls (length out) (Parse p h) (Parse after l)
       unfolding after
       opened_falls = omega (arith, (put_there a).end, (put_there a).fits)
 
     -- The `ff` is written, and the pair's word stored, at a number x that is the pair's.
     pub opens_turns : (n : Counts) (x : ℕ) (l : NodePtr) → x ≡ index_of (node_of h.0) → l.0 ≡ at w (PAIRS + 2 * index_of (node_of h.0))
         → ItemPut out out' p.counts cons_item (Ok n) → (file : List ℕ)
-        → TurnsFound file w (set w (OPEN + p.opens) (x * 2 + 1)) out out' p h e None (Ok (Parse (record { opens = p.opens + 1; depth = p.depth; counts = n }) l))
+        → TurnsFound file w (set w (OPEN + p.opens) (x * 2 + 1)) out out' p h e None (Parse (record { opens = p.opens + 1; depth = p.depth; counts = n }) l)
     unfolding w' after number
     opens_turns n x l q left a file = rw q (opened_turns n l left a file, opened_falls n l left a)

@@ -29,14 +29,16 @@ use Rattle.cache_entries.proofs.Entering.{sentinel_is}
 use Rattle.cache_entries.specs.lookup.Effects.{EntryOf}
 use Rattle.search_find.specs.Effects.{Ready, FindsIn}
 use Rattle.write_place.specs.declared.Place.{Place}
-use Rattle.write_loop.specs.declared.write_turn.Next.TheVariants.{Parse, Stopped}
+use Rattle.write_loop.specs.declared.write_turn.Next.{Next}
+use Rattle.write_loop.specs.declared.write_turn.Next.TheVariants.{Parse, Ended}
+use Rattle.write_place.specs.declared.Outcome.TheVariants as outcome
 use Rattle.write_place.specs.State.{AtomPlaces, AtomsThere, todo_of, Writes, WriterOnly}
-use Rattle.write_loop.specs.Effects.{Turned, place_of, Runs, Fine, goes_on, comes_to, Leads, Turns, Found}
+use Rattle.write_loop.specs.Effects.{place_of, Runs, Fine, goes_on, comes_to, Leads, Turns, Found}
 use Rattle.write_loop.proofs.write_turn.Frames.{only_both, only_same, holds_stay, tables_stay, pairs_stay, names_stay, places_stay, atoms_stay, Beside, beside_only, todo_stays, standing_stays}
 
 -- ---- one after the other
 
-module _ {m : Measure} {file w w₁ w₂ out out₁ out₂ : List ℕ} {a b r : Turned} (wh : Whole w) (lw : length w₁ ≡ length w) (lo : length out₁ ≡ length out)
+module _ {m : Measure} {file w w₁ w₂ out out₁ out₂ : List ℕ} {a b r : Next} (wh : Whole w) (lw : length w₁ ≡ length w) (lo : length out₁ ≡ length out)
     (x : Turns m file w w₁ out out₁ a b) (y : Turns m file w₁ w₂ out₁ out₂ b r) where
   then_leads : (f : File) (c : Cache) (s : Written) → Tables f w → AtomsThere file f w → Writes f w out (place_of a).depth (place_of a).counts c s
       → Leads m f c (length out) w₂ out₂ r (comes_to m f c (length out) w a s)
@@ -60,7 +62,7 @@ module _ {m : Measure} {file w w₁ w₂ out out₁ out₂ : List ℕ} {a b r : 
         leads = then_leads;
       }
 
-pub turns_none : (m : Measure) (file w out : List ℕ) (b : Turned) → Fine w out b → Turns m file w w out out b b
+pub turns_none : (m : Measure) (file w out : List ℕ) (b : Next) → Fine w out b → Turns m file w w out out b b
 turns_none m file w out b g =
     record {
       fine = g;
@@ -73,7 +75,7 @@ turns_none m file w out b g =
 -- ---- the open place
 
 pub turns_stop : {m : Measure} {file w out : List ℕ} (p : Place) (h : NodePtr) → Runs w out p 0 → Names w (at w PAIR_COUNT) h.0 → at w SENTINEL ≡ h.0
-    → Turns m file w w out out (Ok (Parse p h)) (Ok (Stopped p))
+    → Turns m file w w out out (Parse p h) (Ended (Ok (outcome.Stopped p)))
 turns_stop {m} {file} {w} {out} p h run n q =
     record {
       fine = run;
@@ -138,7 +140,7 @@ module _ {w w₁ : List ℕ} (len : length w₁ ≡ length w) (k : Kept w w₁) 
           names_stay w w₁ len search_only run.stands.whole (at w PAIR_COUNT) (at w₁ PAIR_COUNT) h.0
           (pairs_stay w w₁ len search_only run.stands.whole) n
 
-      turns_search : (m : Measure) (file : List ℕ) → Turns m file w w₁ out out (Ok (Parse p h)) (Ok (Parse p h))
+      turns_search : (m : Measure) (file : List ℕ) → Turns m file w w₁ out out (Parse p h) (Parse p h)
       turns_search m file =
           record {
             fine = (run_stays, names_there);
@@ -156,7 +158,7 @@ module _ {w w₁ : List ℕ} (len : length w₁ ≡ length w) (k : Kept w w₁) 
           }
 
       -- The search, and what is made of it.
-      pub after_search : {m : Measure} {file w₂ out₂ : List ℕ} {r : Turned} → Turns m file w₁ w₂ out out₂ (Ok (Parse p h)) r → Turns m file w w₂ out out₂ (Ok (Parse p h)) r
+      pub after_search : {m : Measure} {file w₂ out₂ : List ℕ} {r : Next} → Turns m file w₁ w₂ out out₂ (Parse p h) r → Turns m file w w₂ out out₂ (Parse p h) r
       after_search {m} {file} y = turns_then run.stands.whole len refl (turns_search m file) y
 
       back : (f : File) → Tables f w₁ → Tables f w

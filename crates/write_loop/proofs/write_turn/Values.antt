@@ -40,10 +40,11 @@ use Rattle.cache_entries.proofs.Entering.{names_pair, is_leaf, is_node}
 use Rattle.search_find.specs.Effects.{steps_of, FindsIn}
 use Rattle.write_place.specs.declared.Place.{Place}
 use Rattle.write_place.specs.declared.AddError.TheVariants as add_error
+use Rattle.write_loop.specs.declared.write_turn.Next.{Next}
 use Rattle.write_loop.specs.declared.write_turn.Next.TheVariants.{Parse, Close}
 use Rattle.write_place.specs.State.{AtomsThere, todo_of, Writes}
 use Rattle.write_place.proofs.Sizes.{size_written}
-use Rattle.write_loop.specs.Effects.{Turned, refused_at, Runs, goes_on, Turns, Falls, Found, TurnsFound, AtomPut, Stacks, Pushes}
+use Rattle.write_loop.specs.Effects.{refused_at, Runs, goes_on, Turns, Falls, Found, TurnsFound, AtomPut, Stacks, Pushes}
 use Rattle.write_loop.proofs.write_turn.Frames.{only_same, holds_stay, Beside, beside_only, todo_stays, standing_stays}
 use Rattle.write_loop.proofs.write_turn.Items.{put_there, taken_before, running_more, counts_written, bytes_written, WholeItem, whole_fits, whole_lacks}
 
@@ -111,7 +112,7 @@ module _ (file w w' out out' : List ℕ) (p : Place) (h : NodePtr) (e : ℕ) (i 
           (whole_fits (length out) k s.items i whole (omega (arith, (put_there a).fits, size_written wr)))
           ∙ ap (λ (j : List Todo). goes_on m c (length out) j (with_value c s)) (sym (todo_stays w w' beside p.opens p.depth 0 run.stands f))
 
-      value_turns : Turns m file w w' out out' (Ok (Parse p h)) (Ok (Close after))
+      value_turns : Turns m file w w' out out' (Parse p h) (Close after)
       unfolding after
       value_turns =
           record {
@@ -124,12 +125,12 @@ module _ (file w w' out out' : List ℕ) (p : Place) (h : NodePtr) (e : ℕ) (i 
             leads = λ f c s t th wr. record { last = with_value c s; writes = value_writes f c s t wr; same = value_same f c s t th wr };
           }
 
-    value_falls : Falls (length out) (Ok (Parse p h)) (Ok (Close after))
+    value_falls : Falls (length out) (Parse p h) (Close after)
     unfolding after
     value_falls = omega (arith, (put_there a).end, (put_there a).fits, run.stands.few_opens)
 
   lacks_turns : length out < p.counts.size + length (item_bytes i) → (m : Measure) → StandsFor m file w out p h.0 e i
-      → Turns m file w w out out (Ok (Parse p h)) (refused_at p add_error.OutputFull)
+      → Turns m file w w out out (Parse p h) (refused_at p add_error.OutputFull)
   lacks_turns q m stands =
       record {
         fine = run;
@@ -149,17 +150,17 @@ module _ (file w w' out out' : List ℕ) (p : Place) (h : NodePtr) (e : ℕ) (i 
       }
 
   pub value_after : {path : code.Option ℕ} → ((m : Measure) → FindsIn m w w p.depth h.0 e path → StandsFor m file w out p h.0 e i)
-      → (x : Result Counts OutputFull) (r : Turned) → ItemPut out out' p.counts i x → Pushes w w' p e x r → TurnsFound file w w' out out' p h e path r
+      → (x : Result Counts OutputFull) (r : Next) → ItemPut out out' p.counts i x → Pushes w w' p e x r → TurnsFound file w w' out out' p h e path r
   unfolding after
   value_after {path} stands (Ok n) r a q =
-      subst (λ (y : Turned). TurnsFound file w w' out out' p h e path y) (sym q.0)
+      subst (λ (y : Next). TurnsFound file w w' out out' p h e path y) (sym q.0)
       (λ m fi. value_turns n a q.1 m (stands m fi), value_falls n a q.1)
   value_after {path} stands (Err y) r a q =
       let n = put_none out out' p.counts.size (item_bytes i) a.bytes in
-      subst (λ (y : Turned). TurnsFound file w w' out out' p h e path y) (sym q.0) (
+      subst (λ (y : Next). TurnsFound file w w' out out' p h e path y) (sym q.0) (
         λ m fi.
-            subst (λ (x : List ℕ). Turns m file w x out out' (Ok (Parse p h)) (refused_at p add_error.OutputFull)) (sym q.1)
-            (subst (λ (x : List ℕ). Turns m file w w out x (Ok (Parse p h)) (refused_at p add_error.OutputFull)) (sym n.1) (lacks_turns n.0 m (stands m fi))),
+            subst (λ (x : List ℕ). Turns m file w x out out' (Parse p h) (refused_at p add_error.OutputFull)) (sym q.1)
+            (subst (λ (x : List ℕ). Turns m file w w out x (Parse p h) (refused_at p add_error.OutputFull)) (sym n.1) (lacks_turns n.0 m (stands m fi))),
         omega arith,
       )
 
@@ -228,7 +229,7 @@ module _ (file : List ℕ) {w out : List ℕ} {p : Place} {h e : ℕ} (fo : Foun
 
 -- ---- what `refer` and `write_full` leave
 
-module _ {w w' out out' : List ℕ} {p : Place} {h : NodePtr} {e : ℕ} (len : length w' ≡ length w) (x : Result Counts OutputFull) {r : Turned} (pu : Pushes w w' p e x r) where
+module _ {w w' out out' : List ℕ} {p : Place} {h : NodePtr} {e : ℕ} (len : length w' ≡ length w) (x : Result Counts OutputFull) {r : Next} (pu : Pushes w w' p e x r) where
   pub refer_turns : {slot : ℕ} → Found w out p h.0 e (Some slot)
       → ((path : List Bool) → path_at w slot ≡ path ++ true ∷ [] → ItemPut out out' p.counts (reference_item path) x)
       → (file : List ℕ) → TurnsFound file w w' out out' p h e (Some slot) r

@@ -12,7 +12,7 @@ ghost use Rattle.write_loop.specs.Effects.{Runs, Turns, Falls, Closes};
 use crate::write_turn::Next;
 use cache_entries::lookup;
 use cache_stack::stack_pop;
-use write_place::Place;
+use write_place::{Outcome, Place};
 
 // The two values of pair i, on top of `depth` entries, become one.
 fn close_pair(work: &mut [u32], depth: usize, i: usize)
@@ -37,12 +37,12 @@ fn innermost(work: &[u32], opens: usize) -> u32
 pub fn close_up(work: &mut [u32], place: Place) -> Next
     requires { Standing work.old place.opens place.depth 1 }
     ensures { (m : Measure) (file out : List ℕ) → Runs work.old out place 1
-        → (Turns m file work.old work.new out out (Ok (Close place)) (Ok result)) ×
-        (Falls (length out) (Ok (Close place)) (Ok result)) }
+        → (Turns m file work.old work.new out out (Close place) result) ×
+        (Falls (length out) (Close place) result) }
 {
     let opens = place.opens;
     if opens == 0 {
-        return Next::Done(place);
+        return Next::Ended(Ok(Outcome::Done(place)));
     }
     let v = innermost(work, opens);
     let i = (v / 2) as usize;

@@ -6,7 +6,7 @@ ghost use Rattle.write_loop.specs.Effects.{TurnsFound, Found};
 use crate::write_turn::{self, Next};
 use allocator::NodePtr;
 use work_layout::EntryIndex;
-use write_place::{AddError, Place, Refused};
+use write_place::{AddError, Place};
 
 // The most pairs that may be open: question 12.
 const MAX_OPEN: usize = 4096;
@@ -18,7 +18,7 @@ pub fn open_pair(
     place: Place,
     node: NodePtr,
     e: EntryIndex,
-) -> Result<Next, Refused>
+) -> Next
     requires { (Found work.old output.old place node.0 e.0 None) × (is_pair (node_of node.0) ≡ true) }
     ensures { (file : List ℕ)
         → TurnsFound file work.old work.new output.old output.new place node
@@ -26,12 +26,11 @@ pub fn open_pair(
 {
     let opens = place.opens;
     if opens >= MAX_OPEN {
-        return Err(Refused {
-            error: AddError::TooManyOpen,
-            place,
-        });
+        return write_turn::refused(place, AddError::TooManyOpen);
     }
-    let counts = write_turn::counted(place, write_item::write_cons(output, place.counts))?;
+    let Ok(counts) = write_item::write_cons(output, place.counts) else {
+        return write_turn::refused(place, AddError::OutputFull);
+    };
     let left = cache_entries::left_of(work, node.index() as usize);
     work[work_layout::OPEN + opens] = node.index() * 2 + 1;
     let opened = Place {
@@ -39,5 +38,5 @@ pub fn open_pair(
         counts,
         ..place
     };
-    Ok(Next::Parse(opened, left))
+    Next::Parse(opened, left)
 }
