@@ -37,7 +37,7 @@ use Rattle.cache_entries.specs.Meaning.{Tables, Names, Whole, Holds, entry_or_no
 use Rattle.cache_entries.specs.Effects.{Updated}
 use Rattle.write_place.specs.State.{AtomPlaces, AtomsThere, todo_of, Running, Writes}
 use Rattle.write_loop.specs.declared.write_turn.Next.TheVariants as next_turn
-use Rattle.write_loop.specs.Effects.{place_of, Fine, goes_on, comes_to, Leads, Turns}
+use Rattle.write_loop.specs.Effects.{place_of, Fine, goes_on, comes_to, Leads, Turns, ended}
 use Rattle.write_loop.proofs.write_turn.Frames.{todo_same, rights_same, pairs_few}
 use Rattle.write_place.specs.declared.Place.{Place}
 use Rattle.write_place.specs.declared.Outcome.{Outcome}
@@ -222,10 +222,10 @@ module _ {measure : Measure} {input : List ℕ} {f : File} {w words : List ℕ} 
   atoms₂ = atoms_kept w w₂ (low₂ ad a.saved_long a.saved a.updated) few_atoms input f u.stocked.tables u.stocked.atoms_there
 
   -- What was written, by the measure of the run.
-  resumed : Turns measure input w₂ w' out out' (next_turn.Parse (place_at p) node) (next_turn.Ended a.outcome)
-  resumed = subst (λ (x : Measure). Turns x input w₂ w' out out' (next_turn.Parse (place_at p) node) (next_turn.Ended a.outcome)) u.measure_is a.resumed
+  resumed : Turns measure input w₂ w' out out' (next_turn.Parse (place_at p) node) (ended a.outcome)
+  resumed = subst (λ (x : Measure). Turns x input w₂ w' out out' (next_turn.Parse (place_at p) node) (ended a.outcome)) u.measure_is a.resumed
 
-  meant : Leads measure f c₂ (length out) w' out' (next_turn.Ended a.outcome) (goes_on measure c₂ (length out) (writer.parse (unfolded f h) ∷ todo_of f w₂ p.opens) s.written)
+  meant : Leads measure f c₂ (length out) w' out' (ended a.outcome) (goes_on measure c₂ (length out) (writer.parse (unfolded f h) ∷ todo_of f w₂ p.opens) s.written)
   meant =
       resumed.leads f c₂ s.written tables₂ atoms₂
       (writes₂ ad a.saved_long a.saved a.updated f s.cache s.written u.stocked.tables u.present.writes)
@@ -294,7 +294,7 @@ module _ {measure : Measure} {input : List ℕ} {f : File} {w words : List ℕ} 
 
   -- What the definitions' add comes to.
   abbrev outcome_of : Result Outcome Refused → writer.Added
-  outcome_of o = settle s c₂ (comes_to measure f c₂ (length out) w' (next_turn.Ended o) meant.last)
+  outcome_of o = settle s c₂ (comes_to measure f c₂ (length out) w' (ended o) meant.last)
 
   adds : add_handle (measure_of measure) (length out') f h s ≡ outcome_of a.outcome
   adds =
@@ -302,7 +302,7 @@ module _ {measure : Measure} {input : List ℕ} {f : File} {w words : List ℕ} 
       (add_settles measure (length out) f u.past s h (todo_of f w p.opens) _ waiting resumes)
     where
       resumes : writer.resume (find_in (measure_of measure)) (room_in (length out)) c₂ (writer.parse (unfolded f h) ∷ todo_of f w p.opens) s.written
-          ≡ comes_to measure f c₂ (length out) w' (next_turn.Ended a.outcome) meant.last
+          ≡ comes_to measure f c₂ (length out) w' (ended a.outcome) meant.last
       resumes =
           ap (λ (k : List Todo). writer.resume (find_in (measure_of measure)) (room_in (length out)) c₂ (writer.parse (unfolded f h) ∷ k) s.written)
           (sym (todo₂ ad a.saved_long a.saved a.updated f))
@@ -349,7 +349,7 @@ module _ {measure : Measure} {input : List ℕ} {f : File} {w words : List ℕ} 
   after k = record { cache = c₂; waiting = k; written = meant.last }
 
   abbrev WritesTo : Result Outcome Refused → Type 0
-  WritesTo o = Writes f w' out' (place_of (next_turn.Ended o)).depth (place_of (next_turn.Ended o)).counts c₂ meant.last
+  WritesTo o = Writes f w' out' (place_of (ended o)).depth (place_of (ended o)).counts c₂ meant.last
 
   named_rest : All (StepNamed (length f.atoms) (length f.pairs)) rest
   named_rest = (subst (λ (x : List Step). All (StepNamed (length f.atoms) (length f.pairs)) x) e u.steps_named).1
@@ -372,7 +372,7 @@ module _ {measure : Measure} {input : List ℕ} {f : File} {w words : List ℕ} 
       (tried_went measure (length out') f u.past s b h (after k) (λ y. run_steps (measure_of measure) (length out') f rest y)))
       ws u.measure_is
 
-  on : (o : Result Outcome Refused) → Fine w' out' (next_turn.Ended o) → WritesTo o → p.counts.size ≤ (place_of (next_turn.Ended o)).counts.size → add_handle (measure_of measure) (length out') f h s ≡ outcome_of o
+  on : (o : Result Outcome Refused) → Fine w' out' (ended o) → WritesTo o → p.counts.size ≤ (place_of (ended o)).counts.size → add_handle (measure_of measure) (length out') f h s ≡ outcome_of o
       → (is_some (after_outcome p o).ended) ≡ false → (words' : List ℕ)
       → words' ≡ noted_words words (after_outcome p o)
       → Underway measure input f w' words' rows' out' (noted_at (with_quote (after_outcome p o) b) next)

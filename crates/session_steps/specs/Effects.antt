@@ -11,7 +11,7 @@ use Rattle.cache_undo.specs.cache_copy.Effects.{CacheCopied}
 use Rattle.cache_entries.specs.Meaning.{Names, unmapped}
 use Rattle.cache_entries.specs.Effects.{Updated}
 use Rattle.write_place.specs.State.{AtomPlaces, Running}
-use Rattle.write_loop.specs.Effects.{Turns}
+use Rattle.write_loop.specs.Effects.{Turns, ended}
 use Rattle.write_loop.specs.declared.write_turn.Next.TheVariants as next
 use Rattle.write_place.specs.declared.Place.{Place}
 use Rattle.write_place.specs.declared.Outcome.{Outcome}
@@ -50,7 +50,7 @@ pub record Added (input w out w' out' : List ℕ) (p : Progress) (node : NodePtr
   pub saved_long : length saved_words ≡ length w
   pub updated : Updated saved_words updated_words node.0
   pub updated_long : length updated_words ≡ length w
-  pub resumed : Turns p.measure input updated_words w' out out' (next.Parse (place_at p) node) (next.Ended outcome)
+  pub resumed : Turns p.measure input updated_words w' out out' (next.Parse (place_at p) node) (ended outcome)
   pub long : length w' ≡ length w
   pub out_long : length out' ≡ length out
   pub is : q ≡ after_outcome p outcome

@@ -23,8 +23,9 @@ use Rattle.cache_entries.specs.lookup.Effects.{PairEntry, EntryOf}
 use Rattle.search_find.specs.Effects.{LengthOf, Ready, FindsIn}
 use Rattle.write_place.specs.declared.Place.{Place}
 use Rattle.write_loop.specs.declared.write_turn.Next.{Next}
-use Rattle.write_loop.specs.declared.write_turn.Next.TheVariants.{Parse, Close, Ended}
-use Rattle.write_place.specs.declared.AddError.{AddError}
+use Rattle.write_loop.specs.declared.write_turn.Next.TheVariants.{Parse, Close, Done, Stopped, Refused}
+use Rattle.write_place.specs.declared.Refused as refused_add
+use Rattle.write_place.specs.declared.Outcome.{Outcome}
 use Rattle.write_place.specs.declared.AddError.TheVariants as add_error
 use Rattle.write_place.specs.Numbers.{question_of}
 use Rattle.write_place.specs.declared.Outcome.TheVariants as outcome
@@ -35,9 +36,9 @@ use Rattle.write_place.specs.State.{AtomsThere, todo_of, Running, Writes, Writer
 abbrev pub place_of : Next → Place
 place_of (Parse p h) = p
 place_of (Close p) = p
-place_of (Ended (Ok (outcome.Done p))) = p
-place_of (Ended (Ok (outcome.Stopped p))) = p
-place_of (Ended (Err r)) = r.place
+place_of (Done p) = p
+place_of (Stopped p) = p
+place_of (Refused x p) = p
 
 -- The words are sound at a place.
 abbrev pub Runs : (w out : List ℕ) → Place → (values : ℕ) → Type 0
@@ -47,9 +48,9 @@ Runs w out p v = Running w out p.opens p.depth p.counts v
 abbrev pub Fine : (w out : List ℕ) → Next → Type 0
 Fine w out (Parse p h) = Runs w out p 0 × Names w (at w PAIR_COUNT) h.0
 Fine w out (Close p) = Runs w out p 1
-Fine w out (Ended (Ok (outcome.Done p))) = Runs w out p 1 × (p.opens ≡ 0)
-Fine w out (Ended (Ok (outcome.Stopped p))) = Runs w out p 0
-Fine w out (Ended (Err r)) = Runs w out r.place 0
+Fine w out (Done p) = Runs w out p 1 × (p.opens ≡ 0)
+Fine w out (Stopped p) = Runs w out p 0
+Fine w out (Refused x p) = Runs w out p 0
 
 -- All that is left to write, in the definitions, with this measure of a path and an output of so many bytes.
 abbrev pub goes_on : Measure → Cache → (space : ℕ) → List Todo → Written → session.Outcome
@@ -59,9 +60,9 @@ goes_on m c space k s = resume (find_in (measure_of m)) (room_in space) c k s
 abbrev pub comes_to : Measure → File → Cache → (space : ℕ) → List ℕ → Next → Written → session.Outcome
 comes_to m f c space w (Parse p h) s = goes_on m c space (parse (unfolded f h.0) ∷ todo_of f w p.opens) s
 comes_to m f c space w (Close p) s = goes_on m c space (todo_of f w p.opens) s
-comes_to m f c space w (Ended (Ok (outcome.Done p))) s = session.done s
-comes_to m f c space w (Ended (Ok (outcome.Stopped p))) s = session.stopped (todo_of f w p.opens) s
-comes_to m f c space w (Ended (Err r)) s = session.refused (question_of r.error) s
+comes_to m f c space w (Done p) s = session.done s
+comes_to m f c space w (Stopped p) s = session.stopped (todo_of f w p.opens) s
+comes_to m f c space w (Refused x p) s = session.refused (question_of x) s
 
 -- ---- turns
 
@@ -85,7 +86,9 @@ pub record Turns (m : Measure) (file w w' out out' : List ℕ) (b r : Next) : Ty
 abbrev pub ahead : (space : ℕ) → Next → ℕ
 ahead space (Parse p h) = (space - p.counts.size) * 4098 + 1
 ahead space (Close p) = (space - p.counts.size) * 4098 + p.opens + 2
-ahead space (Ended e) = 0
+ahead space (Done p) = 0
+ahead space (Stopped p) = 0
+ahead space (Refused x p) = 0
 
 abbrev pub Falls : (space : ℕ) → (b r : Next) → Type 0
 Falls space b r = ahead space r < ahead space b
@@ -118,14 +121,10 @@ pub record Stacks (w w' : List ℕ) (d e : ℕ) : Type 0 where
   pub length_is : LengthOf w e len
   pub pushed : PushedMarked w w' d e len
 
--- The add is refused at this place.
-abbrev pub refused_at : Place → AddError → Next
-refused_at p x = Ended (Err (record { error = x; place = p }))
-
 -- After an item for a whole subtree of entry e: the entry goes on the stack, or question 13 gets no.
 abbrev pub Pushes : (w w' : List ℕ) → Place → (e : ℕ) → Result Counts OutputFull → Next → Type 0
 Pushes w w' p e (Ok n) r = (r ≡ Close (record { opens = p.opens; depth = p.depth + 1; counts = n })) × Stacks w w' p.depth e
-Pushes w w' p e (Err x) r = (r ≡ refused_at p add_error.OutputFull) × (w' ≡ w)
+Pushes w w' p e (Err x) r = (r ≡ Refused add_error.OutputFull p) × (w' ≡ w)
 
 -- The two topmost entries go, and that of pair i comes.
 pub record Closes (w w' : List ℕ) (d i : ℕ) : Type 0 where
@@ -135,3 +134,10 @@ pub record Closes (w w' : List ℕ) (d i : ℕ) : Type 0 where
   pub entry : ℕ
   pub entry_is : PairEntry middle i entry
   pub stacks : Stacks middle w' (d - 2) entry
+
+-- ---- the end of the loop
+
+abbrev pub ended : Result Outcome refused_add.Refused → Next
+ended (Ok (outcome.Done p)) = Done p
+ended (Ok (outcome.Stopped p)) = Stopped p
+ended (Err r) = Refused r.error r.place

@@ -7,9 +7,9 @@ ghost use Rattle.words.specs.Words.{at};
 ghost use Rattle.std.specs.Prelude.{length};
 ghost use Rattle.work_layout.specs.Layout.{PAIR_COUNT};
 ghost use Rattle.cache_entries.specs.Meaning.{Names};
-ghost use Rattle.write_loop.specs.declared.write_turn.Next.TheVariants.{Parse, Ended};
+ghost use Rattle.write_loop.specs.declared.write_turn.Next.TheVariants.{Parse};
 ghost use Rattle.write_place.specs.State.{AtomPlaces};
-ghost use Rattle.write_loop.specs.Effects.{Runs, Turns, TurnsFound, Falls, Found};
+ghost use Rattle.write_loop.specs.Effects.{Runs, Turns, TurnsFound, Falls, Found, ended};
 
 use allocator::NodePtr;
 use cache_entries::lookup;
@@ -53,7 +53,7 @@ fn parse(
         × (Falls (length output.old) (Parse place node) result) }
 {
     if cache_entries::is_sentinel(work, node) {
-        return Next::Ended(Ok(Outcome::Stopped(place)));
+        return Next::Stopped(place);
     }
     let e = lookup::entry_of(work, node);
     match search_find::find(work, node, e, place.depth, measure) {
@@ -73,14 +73,16 @@ pub fn resume(
 ) -> Result<Outcome, Refused>
     requires { (AtomPlaces file.now work.old) × (Runs work.old output.old place 0) × (Names work.old (at work.old PAIR_COUNT) node.0) }
     ensures { Turns measure file.now work.old work.new output.old output.new
-        (Parse place node) (Ended result) }
+        (Parse place node) (ended result) }
 {
     let mut next = Next::Parse(place, node);
     loop {
         next = match next {
             Next::Parse(p, h) => parse(work, file, output, p, h, measure),
             Next::Close(p) => close_pairs::close_up(work, p),
-            Next::Ended(end) => return end,
+            Next::Done(p) => return Ok(Outcome::Done(p)),
+            Next::Stopped(p) => return Ok(Outcome::Stopped(p)),
+            Next::Refused(error, place) => return Err(Refused { error, place }),
         };
     }
 }

@@ -13,14 +13,14 @@ ghost use Rattle.write_item.specs.Answers.{ItemPut};
 ghost use Rattle.cache_entries.specs.Meaning.{Names, Whole};
 ghost use Rattle.work_layout.specs.Rows.{atom_bytes};
 ghost use Rattle.write_place.specs.State.{AtomPlaces};
-ghost use Rattle.write_loop.specs.Effects.{TurnsFound, Found, AtomPut, Pushes, refused_at};
+ghost use Rattle.write_loop.specs.Effects.{TurnsFound, Found, AtomPut, Pushes};
 
 use allocator::NodePtr;
 use file_tables::listed_atoms;
 use work_layout::EntryIndex;
 use write_counts::Counts;
 use write_item::{OutputFull, write_reference};
-use write_place::{AddError, Outcome, Place, Refused};
+use write_place::{AddError, Place};
 
 // What comes next in the loop.
 #[derive(Clone, Copy, Debug, PartialEq, Eq)]
@@ -29,15 +29,10 @@ pub enum Next {
     Parse(Place, NodePtr),
     // A value was written: the pair that it completes is closed.
     Close(Place),
-    // The loop ends. A refusal stands here, and not in a `Result` of this enum: sessions of many turns took 5 % longer with that.
-    Ended(Result<Outcome, Refused>),
-}
-
-// The question gets no at this place.
-fn refused(place: Place, error: AddError) -> Next
-    ensures { result ≡ refused_at place error }
-{
-    Next::Ended(Err(Refused { error, place }))
+    Done(Place),
+    Stopped(Place),
+    // It stands here, and is no `Err`: with a `Result` of this enum sessions of many turns took up to 5 % longer.
+    Refused(AddError, Place),
 }
 
 // Listed atom i, from where it lies in the file.
@@ -89,7 +84,7 @@ pub fn push_value(
     ensures { Pushes work.old work.new place e.0 item result }
 {
     let Ok(counts) = item else {
-        return refused(place, AddError::OutputFull);
+        return Next::Refused(AddError::OutputFull, place);
     };
     let len = search_find::length_at(work, e);
     cache_stack::push_marked(work, place.depth, e, len);

@@ -4,8 +4,14 @@ use mathlib.Core.Path.{refl}
 use Rattle.write_loop.proofs.write_turn.Looping.{loop_ends, loop_turns, fine_now, loop_falls}
 use Rattle.write_loop.proofs.resume.Goals as goal
 
-pub returns-in-Ended : goal.returns-in-Ended
-returns-in-Ended c = loop_ends c.in-Ended.is c.loop-next.invariant
+pub returns-in-Done : goal.returns-in-Done
+returns-in-Done c = loop_ends c.in-Done.is c.loop-next.invariant
+
+pub returns-in-Stopped : goal.returns-in-Stopped
+returns-in-Stopped c = loop_ends c.in-Stopped.is c.loop-next.invariant
+
+pub returns-in-Refused : goal.returns-in-Refused
+returns-in-Refused c = loop_ends c.in-Refused.is c.loop-next.invariant
 
 pub loop-next-smaller-in-Parse : goal.loop-next-smaller-in-Parse
 loop-next-smaller-in-Parse c =

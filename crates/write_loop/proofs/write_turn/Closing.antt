@@ -6,7 +6,6 @@ use mathlib.Core.List.{List, ◌∷◌}
 use native.Mathlib.Omega.{arith}
 use lib.ListN.{length, set, length-set}
 use Rattle.words.specs.Words.{at}
-use Rattle.std.specs.Prelude.{Ok}
 use Rattle.path.specs.declared.Measure.{Measure}
 use Rattle.path.specs.Measure.{measure_of}
 use Rattle.allocator.specs.declared.NodePtr.{NodePtr}
@@ -24,8 +23,7 @@ use Rattle.cache_stack.proofs.marks.Bits.{marked_same}
 use Rattle.cache_entries.specs.Meaning.{Tables, Names, Holds, Whole}
 use Rattle.cache_entries.proofs.Entering.{names_grow}
 use Rattle.write_place.specs.declared.Place.{Place}
-use Rattle.write_loop.specs.declared.write_turn.Next.TheVariants.{Parse, Close, Ended}
-use Rattle.write_place.specs.declared.Outcome.TheVariants as outcome
+use Rattle.write_loop.specs.declared.write_turn.Next.TheVariants.{Parse, Close, Done}
 use Rattle.write_place.specs.State.{left_to_write, todo_of, rights_left, Standing, Writes, WriterOnly}
 use Rattle.write_loop.specs.Effects.{Runs, goes_on, Turns, Falls, Closes}
 use Rattle.write_loop.proofs.write_turn.Frames.{only_same, whole_stays, holds_stay, tables_stay, pairs_stay, names_stay, rights_few, rights_more}
@@ -36,7 +34,7 @@ use Rattle.write_loop.proofs.write_turn.Values.{push_beside, push_marks}
 -- ---- no pair is open
 
 pub done_turns : (w : List ℕ) (p : Place) → p.opens ≡ 0 → (m : Measure) (file out : List ℕ) → Runs w out p 1
-    → (Turns m file w w out out (Close p) (Ended (Ok (outcome.Done p)))) × Falls (length out) (Close p) (Ended (Ok (outcome.Done p)))
+    → (Turns m file w w out out (Close p) (Done p)) × Falls (length out) (Close p) (Done p)
 done_turns w p q m file out run = (
   record {
     fine = (run, q);

@@ -38,10 +38,10 @@ use Rattle.write_place.specs.declared.Place.{Place}
 use Rattle.write_place.specs.declared.AddError.{AddError}
 use Rattle.write_place.specs.declared.AddError.TheVariants as add_error
 use Rattle.write_place.specs.Numbers.{question_of}
-use Rattle.write_loop.specs.declared.write_turn.Next.TheVariants.{Parse}
+use Rattle.write_loop.specs.declared.write_turn.Next.TheVariants.{Parse, Refused}
 use Rattle.write_place.specs.State.{todo_of, Standing, Writes}
 use Rattle.write_place.proofs.Sizes.{size_written}
-use Rattle.write_loop.specs.Effects.{refused_at, goes_on, Turns, Falls, Found, TurnsFound}
+use Rattle.write_loop.specs.Effects.{goes_on, Turns, Falls, Found, TurnsFound}
 use Rattle.write_loop.proofs.write_turn.Frames.{only_same, pairs_stay, names_stay, pairs_few}
 use Rattle.write_loop.proofs.write_turn.Items.{put_there, taken_before, running_more, counts_written, bytes_written, room_there, room_gone}
 use Rattle.write_loop.proofs.write_turn.Values.{found_is, pair_is}
@@ -91,7 +91,7 @@ module _ {w out : List ℕ} {p : Place} (h : NodePtr) {e : ℕ} (fo : Found w ou
 
   refused : (file : List ℕ) (x : AddError) (n : ℕ) → question_of x ≡ suc n → ((f : File) (c : Cache) (s : Written) → Writes f w out p.depth p.counts c s
       → room_in (length out) (todo_of f w p.opens) s.items cons_item ≡ suc n)
-      → (m : Measure) → FindsIn m w w p.depth h.0 e None → Turns m file w w out out (Parse p h) (refused_at p x)
+      → (m : Measure) → FindsIn m w w p.depth h.0 e None → Turns m file w w out out (Parse p h) (Refused x p)
   refused file x n q room m finds =
       record {
         fine = fo.running;
@@ -111,7 +111,7 @@ module _ {w out : List ℕ} {p : Place} (h : NodePtr) {e : ℕ} (fo : Found w ou
       }
 
   -- Question 12.
-  pub deep_turns : 4096 ≤ p.opens → (file : List ℕ) → TurnsFound file w w out out p h e None (refused_at p add_error.TooManyOpen)
+  pub deep_turns : 4096 ≤ p.opens → (file : List ℕ) → TurnsFound file w w out out p h e None (Refused add_error.TooManyOpen p)
   deep_turns q file =
       (refused file add_error.TooManyOpen 11 refl (λ f c s wr. rw (open_count f w p.opens, lt-ltb 4095 p.opens (omega arith))), omega arith)
 
@@ -120,11 +120,11 @@ module _ {w out : List ℕ} {p : Place} (h : NodePtr) {e : ℕ} (fo : Found w ou
     not_deep f = rw (open_count f w p.opens, le-ltb 4095 p.opens (omega arith))
 
     -- Question 13.
-    pub lacks_turns : {x : OutputFull} → ItemPut out out' p.counts cons_item (Err x) → (file : List ℕ) → TurnsFound file w w out out' p h e None (refused_at p add_error.OutputFull)
+    pub lacks_turns : {x : OutputFull} → ItemPut out out' p.counts cons_item (Err x) → (file : List ℕ) → TurnsFound file w w out out' p h e None (Refused add_error.OutputFull p)
     lacks_turns a file =
         let n = put_none out out' p.counts.size (item_bytes cons_item) a.bytes in (
           λ m finds.
-              subst (λ (x : List ℕ). Turns m file w w out x (Parse p h) (refused_at p add_error.OutputFull)) (sym n.1)
+              subst (λ (x : List ℕ). Turns m file w w out x (Parse p h) (Refused add_error.OutputFull p)) (sym n.1)
               (refused file add_error.OutputFull 12 refl (λ f c s wr. room_gone (length out) (todo_of f w p.opens) s.items cons_item (not_deep f) (omega (arith, n.0, size_written wr))) m finds),
           omega arith,
         )

@@ -20,7 +20,7 @@ use Rattle.spec_session.specs.Steps.{room_in}
 use Rattle.spec_session.proofs.Loop.{turn_hole}
 use Rattle.work_layout.specs.Layout.{PAIR_COUNT, SENTINEL, STACK, WRITTEN}
 use Rattle.work_layout.specs.Rows.{stack_of}
-use Rattle.std.specs.Prelude.{Ok, Option}
+use Rattle.std.specs.Prelude.{Option}
 use Rattle.search_list.specs.Steps.{Kept}
 use Rattle.cache_stack.proofs.Stacks.{stacked_same, stack_same}
 use Rattle.cache_stack.proofs.marks.Bits.{marked_same}
@@ -30,8 +30,7 @@ use Rattle.cache_entries.specs.lookup.Effects.{EntryOf}
 use Rattle.search_find.specs.Effects.{Ready, FindsIn}
 use Rattle.write_place.specs.declared.Place.{Place}
 use Rattle.write_loop.specs.declared.write_turn.Next.{Next}
-use Rattle.write_loop.specs.declared.write_turn.Next.TheVariants.{Parse, Ended}
-use Rattle.write_place.specs.declared.Outcome.TheVariants as outcome
+use Rattle.write_loop.specs.declared.write_turn.Next.TheVariants.{Parse, Stopped}
 use Rattle.write_place.specs.State.{AtomPlaces, AtomsThere, todo_of, Writes, WriterOnly}
 use Rattle.write_loop.specs.Effects.{place_of, Runs, Fine, goes_on, comes_to, Leads, Turns, Found}
 use Rattle.write_loop.proofs.write_turn.Frames.{only_both, only_same, holds_stay, tables_stay, pairs_stay, names_stay, places_stay, atoms_stay, Beside, beside_only, todo_stays, standing_stays}
@@ -75,7 +74,7 @@ turns_none m file w out b g =
 -- ---- the open place
 
 pub turns_stop : {m : Measure} {file w out : List ℕ} (p : Place) (h : NodePtr) → Runs w out p 0 → Names w (at w PAIR_COUNT) h.0 → at w SENTINEL ≡ h.0
-    → Turns m file w w out out (Parse p h) (Ended (Ok (outcome.Stopped p)))
+    → Turns m file w w out out (Parse p h) (Stopped p)
 turns_stop {m} {file} {w} {out} p h run n q =
     record {
       fine = run;

@@ -41,10 +41,10 @@ use Rattle.search_find.specs.Effects.{steps_of, FindsIn}
 use Rattle.write_place.specs.declared.Place.{Place}
 use Rattle.write_place.specs.declared.AddError.TheVariants as add_error
 use Rattle.write_loop.specs.declared.write_turn.Next.{Next}
-use Rattle.write_loop.specs.declared.write_turn.Next.TheVariants.{Parse, Close}
+use Rattle.write_loop.specs.declared.write_turn.Next.TheVariants.{Parse, Close, Refused}
 use Rattle.write_place.specs.State.{AtomsThere, todo_of, Writes}
 use Rattle.write_place.proofs.Sizes.{size_written}
-use Rattle.write_loop.specs.Effects.{refused_at, Runs, goes_on, Turns, Falls, Found, TurnsFound, AtomPut, Stacks, Pushes}
+use Rattle.write_loop.specs.Effects.{Runs, goes_on, Turns, Falls, Found, TurnsFound, AtomPut, Stacks, Pushes}
 use Rattle.write_loop.proofs.write_turn.Frames.{only_same, holds_stay, Beside, beside_only, todo_stays, standing_stays}
 use Rattle.write_loop.proofs.write_turn.Items.{put_there, taken_before, running_more, counts_written, bytes_written, WholeItem, whole_fits, whole_lacks}
 
@@ -130,7 +130,7 @@ module _ (file w w' out out' : List ℕ) (p : Place) (h : NodePtr) (e : ℕ) (i 
     value_falls = omega (arith, (put_there a).end, (put_there a).fits, run.stands.few_opens)
 
   lacks_turns : length out < p.counts.size + length (item_bytes i) → (m : Measure) → StandsFor m file w out p h.0 e i
-      → Turns m file w w out out (Parse p h) (refused_at p add_error.OutputFull)
+      → Turns m file w w out out (Parse p h) (Refused add_error.OutputFull p)
   lacks_turns q m stands =
       record {
         fine = run;
@@ -159,8 +159,8 @@ module _ (file w w' out out' : List ℕ) (p : Place) (h : NodePtr) (e : ℕ) (i 
       let n = put_none out out' p.counts.size (item_bytes i) a.bytes in
       subst (λ (y : Next). TurnsFound file w w' out out' p h e path y) (sym q.0) (
         λ m fi.
-            subst (λ (x : List ℕ). Turns m file w x out out' (Parse p h) (refused_at p add_error.OutputFull)) (sym q.1)
-            (subst (λ (x : List ℕ). Turns m file w w out x (Parse p h) (refused_at p add_error.OutputFull)) (sym n.1) (lacks_turns n.0 m (stands m fi))),
+            subst (λ (x : List ℕ). Turns m file w x out out' (Parse p h) (Refused add_error.OutputFull p)) (sym q.1)
+            (subst (λ (x : List ℕ). Turns m file w w out x (Parse p h) (Refused add_error.OutputFull p)) (sym n.1) (lacks_turns n.0 m (stands m fi))),
         omega arith,
       )
 

@@ -12,7 +12,7 @@ ghost use Rattle.write_loop.specs.Effects.{Runs, Turns, Falls, Closes};
 use crate::write_turn::Next;
 use cache_entries::lookup;
 use cache_stack::stack_pop;
-use write_place::{Outcome, Place};
+use write_place::Place;
 
 // The two values of pair i, on top of `depth` entries, become one.
 fn close_pair(work: &mut [u32], depth: usize, i: usize)
@@ -42,7 +42,7 @@ pub fn close_up(work: &mut [u32], place: Place) -> Next
 {
     let opens = place.opens;
     if opens == 0 {
-        return Next::Ended(Ok(Outcome::Done(place)));
+        return Next::Done(place);
     }
     let v = innermost(work, opens);
     let i = (v / 2) as usize;

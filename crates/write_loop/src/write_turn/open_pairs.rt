@@ -3,7 +3,7 @@ ghost use Rattle.std.specs.Prelude.{◌≡◌, true, List, ℕ};
 ghost use Rattle.allocator.specs.Handle.{node_of, is_pair};
 ghost use Rattle.write_loop.specs.Effects.{TurnsFound, Found};
 
-use crate::write_turn::{self, Next};
+use crate::write_turn::Next;
 use allocator::NodePtr;
 use work_layout::EntryIndex;
 use write_place::{AddError, Place};
@@ -26,10 +26,10 @@ pub fn open_pair(
 {
     let opens = place.opens;
     if opens >= MAX_OPEN {
-        return write_turn::refused(place, AddError::TooManyOpen);
+        return Next::Refused(AddError::TooManyOpen, place);
     }
     let Ok(counts) = write_item::write_cons(output, place.counts) else {
-        return write_turn::refused(place, AddError::OutputFull);
+        return Next::Refused(AddError::OutputFull, place);
     };
     let left = cache_entries::left_of(work, node.index() as usize);
     work[work_layout::OPEN + opens] = node.index() * 2 + 1;

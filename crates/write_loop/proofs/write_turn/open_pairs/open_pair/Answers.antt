@@ -9,12 +9,11 @@ use Rattle.write_loop.proofs.write_turn.open_pairs.open_pair.Goals as goal
 
 pub returns-then-opens-ge-MAX_OPEN : goal.returns-then-opens-ge-MAX_OPEN
 returns-then-opens-ge-MAX_OPEN c =
-    rw c.refused.ensures (deep_turns c.args.node c.requires.0 c.requires.1 c.if-opens-ge-MAX_OPEN.true)
+    deep_turns c.args.node c.requires.0 c.requires.1 c.if-opens-ge-MAX_OPEN.true
 
 pub returns-in_default : goal.returns-in_default
 returns-in_default c =
-    rw c.refused-in_default.ensures
-    (lacks_turns c.args.node c.requires.0 c.requires.1 c.if-opens-ge-MAX_OPEN.false c.write_cons.new.output (rw c.in_default.is at c.write_cons.ensures))
+    lacks_turns c.args.node c.requires.0 c.requires.1 c.if-opens-ge-MAX_OPEN.false c.write_cons.new.output (rw c.in_default.is at c.write_cons.ensures)
 
 pub returns : goal.returns
 returns c =
