@@ -10,7 +10,7 @@ use crate::push_number::push_number;
 use path_builder::PathBuilder;
 
 // The latest bits of a node as a number, the first of them lowest, and the node that has those before them.
-#[derive(Clone, Copy)]
+#[derive(Clone, Copy, Debug, PartialEq, Eq)]
 struct TakenBits {
     number: u64,
     before: usize,

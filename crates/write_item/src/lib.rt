@@ -1,6 +1,6 @@
 // One item of a session's output, as incremental.rs writes it: `ff` or an atom. `output` is the usable part of the output, of which `counts.size` bytes
 // are used. An item that does not fit whole leaves the output as it is (question 13).
-// Output and counts stand side by side: the one is lent, and the other is kept in work between two adds.
+// Output and counts stand side by side: the one is lent anew for each step, and the other is a value that a session keeps.
 #![tactic(auto)]
 
 pub mod write_reference;
