@@ -5,9 +5,15 @@ use mathlib.Core.List.{List, ◌++◌}
 use Prim.Native.Nat.{ℕ, ◌+◌, ◌-◌, ◌≤◌, ◌<◌}
 use native.Mathlib.Omega.{arith}
 use native.Mathlib.Decide.{dec_lt}
-use lib.ListN.{length, get_or, take, drop, length-take, length-drop, get_or-append}
-use lib.Seq.{paste, length-paste, length_paste_head, length-take-le, get_or-take, get_or-drop, get_or-append-add}
+use native.Mathlib.Numerals.{add-one}
+use lib.ListN.{length, get_or, take, drop, set, length-take, length-drop, get_or-append}
+use lib.Seq.{paste, paste-suc, length-paste, length_paste_head, length-take-le, get_or-take, get_or-drop, get_or-append-add}
 use Rattle.words.specs.Words.{at}
+
+-- a turn of a copy
+pub paste_more : (d : List ℕ) (p : ℕ) (s : List ℕ) (i : ℕ) → p + i < length d → i < length s
+    → set (paste d p s i) (p + i) (get_or s i 0) ≡ paste d p s (i + 1)
+paste_more d p s i h k = paste-suc d p s i 0 h k ∙ ap (λ (j : ℕ). paste d p s j) (sym (add-one i))
 
 -- an element that the copy has not reached, or that lies below it, is as it was
 pub paste_other : (d : List ℕ) (p : ℕ) (s : List ℕ) (n k : ℕ) → p ≤ length d → n ≤ length s → (p ≤ k → p + n ≤ k) → get_or (paste d p s n) k 0 ≡ get_or d k 0
