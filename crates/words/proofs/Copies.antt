@@ -33,6 +33,19 @@ paste_other d p s n k h l o = go (dec_lt k p)
         ap (λ (j : ℕ). get_or (paste d p s n) j 0) (sym e) ∙ get_or-append-add (take p d ++ take n s) (drop (p + n) d) (k - (p + n)) 0 ∙ get_or-drop (p + n) d (k - (p + n)) 0
         ∙ ap (λ (j : ℕ). get_or d j 0) f
 
+-- a turn of a copy within one list
+pub within_more : (d : List ℕ) (from to count i : ℕ) → from + count ≤ length d → to + count ≤ length d → (from < to → from + count ≤ to) → i < count
+    → set (paste d to (drop from d) i) (to + i) (get_or (paste d to (drop from d) i) (from + i) 0) ≡ paste d to (drop from d) (i + 1)
+within_more d from to count i h k apart l =
+    let long : length (drop from d) ≡ length d - from = length-drop from d in
+    ap (λ (v : ℕ). set (paste d to (drop from d) i) (to + i) v)
+    (paste_other d to (drop from d) i (from + i) (omega arith) (omega (arith, long)) (λ q. low q (dec_lt from to)) ∙ sym (get_or-drop from d i 0))
+    ∙ paste_more d to (drop from d) i (omega arith) (omega (arith, long))
+  where
+    low : to ≤ from + i → Dec (from < to) → to + i ≤ from + i
+    low q (yes m) = absurd (omega (arith, apart m))
+    low q (no m) = omega arith
+
 -- The n words from `from` on stand from `to` on, and nothing else is touched.
 pub record Copied (w w' : List ℕ) (from to n : ℕ) : Type 0 where
   pub len : length w' ≡ length w
