@@ -31,7 +31,7 @@ fn copy_list<const SAVED: bool>(work: &mut [u32], e: EntryIndex, n: usize, place
     requires { (WORK ≤ length work.old) × (e.0 < ENTRIES) × (n ≤ MAX_PARENTS) × (SEEN ≤ place) × (place + further n ≤ WORK) }
     ensures { (result ≡ place + further n) × ListCopied SAVED work.old work.new e.0 (further n) place }
 {
-    // Most entries have two parents at most. With the loop alone a session that saves many entries took 25 % longer.
+    // Most entries have two parents at most, and so no further words.
     if n <= 2 {
         return place;
     }
