@@ -5,7 +5,7 @@ ghost use Rattle.path.specs.Bytes.{read_path};
 ghost use Rattle.path.specs.Answers.{counted};
 ghost use Rattle.words.specs.Options.{option_of};
 
-use crate::traverse_path::first_non_zero;
+use crate::traverse_path::{first_non_zero, msb_mask};
 
 // How many bits a path has below its most significant set bit; none are set in the path of nil.
 pub fn path_bits(path: &[u8]) -> Option<usize>
@@ -16,7 +16,8 @@ pub fn path_bits(path: &[u8]) -> Option<usize>
     if path.len() <= first {
         return None;
     }
-    let place = path[first].ilog2() as usize;
+    let mask = msb_mask(path[first]);
+    let place = mask.ilog2() as usize;
     Some(8 * (path.len() - 1 - first) + place)
 }
 

@@ -12,8 +12,8 @@ use Rattle.words.specs.Choice.{by_lt}
 use Rattle.words.specs.Lists.{Bytes, all_at}
 use Rattle.path.specs.Bytes.{odd, low_bits, below_top, all_bits, read_path}
 use Rattle.path.proofs.BytesLaws.{length_all_bits, length_low_bits, low_bits_at}
-use Rattle.path.specs.Traverse.{zeros_in_front}
-use Rattle.path.proofs.TraverseLaws.{Top, top_byte, place_is, zeros_within, after_zeros, none_all_zeros, read_from}
+use Rattle.path.specs.Traverse.{msb_mask, zeros_in_front}
+use Rattle.path.proofs.TraverseLaws.{Top, top_byte, mask_is, place_is, zeros_within, after_zeros, none_all_zeros, read_from}
 use Rattle.path.specs.Answers.{counted}
 
 -- ---- how many bits
@@ -24,6 +24,19 @@ counted_none bs h = rw (none_all_zeros bs (omega (arith, zeros_within bs)))
 -- The byte after the zeros in front, with the place of its most significant set bit.
 pub first_top : (bs : List ℕ) → Bytes bs → zeros_in_front bs < length bs → Top 7 (get_or bs (zeros_in_front bs) 0)
 first_top bs b h = top_byte (get_or bs (zeros_in_front bs) 0) (after_zeros bs h) (all_at (λ (n : ℕ). n < 256) bs 0 (zeros_in_front bs) b h)
+
+-- The mask of that byte is not 0, and a power of two from the mask up, below twice the mask, is one from the byte down, above half of it.
+pub some_mask : (bs : List ℕ) → Bytes bs → (z mask : ℕ) → z ≡ zeros_in_front bs → z < length bs → mask ≡ msb_mask (get_or bs z 0) → 0 < mask
+some_mask bs b z mask e h m =
+    let t = first_top bs b (omega arith) in
+    omega (arith, rw e at m, t.mask, t.below)
+
+pub mask_at : (bs : List ℕ) → Bytes bs → (z mask r : ℕ) → z ≡ zeros_in_front bs → z < length bs → mask ≡ msb_mask (get_or bs z 0) → 2 ^ r ≤ mask → mask < 2 * 2 ^ r
+    → (2 ^ r ≤ get_or bs z 0) × (get_or bs z 0 < 2 * 2 ^ r)
+mask_at bs b z mask r e h m from below =
+    let t = first_top bs b (omega arith) in
+    let place : r ≡ t.place = mask_is t r (omega (arith, rw e at m, from)) (omega (arith, rw e at m, below)) in
+    rw (e, place) (t.from, t.below)
 
 -- Eight bits for each byte after the first that is not 0, and those of that byte below its most significant set bit.
 pub counted_bits : (bs : List ℕ) → Bytes bs → (z r : ℕ) → z ≡ zeros_in_front bs → z < length bs → 2 ^ r ≤ get_or bs z 0 → get_or bs z 0 < 2 * 2 ^ r
