@@ -4,7 +4,7 @@
 pub mod fits_in_small_atom;
 pub mod small_atom;
 
-ghost use Rattle.std.specs.Prelude.{◌≡◌, ◌+◌, ◌*◌, ◌^◌, ◌<◌};
+ghost use Rattle.std.specs.Prelude.{◌≡◌, ◌+◌, ◌*◌, ◌^◌, ◌<◌, eqb};
 ghost use Rattle.allocator.specs.Handle.{node_of, handle_of, pair, listed_atom, small_atom, index_of, object_type_of, is_pair, is_atom};
 
 // A node's handle: a kind in bits 26 up, and 26 bits of index or small value.
@@ -95,5 +95,12 @@ impl NodePtr {
             self.object_type(),
             ObjectType::Bytes | ObjectType::SmallAtom
         )
+    }
+
+    // Whether two handles are the same.
+    pub fn same(self, other: NodePtr) -> bool
+        ensures { result ≡ eqb self.0 other.0 }
+    {
+        self == other
     }
 }

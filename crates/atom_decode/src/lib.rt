@@ -63,6 +63,7 @@ pub fn parse_atom_ptr(input: &[u8], found: Result<Blob, ParseError>) -> &[u8]
 {
     match found {
         Ok(Blob { start, end }) => input.get(start..end).unwrap_or(&[]),
-        Err(_) => &[],
+        Err(ParseError::SerializationError) => &[],
+        Err(ParseError::NonCanonicalSerialization) => &[],
     }
 }

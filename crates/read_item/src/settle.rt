@@ -5,6 +5,7 @@ ghost use Rattle.read_store.specs.Layout.{ops_of};
 ghost use Rattle.read_item.specs.State.{Ready, Onward, Settled, Next};
 
 use crate::read_error::ReadError;
+use read_path::stack_list;
 use read_store::join_values;
 use read_store::reader_stacks::OPS;
 
@@ -34,7 +35,7 @@ fn join_top(work: &mut [u32], pairs: &mut [u32], r: Reader) -> Reader
     requires { (Ready work.old pairs.old r) × (0 < r.ops) × (ops_of work.old r.ops ≡ Cons ∷ ops_of work.old (r.ops - 1)) }
     ensures { (Onward work.old pairs.old r work.new pairs.new result) × (result.ops ≡ r.ops - 1) }
 {
-    let listed = r.listed.min(r.values - 2);
+    let listed = stack_list::listed_among(r.listed, r.values - 2);
     join_values::join(work, pairs, r.values, r.pairs);
     let mut next = r;
     next.ops -= 1;

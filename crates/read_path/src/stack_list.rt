@@ -1,5 +1,5 @@
 // The list that the reader's stack of values is to a path, made and kept: a part of `traverse_path_with_vec` of de_br.rs.
-ghost use Rattle.std.specs.Prelude.{◌≡◌, ◌≤◌, length};
+ghost use Rattle.std.specs.Prelude.{◌≡◌, ◌≤◌, min, length};
 ghost use Rattle.words.specs.Words.{WORK};
 ghost use Rattle.spec_reading.specs.Store.{Store, list_of};
 ghost use Rattle.read_store.specs.Layout.{values_of};
@@ -23,6 +23,13 @@ pub struct Built {
     pub counts: Counts,
 }
 
+// How many of the lowest `listed` values are among the lowest `values`.
+pub fn listed_among(listed: usize, values: usize) -> usize
+    ensures { result ≡ min listed values }
+{
+    listed.min(values)
+}
+
 // The list that the lowest `count` values have: that of the topmost of them.
 fn list_at(work: &[u32], count: usize) -> NodePtr
     requires { (WORK ≤ length work.now) × (HaveLists work.now count 131072) }
@@ -41,7 +48,7 @@ pub fn build_list(work: &mut [u32], pairs: &mut [u32], count: usize, counts: Cou
     ensures { Lists work.old pairs.old count counts.listed counts.pairs counts.ghosts
         work.new pairs.new result }
 {
-    let listed = counts.listed.min(count);
+    let listed = listed_among(counts.listed, count);
     let mut b = Built {
         node: list_at(work, listed),
         counts,

@@ -29,7 +29,9 @@ pub fn find_path(
     requires { (Sound work.old) × (Tops work.old depth) × (all_counts work.old ENTRIES ≤ 2048) × (e.0 < at work.old USED) }
     ensures { FoundPath measure work.old work.new depth len e.0 result }
 {
-    let slot = search_passes::search(work, e, len, depth)?;
+    let Some(slot) = search_passes::search(work, e, len, depth) else {
+        return None;
+    };
     if measured_bits(measure, search_list::size_of(work, slot)) < len {
         return Some(slot);
     }

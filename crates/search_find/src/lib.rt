@@ -69,7 +69,7 @@ pub fn find(
     if node.is_pair() {
         return find_marked(work, e, depth, measure);
     }
-    if node == NodePtr::NIL {
+    if node.same(NodePtr::NIL) {
         return None;
     }
     find_marked(work, e, depth, measure)

@@ -30,5 +30,7 @@ pub fn clear_first(checkpoints: &mut [Checkpoint], n: usize)
     requires { n ≤ length checkpoints.old }
     ensures { checkpoints.new ≡ replicate n blank ++ drop n checkpoints.old }
 {
-    checkpoints[..n].fill(BLANK);
+    for i in 0..n {
+        checkpoints[i] = BLANK;
+    }
 }

@@ -7,8 +7,8 @@ pub fn clear<T: Copy + Default>(elements: &mut [T])
     ensures { (zero : T) → ((x : T) → T.is_default x → x ≡ zero) → elements.new ≡ replicate (length elements.old) zero }
 {
     let zero = T::default();
-    for element in elements.iter_mut() {
-        *element = zero;
+    for i in 0..elements.len() {
+        elements[i] = zero;
     }
 }
 

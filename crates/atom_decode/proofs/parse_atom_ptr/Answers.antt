@@ -11,5 +11,8 @@ returns-in-Ok c =
     let b = c.in-Ok.field-0 in
     rw (c.unwrap_or.ensures, c.in-Ok.is) (part_got c.args.input.now b.start b.end c.get.result _ c.get.ensures.lookup refl)
 
-pub returns-in-Err : goal.returns-in-Err
-returns-in-Err c = rw c.in-Err.is (sym (blob_refused c.args.input.now (number c.in-Err.field-0)))
+pub returns-in-Err-SerializationError : goal.returns-in-Err-SerializationError
+returns-in-Err-SerializationError c = rw c.in-Err-SerializationError.is (sym (blob_refused c.args.input.now (number c.in-Err-SerializationError.field-0)))
+
+pub returns-in-Err-NonCanonicalSerialization : goal.returns-in-Err-NonCanonicalSerialization
+returns-in-Err-NonCanonicalSerialization c = rw c.in-Err-NonCanonicalSerialization.is (sym (blob_refused c.args.input.now (number c.in-Err-NonCanonicalSerialization.field-0)))

@@ -18,10 +18,10 @@ no-nil h p = ne_eqb h (handle_of nil) (λ q. let r : is_pair (node_of (handle_of
 pub returns-then-is_pair : goal.returns-then-is_pair
 returns-then-is_pair c = c.find_marked.ensures _ (no-nil _ (sym c.if-is_pair.ensures))
 
-pub returns-then-eq : goal.returns-then-eq
+pub returns-then-same : goal.returns-then-same
 unfolding handle_of
-returns-then-eq c = finds_nil (sym c.if-eq.ensures)
+returns-then-same c = finds_nil (sym c.if-same.ensures)
 
 pub returns : goal.returns
 unfolding handle_of
-returns c = c.find_marked-2.ensures _ (sym c.if-eq.ensures)
+returns c = c.find_marked-2.ensures _ (sym c.if-same.ensures)

@@ -37,5 +37,5 @@ pub returns : goal.returns
 returns c =
     let j = c in
     let p = j.requires in
-    let e = j.min-listed.ensures in
+    let e = j.listed_among-listed.ensures in
     (joins.joined_onward _ _ _ _ _ p.0 p.1 p.2 j.join.ensures _ (omega (arith, e)) (omega (arith, e)), refl)

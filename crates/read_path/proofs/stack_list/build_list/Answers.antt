@@ -8,13 +8,13 @@ use Rattle.read_path.proofs.stack_list.build_list.Goals as goal
 pub list_at-requires : goal.list_at-requires
 list_at-requires c =
     let p = c.requires in
-    let e = c.min-listed.ensures in
+    let e = c.listed_among-listed.ensures in
     (p.work, record { all = fewer_listed _ _ _ (omega (arith, e)) p.lists; few = omega (arith, e, p.few) })
 
 pub loop-i-init : goal.loop-i-init
 loop-i-init c =
     let p = c.requires in
-    let e = c.min-listed.ensures in (
+    let e = c.listed_among-listed.ensures in (
       lists_start _ _ _ _ _ _ _ (omega (arith, e)) p.lists c.list_at.ensures refl refl refl,
       spent_start _ _ _ _ (omega (arith, e)) p.lists,
     )
@@ -36,11 +36,11 @@ pub loop-i-preserved : goal.loop-i-preserved
 loop-i-preserved c =
     let h = c.loop-i in
     let r = c.add_value-b in (
-      lists_more _ _ _ _ _ _ _ _ _ h.invariant.0 _ _ _ r.ensures (omega (arith, c.loop-i-test.true, h.auto.i, c.min-listed.ensures)),
+      lists_more _ _ _ _ _ _ _ _ _ h.invariant.0 _ _ _ r.ensures (omega (arith, c.loop-i-test.true, h.auto.i, c.listed_among-listed.ensures)),
       spent_more _ _ _ _ _ _ _ _ _ h.invariant.0 _ _ _ r.ensures h.invariant.1,
     )
 
 pub returns : goal.returns
 returns c =
     let h = c.loop-i in
-    lists_end _ _ _ _ _ _ _ _ _ _ (omega (arith, h.auto.i-end, c.min-listed.ensures, c.loop-i-test.false)) h.invariant.0
+    lists_end _ _ _ _ _ _ _ _ _ _ (omega (arith, h.auto.i-end, c.listed_among-listed.ensures, c.loop-i-test.false)) h.invariant.0

@@ -8,25 +8,25 @@ use Rattle.search_find.proofs.find_path.find_path.Goals as goal
 
 pub size_of-requires : goal.size_of-requires
 size_of-requires c =
-    let u = c.in_ok-slot.ensures.usable in
+    let u = c.in-Some.ensures.usable in
     (omega (arith, c.search.auto.work, c.requires.0.long), u.slot, u.chain.few)
 
 pub measured_bits-requires : goal.measured_bits-requires
 measured_bits-requires c =
-    let u = c.in_ok-slot.ensures.usable in
+    let u = c.in-Some.ensures.usable in
     omega (arith, c.size_of.ensures, u.short, u.extra)
 
 pub returns-then-measured_bits-len : goal.returns-then-measured_bits-len
 returns-then-measured_bits-len c =
-    let found = c.in_ok-slot.ensures in
+    let found = c.in-Some.ensures in
     let sized = c.size_of.ensures ∙ readable_size c.search.new.work _ found.usable in
     path_used found (c.measured_bits.ensures _ sized (path_ends found)) c.if-measured_bits-len.true
 
 pub returns : goal.returns
 returns c =
-    let found = c.in_ok-slot.ensures in
+    let found = c.in-Some.ensures in
     let sized = c.size_of.ensures ∙ readable_size c.search.new.work _ found.usable in
     path_long found (c.measured_bits.ensures _ sized (path_ends found)) c.if-measured_bits-len.false
 
-pub returns-in_err-slot : goal.returns-in_err-slot
-returns-in_err-slot c = rw c.from_residual.ensures (path_none c.in_err-slot.ensures)
+pub returns-in_default : goal.returns-in_default
+returns-in_default c = path_none c.in_default.ensures
