@@ -38,7 +38,7 @@ pub record Counted (path : List ℕ) (count : ℕ) : Type 0 where
   pub is : read_path path ≡ some bits
   pub long : count ≡ length bits
 
-counted_some : (path : List ℕ) (count : ℕ) → some count ≡ counted (read_path path) → Counted path count
+pub counted_some : (path : List ℕ) (count : ℕ) → some count ≡ counted (read_path path) → Counted path count
 counted_some path count e = go (read_path path) refl e
   where
     go : (o : Option (List Bool)) → read_path path ≡ o → some count ≡ counted o → Counted path count
@@ -49,10 +49,10 @@ pub counted_none : (o : Option (List Bool)) → none ≡ counted o → o ≡ non
 counted_none none e = refl
 counted_none (some bits) e = clash cc
 
-count_within : (path : List ℕ) (count : ℕ) → Bytes path → Counted path count → count ≤ 8 * length path
+pub count_within : (path : List ℕ) (count : ℕ) → Bytes path → Counted path count → count ≤ 8 * length path
 count_within path count b q = omega (arith, q.long, (lowest path q.bits b q.is).short)
 
-down_within : (bits : List Bool) (d : ℕ) → (down bits d ≤ length bits) × (down bits d ≤ d)
+pub down_within : (bits : List Bool) (d : ℕ) → (down bits d ≤ length bits) × (down bits d ≤ d)
 unfolding down
 down_within [] d = omega arith
 down_within (b ∷ bs) zero = omega arith

@@ -53,13 +53,13 @@ down_start bits depth = ap (down bits) less ∙ omega arith
     less : depth ≡ depth - 0
     less = omega arith
 
-down_deep : (bits : List Bool) (depth i : ℕ) → Down bits depth i → depth ≤ i → i ≡ down bits depth
+pub down_deep : (bits : List Bool) (depth i : ℕ) → Down bits depth i → depth ≤ i → i ≡ down bits depth
 down_deep bits depth i d h = sym (d ∙ ap (λ (n : ℕ). i + down (drop i bits) n) none_left ∙ ap (λ (n : ℕ). i + n) (down_zero (drop i bits)) ∙ omega arith)
   where
     none_left : depth - i ≡ 0
     none_left = omega arith
 
-down_over : (bits : List Bool) (depth i : ℕ) → Down bits depth i → length bits ≤ i → i ≡ down bits depth
+pub down_over : (bits : List Bool) (depth i : ℕ) → Down bits depth i → length bits ≤ i → i ≡ down bits depth
 down_over bits depth i d h =
     sym (d ∙ ap (λ (l : List Bool). i + down l (depth - i)) (drop_of_length-le bits h) ∙ ap (λ (n : ℕ). i + n) (down_end [] (depth - i) (omega arith)) ∙ omega arith)
 
