@@ -48,7 +48,7 @@ pub fn finish(
 {
     clear_rest(work, words, output, refused, p);
     SessionAnswer {
-        number: p.ended.unwrap_or(0),
+        number: p.number,
         steps: p.steps as u32,
         size: p.counts.size as u32,
     }

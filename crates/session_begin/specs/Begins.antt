@@ -1,5 +1,5 @@
 -- Questions 1 to 8 of a session call, and what its run starts with.
-use Rattle.std.specs.Prelude.{ℕ, ◌≤◌, ◌≡◌, false, cond, List, length, is_some, Some}
+use Rattle.std.specs.Prelude.{ℕ, ◌≤◌, ◌≡◌, true, false, cond, List, length}
 use Rattle.path.specs.declared.Measure.{Measure}
 use Rattle.spec_session.specs.File.{File, Got, got, refused, version_1, file}
 use Rattle.session_state.specs.declared.checkpoints.Checkpoint.{Checkpoint}
@@ -15,14 +15,14 @@ asked input work words records = cond (are_long work words records) (file versio
 
 -- A run that is over before it starts.
 abbrev pub refused_with : Measure → ℕ → Progress
-refused_with m n = record { at = 0; steps = 0; adds = 0; opens = 0; depth = 0; counts = no_items; finished = false; ended = Some n; forgets = false; quoted = false; measure = m }
+refused_with m n = record { at = 0; steps = 0; adds = 0; opens = 0; depth = 0; counts = no_items; finished = false; number = n; done = true; forgets = false; quoted = false; measure = m }
 
 -- The run can start, by this measure, with work as it is. All records are to be cleared.
 pub record Starts (m : Measure) (input w : List ℕ) (words records : ℕ) (b : Begun) : Type 0 where
   pub many_words : 3072 ≤ words
   pub many_rows : 16 ≤ records
   pub all_records : b.records ≡ records
-  pub goes : (is_some b.start.ended) ≡ false
+  pub goes : b.start.done ≡ false
   pub measure_is : b.start.measure ≡ m
   pub ready : (ws : List ℕ) (rows : List Checkpoint) (out : List ℕ) → 3072 ≤ length ws → 16 ≤ length rows → length out ≤ 65535 → Underway m input (the_file input) w ws rows out b.start
 

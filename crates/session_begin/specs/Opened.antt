@@ -1,5 +1,5 @@
 -- What loading a session file leaves in work, and where its run starts.
-use Rattle.std.specs.Prelude.{ℕ, ◌+◌, ◌*◌, ◌≤◌, ◌<◌, ◌≡◌, Bool, false, List, [], length, get_or, None}
+use Rattle.std.specs.Prelude.{ℕ, ◌+◌, ◌*◌, ◌≤◌, ◌<◌, ◌≡◌, Bool, false, List, [], length, get_or}
 use Rattle.words.specs.Words.{at}
 use Rattle.path.specs.declared.Measure.{Measure}
 use Rattle.spec_session.specs.File.{File}
@@ -36,4 +36,4 @@ pub record Opened (input : List ℕ) (f : File) (w : List ℕ) : Type 0 where
 
 -- The first step comes next; nothing is added, open or written.
 abbrev pub start_at : Measure → (place : ℕ) → (forgets : Bool) → Progress
-start_at m place b = record { at = place; steps = 0; adds = 0; opens = 0; depth = 0; counts = no_items; finished = false; ended = None; forgets = b; quoted = false; measure = m }
+start_at m place b = record { at = place; steps = 0; adds = 0; opens = 0; depth = 0; counts = no_items; finished = false; number = 0; done = false; forgets = b; quoted = false; measure = m }

@@ -84,7 +84,8 @@ fn start_at(measure: Measure, at: usize, forgets: bool) -> Progress
         depth: 0,
         counts: Counts::default(),
         finished: false,
-        ended: None,
+        number: 0,
+        done: false,
         forgets,
         quoted: false,
         measure,
@@ -96,7 +97,8 @@ fn refused(measure: Measure, number: u32) -> Begun
     ensures { result ≡ record { start = refused_with measure number; records = 0 } }
 {
     let start = Progress {
-        ended: Some(number),
+        number,
+        done: true,
         ..start_at(measure, 0, false)
     };
     Begun { start, records: 0 }

@@ -1,6 +1,5 @@
 -- The session call: what its calls give together is what the definition says, and demand 3 follows.
 -- Assumes nothing.
-use Rattle.std.specs.Prelude.{is_some, unwrap_or}
 use Prim.Native.Nat.{ℕ, ◌*◌, ◌-◌, ◌≤◌, min}
 use mathlib.Core.Path.{◌≡◌, refl, sym, ap, subst, ◌∙◌}
 use mathlib.Core.Bool.{Bool, true, false, cond}
@@ -53,7 +52,7 @@ module _ (measure : Measure) (f : File) (words out : List ℕ) (p : Progress) (e
   run_result r w words' cs out' w₀ words₀ cs₀ out₀ ea ew ews ecs eo lws lo =
       (λ i. record { answer = ea i; slices = record { work = ew i; words = ews i; checkpoints = ecs i; output = eo i } })
       ∙ (λ i. record {
-        answer = record { number = unwrap_or p.ended 0; steps = p.steps; size = e.size_is i };
+        answer = record { number = p.number; steps = p.steps; size = e.size_is i };
         slices =
             record {
               work = zeroed w₀;
@@ -107,22 +106,22 @@ module _ (measure : Measure) (input w ws : List ℕ) (cs : List Checkpoint) (o :
 
   module _ (b : Begun) (w₁ : List ℕ) (same_work : length w₁ ≡ length w) (begins : Begins measure input w (length ws) (length cs) w₁ b the_asked) where
     -- What `run_steps` asks.
-    pub run_asks : Going input w₁ ws cs o b.start (is_some b.start.ended)
+    pub run_asks : Going input w₁ ws cs o b.start b.start.done
     run_asks = go the_asked begins
       where
-        go : (g : Got File) → Begins measure input w (length ws) (length cs) w₁ b g → Going input w₁ ws cs o b.start (is_some b.start.ended)
-        go (refused n) h = subst (λ (x : Begun). Going input w₁ ws cs o x.start (is_some x.start.ended)) (sym h.0) tt
+        go : (g : Got File) → Begins measure input w (length ws) (length cs) w₁ b g → Going input w₁ ws cs o b.start b.start.done
+        go (refused n) h = subst (λ (x : Begun). Going input w₁ ws cs o x.start x.start.done) (sym h.0) tt
         go (got f rest) h =
             subst (λ (x : Bool). Going input w₁ ws cs o b.start x) (sym h.goes)
             (subst (λ (m : Measure). Underway m input (the_file input) w₁ ws cs (take 65535 o) b.start) (sym h.measure_is)
             (h.ready ws cs (take 65535 o) h.many_words h.many_rows (omega (arith, length-take 65535 o))))
 
     module _ (p : Progress) (w₂ ws₂ : List ℕ) (cs₂ : List Checkpoint) (o₂ : List ℕ) (lw : length w₂ ≡ length w₁) (lws : length ws₂ ≡ length ws) (lcs : length cs₂ ≡ length cs)
-        (lo : length o₂ ≡ length o) (driven : Driven input w₁ ws cs o b.start w₂ ws₂ cs₂ o₂ p (is_some b.start.ended)) where
+        (lo : length o₂ ≡ length o) (driven : Driven input w₁ ws cs o b.start w₂ ws₂ cs₂ o₂ p b.start.done) where
       stays : (n : ℕ) → b ≡ record { start = refused_with measure n; records = 0 } → (w₂ ≡ w₁) × (ws₂ ≡ ws) × (cs₂ ≡ cs) × (o₂ ≡ o) × (p ≡ refused_with measure n)
-      stays n e = subst (λ (x : Begun). Driven input w₁ ws cs o x.start w₂ ws₂ cs₂ o₂ p (is_some x.start.ended)) e driven
+      stays n e = subst (λ (x : Begun). Driven input w₁ ws cs o x.start w₂ ws₂ cs₂ o₂ p x.start.done) e driven
 
-      ends : (is_some b.start.ended) ≡ false → b.start.measure ≡ measure → Ended measure (the_file input) ws₂ (take 65535 o₂) p
+      ends : b.start.done ≡ false → b.start.measure ≡ measure → Ended measure (the_file input) ws₂ (take 65535 o₂) p
       ends e m =
           subst (λ (x : Measure). Ended x (the_file input) ws₂ (take 65535 o₂) p) m
           (subst (λ (x : Bool). Driven input w₁ ws cs o b.start w₂ ws₂ cs₂ o₂ p x) e driven)
@@ -151,14 +150,14 @@ module _ (measure : Measure) (input w ws : List ℕ) (cs : List Checkpoint) (o :
 
       -- The answer and the slices are those of the definition.
       pub call_result : (r : SessionAnswer) (w₃ ws₃ : List ℕ) (cs₃ : List Checkpoint) (o₃ : List ℕ) → cs₃ ≡ replicate b.records blank ++ drop b.records cs₂
-          → (answer_of r ≡ answer_at p) × Cleared p w₂ ws₂ o₂ w₃ ws₃ o₃ (is_some b.start.ended)
+          → (answer_of r ≡ answer_at p) × Cleared p w₂ ws₂ o₂ w₃ ws₃ o₃ b.start.done
           → result_of r w₃ ws₃ cs₃ o₃ ≡ session blank version_1 (measure_of measure) input s
       call_result r w₃ ws₃ cs₃ o₃ ec e = go the_asked refl begins ∙ sym session_of
         where
           go : (g : Got File) → the_asked ≡ g → Begins measure input w (length ws) (length cs) w₁ b g → result_of r w₃ ws₃ cs₃ o₃ ≡ after_file blank version_1 (measure_of measure) the_asked s
           go (refused n) is h =
               let d = stays n h.0 in
-              let c : (w₃ ≡ w₂) × (ws₃ ≡ ws₂) × (o₃ ≡ o₂) = subst (λ (x : Begun). Cleared p w₂ ws₂ o₂ w₃ ws₃ o₃ (is_some x.start.ended)) h.0 e.1 in
+              let c : (w₃ ≡ w₂) × (ws₃ ≡ ws₂) × (o₃ ≡ o₂) = subst (λ (x : Begun). Cleared p w₂ ws₂ o₂ w₃ ws₃ o₃ x.start.done) h.0 e.1 in
               let a = e.0 ∙ ap answer_at d.4 in
               let rows = ec ∙ ap (λ (x : Begun). replicate x.records blank ++ drop x.records cs₂) h.0 ∙ d.2 in
               let work = c.0 ∙ d.0 ∙ h.1 in

@@ -26,9 +26,12 @@ pub fn run_session(
     ensures reads_back { ReadsBack (measure_of measure) file.now
         (result_of result work.new words.new checkpoints.new output.new) }
 {
-    let begun = session_begin::begin(file, work, words.len(), checkpoints.len(), measure);
+    let many = words.len();
+    let records = checkpoints.len();
+    let begun = session_begin::begin(file, work, many, records, measure);
     let start = begun.start;
+    let used = begun.records;
     let p = run_steps::run_steps(checkpoints, work, words, output, file, start);
-    checkpoints::clear_first(checkpoints, begun.records);
-    session_answer::finish(work, words, output, start.ended.is_some(), p)
+    checkpoints::clear_first(checkpoints, used);
+    session_answer::finish(work, words, output, start.done, p)
 }

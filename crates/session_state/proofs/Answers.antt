@@ -1,6 +1,5 @@
 -- What a step's answer means: the run goes on, or it is over.
 -- Assumes nothing.
-use Rattle.std.specs.Prelude.{is_some}
 use Prim.Native.Nat.{ℕ, ◌*◌}
 use mathlib.Core.Path.{◌≡◌, sym, ap, subst, ◌∙◌}
 use mathlib.Core.Bool.{Bool, true, false}
@@ -21,16 +20,16 @@ use Rattle.session_state.specs.Steps.{Onward}
 use Rattle.session_state.proofs.Runs.{words_ended}
 
 module _ (m : Measure) (input : List ℕ) (f : File) (w words : List ℕ) (rows : List Checkpoint) (out : List ℕ) (t : Progress) where
-  pub stands_on : (is_some t.ended) ≡ false → Underway m input f w words rows out t → Stands m input f w words rows out t (is_some t.ended)
+  pub stands_on : t.done ≡ false → Underway m input f w words rows out t → Stands m input f w words rows out t t.done
   stands_on d u = subst (λ (b : Bool). Stands m input f w words rows out t b) (sym d) u
 
-  pub stands_off : (is_some t.ended) ≡ true → Ended m f words out t → Stands m input f w words rows out t (is_some t.ended)
+  pub stands_off : t.done ≡ true → Ended m f words out t → Stands m input f w words rows out t t.done
   stands_off d u = subst (λ (b : Bool). Stands m input f w words rows out t b) (sym d) u
 
-  pub under : (is_some t.ended) ≡ false → Stands m input f w words rows out t (is_some t.ended) → Underway m input f w words rows out t
+  pub under : t.done ≡ false → Stands m input f w words rows out t t.done → Underway m input f w words rows out t
   under d s = subst (λ (b : Bool). Stands m input f w words rows out t b) d s
 
-  pub ended : (is_some t.ended) ≡ true → Stands m input f w words rows out t (is_some t.ended) → Ended m f words out t
+  pub ended : t.done ≡ true → Stands m input f w words rows out t t.done → Ended m f words out t
   ended d s = subst (λ (b : Bool). Stands m input f w words rows out t b) d s
 
 module _ (input : List ℕ) (f : File) (w words out : List ℕ) (p : Progress) (c : Checkpoint) (none_open : p.quoted ≡ false) where

@@ -1,6 +1,5 @@
 -- What stays of a state, of the states before the adds, and of the run, where other words change.
 -- Assumes nothing.
-use Rattle.std.specs.Prelude.{is_some}
 use Prim.Native.Nat.{ℕ, ◌+◌, ◌*◌, ◌≤◌, ◌<◌}
 use mathlib.Core.Path.{◌≡◌, sym, ap, subst, ◌∙◌}
 use mathlib.Core.Logic.{◌⊎◌, inl, inr}
@@ -194,7 +193,7 @@ module _ (out out' : List ℕ) (long : length out' ≡ length out) where
 pub go_on : (m : Measure) (input : List ℕ) (f : File) (w words words' : List ℕ) (rows : List Checkpoint) (out : List ℕ) (q : Progress) (next : ℕ) (rest : List Step)
     (past : List Session) (t : Session) (st : State) → At f w out q.opens q.depth q.counts q.finished t → Stocked input f w (q.steps + 1)
     → History f w out rows q.forgets (q.steps + 1) q.counts.size q.adds past t.cache
-    → (q.forgets ≡ false → forgets rest ≡ false) → q.adds ≤ 16 → (is_some q.ended) ≡ false → StepsAt input next rest
+    → (q.forgets ≡ false → forgets rest ≡ false) → q.adds ≤ 16 → q.done ≡ false → StepsAt input next rest
     → All (StepNamed (length f.atoms) (length f.pairs)) rest → q.steps + 1 + length rest ≤ 1024 → 16 ≤ length rows → 3072 ≤ length words
     → (q.quoted ≡ true → q.forgets ≡ true) → Shows m q.quoted f (length out) st past t
     → whole_run m f (length out) ≡ after_words q.steps (take (3 * q.steps) words) (with_words (words_of t) (run_steps (measure_of m) (length out) f rest st))

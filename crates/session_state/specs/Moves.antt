@@ -1,5 +1,5 @@
 -- Where a session stands after each move: a refusal, a finished step, an add, a quote, an undo.
-use Rattle.std.specs.Prelude.{ℕ, ◌+◌, Bool, true, false, Result, Ok, Err, Some, None, unwrap_or}
+use Rattle.std.specs.Prelude.{ℕ, ◌+◌, Bool, true, false, Result, Ok, Err}
 use Rattle.session_state.specs.declared.checkpoints.Checkpoint.{Checkpoint}
 use Rattle.write_counts.specs.declared.Counts.{Counts}
 use Rattle.write_place.specs.declared.Place.{Place}
@@ -21,7 +21,8 @@ refused_at p n =
       depth = p.depth;
       counts = p.counts;
       finished = p.finished;
-      ended = Some n;
+      number = n;
+      done = true;
       forgets = p.forgets;
       quoted = p.quoted;
       measure = p.measure;
@@ -38,7 +39,8 @@ noted_at p next =
       depth = p.depth;
       counts = p.counts;
       finished = p.finished;
-      ended = p.ended;
+      number = p.number;
+      done = p.done;
       forgets = p.forgets;
       quoted = p.quoted;
       measure = p.measure;
@@ -55,7 +57,8 @@ moved_to p q n b =
       depth = q.depth;
       counts = q.counts;
       finished = b;
-      ended = None;
+      number = 0;
+      done = false;
       forgets = p.forgets;
       quoted = false;
       measure = p.measure;
@@ -72,7 +75,8 @@ with_quote p b =
       depth = p.depth;
       counts = p.counts;
       finished = p.finished;
-      ended = p.ended;
+      number = p.number;
+      done = p.done;
       forgets = p.forgets;
       quoted = b;
       measure = p.measure;
@@ -87,7 +91,7 @@ after_outcome p (Err r) = refused_at (moved_to p r.place p.adds false) (question
 -- The progress p before an add that is refused, and q after it: a quote of it leaves the one before.
 abbrev pub refusal_of : (quotes : Bool) → (p q : Progress) → Progress
 refusal_of false p q = q
-refusal_of true p q = refused_at p (unwrap_or q.ended 0)
+refusal_of true p q = refused_at p q.number
 
 -- What was counted, as a record has it.
 abbrev pub counts_in : Checkpoint → Counts

@@ -1,5 +1,5 @@
 -- What the slices hold between two steps of a session, and what they mean: a session of the definitions, and the states before its adds.
-use Rattle.std.specs.Prelude.{ℕ, ◌+◌, ◌-◌, ◌*◌, ◌≤◌, ◌<◌, ◌≡◌, Bool, true, false, cond, List, [], ◌∷◌, ◌++◌, ltb, length, get_or, take, is_some, unwrap_or}
+use Rattle.std.specs.Prelude.{ℕ, ◌+◌, ◌-◌, ◌*◌, ◌≤◌, ◌<◌, ◌≡◌, Bool, true, false, cond, List, [], ◌∷◌, ◌++◌, ltb, length, get_or, take}
 use Rattle.std.proofs.Math.Option.{Option, none, some}
 use Rattle.words.specs.Words.{at}
 use Rattle.words.specs.Lists.{All}
@@ -120,7 +120,7 @@ pub record Underway (m : Measure) (input : List ℕ) (f : File) (w words : List 
   -- The flag is set before the first step.
   pub known : p.forgets ≡ false → forgets left ≡ false
   pub few_adds : p.adds ≤ 16
-  pub goes : (is_some p.ended) ≡ false
+  pub goes : p.done ≡ false
   pub steps_there : StepsAt input p.at left
   pub steps_named : All (StepNamed (length f.atoms) (length f.pairs)) left
   pub few_steps : p.steps + length left ≤ 1024
@@ -141,7 +141,7 @@ pub record Ended (m : Measure) (f : File) (words out : List ℕ) (p : Progress) 
   pub short : length out ≤ 65535
   pub few_steps : p.steps ≤ 1024
   pub many_words : 3072 ≤ length words
-  pub same : whole_run m f (length out) ≡ record { words = take (3 * p.steps) words; steps = p.steps; number = unwrap_or p.ended 0; last = session }
+  pub same : whole_run m f (length out) ≡ record { words = take (3 * p.steps) words; steps = p.steps; number = p.number; last = session }
 
 abbrev pub Stands : (m : Measure) (input : List ℕ) (f : File) (w words : List ℕ) (rows : List Checkpoint) (out : List ℕ) (p : Progress) → Bool → Type 0
 Stands m input f w words rows out p true = Ended m f words out p

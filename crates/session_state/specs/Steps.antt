@@ -1,5 +1,5 @@
 -- What a step takes and leaves, in the terms of the states.
-use Rattle.std.specs.Prelude.{ℕ, ◌+◌, ◌*◌, ◌<◌, ◌≡◌, Bool, true, false, not, List, get_or, set, Option, Some, is_some}
+use Rattle.std.specs.Prelude.{ℕ, ◌+◌, ◌*◌, ◌<◌, ◌≡◌, Bool, true, false, not, List, get_or, set, Option, Some}
 use Rattle.session_state.specs.Records.{blank}
 use Rattle.session_state.specs.declared.checkpoints.Checkpoint.{Checkpoint}
 use Rattle.path.specs.declared.Measure.{Measure}
@@ -31,10 +31,10 @@ pub record Ready (input : List ℕ) (f : File) (w words out : List ℕ) (p : Pro
 
 -- One step more is finished, or a quote is dropped, or the run is over.
 abbrev pub Nearer : Progress → Progress → Type 0
-Nearer p q = 2 * p.steps + bit (not p.quoted) < 2 * (q.steps + bit (is_some q.ended)) + bit (not q.quoted)
+Nearer p q = 2 * p.steps + bit (not p.quoted) < 2 * (q.steps + bit q.done) + bit (not q.quoted)
 
 -- The step is done, or refused, whatever the other records are, by the measure that the run has.
 abbrev pub Onward : (input : List ℕ) (f : File) (w words out : List ℕ) (p : Progress) (c : Checkpoint) (w' words' out' : List ℕ) (a : StepAnswer) → Type 0
 Onward input f w words out p c w' words' out' a =
     (m : Measure) (rows : List Checkpoint) (u : Underway m input f w words rows out p) → get_or rows (slot_for p.quoted u.left p.adds) blank ≡ c
-    → Stands m input f w' words' (set rows (slot_for p.quoted u.left p.adds) a.saved) out' a.state (is_some a.state.ended) × Nearer p a.state
+    → Stands m input f w' words' (set rows (slot_for p.quoted u.left p.adds) a.saved) out' a.state a.state.done × Nearer p a.state

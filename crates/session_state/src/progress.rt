@@ -11,10 +11,10 @@ use write_counts::Counts;
 use write_place::{Outcome, Place, Refused};
 
 // Where a session stands: the next step's place in the file, the finished steps, the adds on the present history, the open pairs, the depth of the stack,
-// what is counted of the items written, and whether the session is finished. `ended` is the number with which the run is over: 0 at the end of the file, else
-// that of the question that gets no. It is a number, as in the definitions' run, since questions 1 to 8, asked before any step, end a run too. `forgets` says
-// whether a step of the file is a forget or a quote: then each add saves the tree cache too. While a quote is open (`quoted`) its add stands as the last one
-// of the history, until it is taken or dropped. `measure` is that of the call, and stays.
+// what is counted of the items written, and whether the session is finished. The run is done at the end of the file, with number 0, or where a question
+// gets no, with the question's number, as in the definitions' run: questions 1 to 8, asked before any step, end a run too. `forgets` says whether a step of
+// the file is a forget or a quote: then each add saves the tree cache too. While a quote is open (`quoted`) its add stands as the last one of the history,
+// until it is taken or dropped. `measure` is that of the call, and stays.
 #[derive(Clone, Copy, Debug, PartialEq, Eq)]
 pub struct Progress {
     pub at: usize,
@@ -24,7 +24,8 @@ pub struct Progress {
     pub depth: usize,
     pub counts: Counts,
     pub finished: bool,
-    pub ended: Option<u32>,
+    pub number: u32,
+    pub done: bool,
     pub forgets: bool,
     pub quoted: bool,
     pub measure: Measure,
@@ -42,7 +43,8 @@ fn ended(p: Progress, end: Result<(), StepError>) -> Progress
     ensures { result ≡ refused_at p (number_in end) }
 {
     Progress {
-        ended: Some(step_error::number(end)),
+        number: step_error::number(end),
+        done: true,
         ..p
     }
 }
@@ -57,7 +59,8 @@ fn moved(p: Progress, q: Place, adds: usize, finished: bool) -> Progress
         depth: q.depth,
         counts: q.counts,
         finished,
-        ended: None,
+        number: 0,
+        done: false,
         quoted: false,
         ..p
     }
@@ -88,7 +91,8 @@ pub fn refusal_of(p: Progress, q: Progress, quotes: bool) -> Progress
 {
     if quotes {
         Progress {
-            ended: Some(q.ended.unwrap_or(0)),
+            number: q.number,
+            done: true,
             ..p
         }
     } else {

@@ -43,7 +43,7 @@ use Rattle.write_place.specs.declared.Place.{Place}
 use Rattle.write_place.specs.declared.Outcome.{Outcome}
 use Rattle.write_place.specs.declared.Refused.{Refused}
 use Rattle.write_place.specs.Numbers.{question_of}
-use Rattle.std.specs.Prelude.{Result, Ok, Err, is_some}
+use Rattle.std.specs.Prelude.{Result, Ok, Err}
 use Rattle.write_place.specs.declared.Outcome.TheVariants as outcome
 use Rattle.session_state.specs.declared.progress.Progress.{Progress}
 use Rattle.path.specs.Bytes.{bit}
@@ -373,7 +373,7 @@ module _ {measure : Measure} {input : List ℕ} {f : File} {w words : List ℕ} 
       ws u.measure_is
 
   on : (o : Result Outcome Refused) → Fine w' out' (ended o) → WritesTo o → p.counts.size ≤ (place_of (ended o)).counts.size → add_handle (measure_of measure) (length out') f h s ≡ outcome_of o
-      → (is_some (after_outcome p o).ended) ≡ false → (words' : List ℕ)
+      → (after_outcome p o).done ≡ false → (words' : List ℕ)
       → words' ≡ noted_words words (after_outcome p o)
       → Underway measure input f w' words' rows' out' (noted_at (with_quote (after_outcome p o) b) next)
   on (Ok (outcome.Done pl)) ends writes longer is d words' ws =
@@ -382,7 +382,7 @@ module _ {measure : Measure} {input : List ℕ} {f : File} {w words : List ℕ} 
       going pl false (some (todo_of f w' pl.opens)) (record { running = ends; writes = writes; waiting = refl }) longer is words' ws
   on (Err r) ends writes longer is d words' ws = clash cc
 
-  off : (o : Result Outcome Refused) → WritesTo o → add_handle (measure_of measure) (length out') f h s ≡ outcome_of o → (is_some (after_outcome p o).ended) ≡ true
+  off : (o : Result Outcome Refused) → WritesTo o → add_handle (measure_of measure) (length out') f h s ≡ outcome_of o → (after_outcome p o).done ≡ true
       → Ended measure f words out' (refusal_of b p (after_outcome p o))
   off (Ok (outcome.Done pl)) writes is d = clash cc
   off (Ok (outcome.Stopped pl)) writes is d = clash cc
@@ -417,17 +417,17 @@ module _ {measure : Measure} {input : List ℕ} {f : File} {w words : List ℕ} 
           }
 
   -- An add that is not refused: its words are noted, and the run goes on.
-  pub added_on : {words' : List ℕ} {t : Progress} → (is_some q.ended) ≡ false → words' ≡ noted_words words q → t ≡ noted_at (with_quote q b) next
+  pub added_on : {words' : List ℕ} {t : Progress} → q.done ≡ false → words' ≡ noted_words words q → t ≡ noted_at (with_quote q b) next
       → Underway measure input f w' words' (set rows (slot_for p.quoted u.left p.adds) (record_of w p)) out' t
   added_on {words'} {t} d ws is =
       subst (λ (k : ℕ). Underway measure input f w' words' (set rows k (record_of w p)) out' t) (sym slot)
       (subst (λ (x : Progress). Underway measure input f w' words' rows' out' x) (sym is)
-      (subst (λ (x : Progress). (is_some x.ended) ≡ false → words' ≡ noted_words words x
+      (subst (λ (x : Progress). x.done ≡ false → words' ≡ noted_words words x
       → Underway measure input f w' words' rows' out' (noted_at (with_quote x b) next)) (sym a.is)
       (λ x y. on a.outcome a.resumed.fine meant.writes a.resumed.grows adds x words' y) d ws))
 
   -- A refused add ends the run, and keeps the whole items written; a refused quote keeps what was there before.
-  pub added_off : {t : Progress} → (is_some q.ended) ≡ true → t ≡ refusal_of b p q → Ended measure f words out' t
+  pub added_off : {t : Progress} → q.done ≡ true → t ≡ refusal_of b p q → Ended measure f words out' t
   added_off {t} d is =
       subst (λ (x : Progress). Ended measure f words out' x) (sym is)
-      (subst (λ (x : Progress). (is_some x.ended) ≡ true → Ended measure f words out' (refusal_of b p x)) (sym a.is) (λ x. off a.outcome meant.writes adds x) d)
+      (subst (λ (x : Progress). x.done ≡ true → Ended measure f words out' (refusal_of b p x)) (sym a.is) (λ x. off a.outcome meant.writes adds x) d)

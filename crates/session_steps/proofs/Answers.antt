@@ -15,7 +15,7 @@ use Rattle.spec_session.specs.File.{File, Step}
 use Rattle.spec_session.specs.Places.{StepsAt}
 use Rattle.file_parts.specs.Loaded.{FirstStep}
 use Rattle.file_parts.specs.declared.session_file.Step.TheVariants as code
-use Rattle.std.specs.Prelude.{Some, None, Result, Ok, Err, is_some}
+use Rattle.std.specs.Prelude.{Some, None, Result, Ok, Err}
 use Rattle.spec_session.specs.Steps.{run_steps}
 use Rattle.write_place.specs.State.{todo_of}
 use Rattle.write_place.specs.declared.Outcome.{Outcome}
@@ -123,22 +123,22 @@ module _ {input : List ℕ} {f : File} {w words out : List ℕ} {p : Progress} {
         same_steps = ap (λ (x : Progress). x.steps) ad.is ∙ steps_same ad.outcome
 
         -- A refused add.
-        pub adds_off : (saved : Checkpoint) {t : Progress} → (is_some q.ended) ≡ true → t ≡ refusal_of quotes p q
+        pub adds_off : (saved : Checkpoint) {t : Progress} → q.done ≡ true → t ≡ refusal_of quotes p q
             → Onward input f w words out p c w' words out' (record { state = t; saved = saved })
         adds_off saved {t} d is measure rows u r_is =
             let e = comes u.left u.steps_there in
             let r = refused_so quotes in (
-              stands_off measure input f w' words (set rows (slot_for p.quoted u.left p.adds) saved) out' t (ap (λ (x : Progress). (is_some x.ended)) is ∙ r.0)
+              stands_off measure input f w' words (set rows (slot_for p.quoted u.left p.adds) saved) out' t (ap (λ (x : Progress). x.done) is ∙ r.0)
                   (added_off quotes next u none_open e.1 e.2 free.0 free.1 ad d is),
-              omega (arith, ap (λ (x : Progress). x.steps) is, r.1, ap (λ (x : Progress). bit (is_some x.ended)) is, ap bit r.0, bit_most (not p.quoted)),
+              omega (arith, ap (λ (x : Progress). x.steps) is, r.1, ap (λ (x : Progress). bit x.done) is, ap bit r.0, bit_most (not p.quoted)),
             )
           where
-            refused_so : (b : Bool) → ((is_some (refusal_of b p q).ended) ≡ true) × ((refusal_of b p q).steps ≡ p.steps)
+            refused_so : (b : Bool) → ((refusal_of b p q).done ≡ true) × ((refusal_of b p q).steps ≡ p.steps)
             refused_so false = (d, same_steps)
             refused_so true = (refl, refl)
 
         -- An add that is not refused.
-        pub adds_on : {words' : List ℕ} {saved : Checkpoint} {t : Progress} → saved ≡ record_of w p → (is_some q.ended) ≡ false
+        pub adds_on : {words' : List ℕ} {saved : Checkpoint} {t : Progress} → saved ≡ record_of w p → q.done ≡ false
             → {k : Progress} → k ≡ with_quote q quotes → words' ≡ noted_words words k → t ≡ noted_at k next
             → Onward input f w words out p c w' words' out' (record { state = t; saved = saved })
         adds_on {words'} {saved} {t} sv d {k} kept ws is measure rows u r_is =
@@ -147,7 +147,7 @@ module _ {input : List ℕ} {f : File} {w words out : List ℕ} {p : Progress} {
             let ws' : words' ≡ noted_words words q =
             ws ∙ ap (λ (x : Progress). noted_words words x) kept in
             let s : t.steps ≡ q.steps + 1 = ap (λ (x : Progress). x.steps) is' in (
-              stands_on measure input f w' words' (set rows (slot_for p.quoted u.left p.adds) saved) out' t (ap (λ (x : Progress). (is_some x.ended)) is' ∙ d)
+              stands_on measure input f w' words' (set rows (slot_for p.quoted u.left p.adds) saved) out' t (ap (λ (x : Progress). x.done) is' ∙ d)
                   (subst (λ (x : Checkpoint). Underway measure input f w' words' (set rows (slot_for p.quoted u.left p.adds) x) out' t) (sym sv)
                   (added_on quotes next u none_open e.1 e.2 free.0 free.1 ad d ws' is')),
               omega (arith, same_steps, bit_most (not p.quoted)),

@@ -69,7 +69,7 @@ fn add_step(
     }
     let saved = step_records::record_of(work, p);
     let q = add(file, work, output, p, node);
-    if q.ended.is_some() {
+    if q.done {
         let state = progress::refusal_of(p, q, quotes);
         return StepAnswer { state, saved };
     }

@@ -1,5 +1,4 @@
 // The steps of a session, one after the other, with the checkpoint records in a lent slice of structs.
-ghost use Rattle.std.specs.Prelude.{is_some};
 ghost use Rattle.session_steps.specs.Driven.{Going, Driven};
 
 use session_state::Checkpoint;
@@ -14,14 +13,13 @@ pub fn run_steps(
     file: &[u8],
     start: Progress,
 ) -> Progress
-    requires { Going file.now work.old words.old checkpoints.old output.old start
-        (is_some start.ended) }
+    requires { Going file.now work.old words.old checkpoints.old output.old start start.done }
     ensures { Driven file.now work.old words.old checkpoints.old
         output.old start work.new words.new checkpoints.new
-        output.new result (is_some start.ended) }
+        output.new result start.done }
 {
     let mut p = start;
-    while p.ended.is_none() {
+    while !p.done {
         let k = session_state::slot_of(file, p);
         let c = checkpoints[k];
         let a = crate::bounded_step(work, words, output, file, p, c);

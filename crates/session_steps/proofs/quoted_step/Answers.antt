@@ -27,7 +27,7 @@ use Rattle.spec_session.proofs.StepLaws.{run_unseen}
 use Rattle.spec_session.specs.Steps.{words_of, Run, with_words, run_steps}
 use Rattle.file_parts.specs.Loaded.{forgets}
 use Rattle.file_parts.specs.declared.session_file.Step.TheVariants as code
-use Rattle.std.specs.Prelude.{Some, None, is_some}
+use Rattle.std.specs.Prelude.{Some, None}
 use Rattle.file_parts.specs.declared.session_file.Step as code_step
 use Rattle.file_parts.specs.declared.session_file.NextStep.{NextStep}
 use Rattle.file_parts.specs.Loaded.{FirstStep, step_of}
@@ -166,11 +166,10 @@ no_step input ss h = rw h tt
 module _ {input : List ℕ} {f : File} {w words out : List ℕ} {p : Progress} {c : Checkpoint} (ready : Ready input f w words out p c)
     (is_open : p.quoted ≡ true) where
   -- The run goes on, with the record as it was.
-  goes_on : (measure : Measure) {w' words' : List ℕ} {t : Progress} (a : StepAnswer) → a ≡ record { state = t; saved = c }
-      → (rows : List Checkpoint) (k : ℕ) → get_or rows k blank ≡ c → (is_some t.ended) ≡ false
-      → Underway measure input f w' words' rows out t → Stands measure input f w' words' (set rows k a.saved) out a.state (is_some a.state.ended)
+  goes_on : (measure : Measure) {w' words' : List ℕ} {t : Progress} (a : StepAnswer) → a ≡ record { state = t; saved = c } → (rows : List Checkpoint) (k : ℕ) → get_or rows k blank ≡ c → t.done ≡ false
+      → Underway measure input f w' words' rows out t → Stands measure input f w' words' (set rows k a.saved) out a.state a.state.done
   goes_on measure {w'} {words'} {t} a is rows k r_is d u =
-      subst (λ (x : StepAnswer). Stands measure input f w' words' (set rows k x.saved) out x.state (is_some x.state.ended)) (sym is)
+      subst (λ (x : StepAnswer). Stands measure input f w' words' (set rows k x.saved) out x.state x.state.done) (sym is)
       (stands_on measure input f w' words' (set rows k c) out t d
       (subst (λ (y : List Checkpoint). Underway measure input f w' words' y out t) (sym (ap (set rows k) (sym r_is) ∙ set-get_or rows k blank)) u))
 

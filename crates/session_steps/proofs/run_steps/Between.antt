@@ -1,6 +1,5 @@
 -- The loop over the steps: what holds between two steps, what a step asks and leaves, and the end.
 -- Assumes nothing.
-use Rattle.std.specs.Prelude.{is_some}
 use Prim.Native.Nat.{ℕ, ◌+◌, ◌-◌, ◌*◌, ◌<◌}
 use mathlib.Core.Path.{◌≡◌, refl, sym, ap, subst, ◌∙◌}
 use mathlib.Core.Bool.{Bool, true, false, not}
@@ -31,7 +30,7 @@ pub record Values : Type 0 where
 
 -- How far the run is from its end.
 abbrev pub ahead : Progress → ℕ
-ahead p = 2052 - (2 * (p.steps + bit (is_some p.ended)) + bit (not p.quoted))
+ahead p = 2052 - (2 * (p.steps + bit p.done) + bit (not p.quoted))
 
 -- Record k is the one that the step at a place takes.
 abbrev pub Slot : (input : List ℕ) (p : Progress) (k : ℕ) → Type 0
@@ -58,32 +57,32 @@ module _ (input : List ℕ) (first : Values) where
   -- A run that was over is as it was. Any other is under way, or it has ended.
   abbrev Since : Values → Bool → Type 0
   Since m true = m ≡ first
-  Since m false = Stands first.progress.measure input (the_file input) m.work m.words m.rows (take 65535 m.out) m.progress (is_some m.progress.ended)
+  Since m false = Stands first.progress.measure input (the_file input) m.work m.words m.rows (take 65535 m.out) m.progress m.progress.done
 
   abbrev pub Between : Values → Type 0
-  Between m = Since m (is_some first.progress.ended)
+  Between m = Since m first.progress.done
 
-  pub at_start : Going input first.work first.words first.rows first.out first.progress (is_some first.progress.ended) → Between first
-  at_start g = go (is_some first.progress.ended) refl g
+  pub at_start : Going input first.work first.words first.rows first.out first.progress first.progress.done → Between first
+  at_start g = go first.progress.done refl g
     where
-      go : (b : Bool) → (is_some first.progress.ended) ≡ b → Going input first.work first.words first.rows first.out first.progress b → Since first b
+      go : (b : Bool) → first.progress.done ≡ b → Going input first.work first.words first.rows first.out first.progress b → Since first b
       go true e h = refl
       go false e h = stands_on first.progress.measure input (the_file input) first.work first.words first.rows (take 65535 first.out) first.progress e h
 
   -- A run that goes on was not over.
-  was_not_over : (m : Values) → Between m → (is_some m.progress.ended) ≡ false → (is_some first.progress.ended) ≡ false
-  was_not_over m s e = go (is_some first.progress.ended) refl s
+  was_not_over : (m : Values) → Between m → m.progress.done ≡ false → first.progress.done ≡ false
+  was_not_over m s e = go first.progress.done refl s
     where
-      go : (b : Bool) → (is_some first.progress.ended) ≡ b → Since m b → b ≡ false
-      go true d h = sym d ∙ sym (ap (λ (x : Values). (is_some x.progress.ended)) h) ∙ e
+      go : (b : Bool) → first.progress.done ≡ b → Since m b → b ≡ false
+      go true d h = sym d ∙ sym (ap (λ (x : Values). x.progress.done) h) ∙ e
       go false d h = refl
 
-  under_way : (m : Values) → Between m → (is_some m.progress.ended) ≡ false
+  under_way : (m : Values) → Between m → m.progress.done ≡ false
       → Underway first.progress.measure input (the_file input) m.work m.words m.rows (take 65535 m.out) m.progress
   under_way m s e =
       under first.progress.measure input (the_file input) m.work m.words m.rows (take 65535 m.out) m.progress e (subst (λ (b : Bool). Since m b) (was_not_over m s e) s)
 
-  module _ (m : Values) (s : Between m) (e : (is_some m.progress.ended) ≡ false) (k : ℕ) (slot : Slot input m.progress k) where
+  module _ (m : Values) (s : Between m) (e : m.progress.done ≡ false) (k : ℕ) (slot : Slot input m.progress k) where
     abbrev u : Underway first.progress.measure input (the_file input) m.work m.words m.rows (take 65535 m.out) m.progress
     u = under_way m s e
 
@@ -103,16 +102,16 @@ module _ (input : List ℕ) (first : Values) where
       pub goes_on : Between (after_step m k a w words out)
       goes_on =
           subst (λ (b : Bool). Since (after_step m k a w words out) b) (sym (was_not_over m s e))
-          (subst (λ (j : ℕ). Stands first.progress.measure input (the_file input) w words (set m.rows j a.saved) (take 65535 out) a.state (is_some a.state.ended)) (sym is_slot)
+          (subst (λ (j : ℕ). Stands first.progress.measure input (the_file input) w words (set m.rows j a.saved) (take 65535 out) a.state a.state.done) (sym is_slot)
           (st first.progress.measure m.rows u record_is).0)
 
       pub falls : ahead a.state < ahead m.progress
       falls = omega (arith, (st first.progress.measure m.rows u record_is).1, u.few_steps, ap bit e, bit_most (not m.progress.quoted))
 
   -- The run is over.
-  pub at_end : (m : Values) → Between m → (is_some m.progress.ended) ≡ true
-      → Driven input first.work first.words first.rows first.out first.progress m.work m.words m.rows m.out m.progress (is_some first.progress.ended)
-  at_end m s e = go (is_some first.progress.ended) s
+  pub at_end : (m : Values) → Between m → m.progress.done ≡ true
+      → Driven input first.work first.words first.rows first.out first.progress m.work m.words m.rows m.out m.progress first.progress.done
+  at_end m s e = go first.progress.done s
     where
       go : (b : Bool) → Since m b
           → Driven input first.work first.words first.rows first.out first.progress m.work m.words m.rows m.out m.progress b

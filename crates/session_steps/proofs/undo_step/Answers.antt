@@ -1,6 +1,5 @@
 -- What the answer of an undo means: the run goes on, or question 11 ends it. What each call of it asks.
 -- Assumes nothing.
-use Rattle.std.specs.Prelude.{is_some}
 use Prim.Native.Nat.{ℕ, suc, ◌+◌, ◌≤◌, ◌<◌}
 use mathlib.Core.Path.{◌≡◌, sym, ap, subst, ◌∙◌}
 use mathlib.Core.Bool.{Bool, true, false, not}
@@ -66,7 +65,7 @@ module _ {input : List ℕ} {f : File} {w words out : List ℕ} {p : Progress} {
     undoes_on {w'} long un {words'} {q} {t} qi ws is measure rows u r_is =
         let e = comes u.left u.steps_there in
         let s : t.steps ≡ p.steps + 1 = ap (λ (x : Progress). x.steps) is ∙ ap (λ (x : Progress). x.steps + 1) qi in (
-          stands_on measure input f w' words' (set rows (slot_for p.quoted u.left p.adds) c) out t (ap (λ (x : Progress). (is_some x.ended)) is ∙ ap (λ (x : Progress). (is_some x.ended)) qi)
+          stands_on measure input f w' words' (set rows (slot_for p.quoted u.left p.adds) c) out t (ap (λ (x : Progress). x.done) is ∙ ap (λ (x : Progress). x.done) qi)
               (undone_on b u none_open e.1 few r_is long un next e.2 qi ws is),
           omega (arith, ap bit (ap not none_open), ap (λ (x : Progress). bit (not x.quoted)) is, ap (λ (x : Progress). bit (not x.quoted)) qi),
         )

@@ -1,8 +1,6 @@
 -- `session_call::run_session::run_session` meets its contract: what each callee leaves is what the next one asks, and the result is the definition's.
 -- Assumes nothing.
-use mathlib.Core.Path.{◌≡◌, subst}
-use mathlib.Core.Bool.{Bool}
-use Rattle.session_answer.specs.Answer.{Cleared}
+use mathlib.Core.Path.{◌≡◌}
 use Rattle.path.specs.Measure.{measure_of}
 use Rattle.session_state.specs.Records.{blank}
 use Rattle.spec_session.specs.File.{version_1}
@@ -44,8 +42,7 @@ returns c =
     ≡ session blank version_1 (measure_of a.measure) a.file.now (slices a.work.now a.words.now a.checkpoints.now a.output.now) =
     call_result a.measure a.file.now a.work.now a.words.now a.checkpoints.now a.output.now b.result b.new.work b.auto.work b.ensures.1
     d.result d.new.work d.new.words d.new.checkpoints d.new.output d.auto.work d.auto.words d.auto.checkpoints d.auto.output d.ensures
-    f.result f.new.work f.new.words e.new.checkpoints f.new.output e.ensures
-    (f.ensures.0, subst (λ (x : Bool). Cleared d.result d.new.work d.new.words d.new.output f.new.work f.new.words f.new.output x) c.is_some.ensures f.ensures.1) in
+    f.result f.new.work f.new.words e.new.checkpoints f.new.output e.ensures f.ensures in
     record {
       output_after = same;
       reads_back = reads_back a.measure a.file.now b.ensures.0 (slices a.work.now a.words.now a.checkpoints.now a.output.now) _ same;
